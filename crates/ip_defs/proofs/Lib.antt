@@ -1,0 +1,4 @@
+pub mod SumLaws
+pub mod DualityLaws
+pub mod FirstLaws
+pub mod BreachLaws

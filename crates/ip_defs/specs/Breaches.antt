@@ -1,0 +1,35 @@
+-- The first side that a point breaks: columns before rows, each by number.
+use Rattle.std.specs.Prelude.{◌≡◌, ℕ, if◌then◌else◌, ◌||◌, List, length, slice_get, ℤ, Bool, false, Option, Some, None}
+use Rattle.std.specs.Int.Signed.{lt_z}
+use Rattle.ip_defs.specs.Lists.{first, or_else}
+use Rattle.ip_defs.specs.Program.{IsFeasible, at, box_of, low_at, high_at, row_sum}
+use Rattle.ip_defs.specs.declared.programs.Row.{Row}
+use Rattle.ip_defs.specs.declared.programs.Parts.{Parts}
+use Rattle.ip_defs.specs.declared.programs.Breach.{Breach}
+use Rattle.ip_defs.specs.declared.programs.Breach.TheVariants as Broken
+
+-- the coordinate of a column is outside its sides
+abbrev pub column_breach : List (ℤ × ℤ) → List ℤ → ℕ → Option Breach
+column_breach b x j = if lt_z (at x j) (low_at b j) || lt_z (high_at b j) (at x j) then Some (Broken.Column j) else None
+
+-- a value is below or above a side, where there is one
+abbrev pub is_below_side : ℤ → Option ℤ → Bool
+is_below_side v None = false
+is_below_side v (Some side) = lt_z v side
+
+abbrev pub is_above_side : ℤ → Option ℤ → Bool
+is_above_side v None = false
+is_above_side v (Some side) = lt_z side v
+
+-- the value of a row is outside its sides
+abbrev pub row_breach : List ℤ → ℕ → Option Row → Option Breach
+row_breach x i None = None
+row_breach x i (Some r) = if is_below_side (row_sum r.coefs x) r.low || is_above_side (row_sum r.coefs x) r.high then Some (Broken.Row i) else None
+
+-- the first broken column, else the first broken row
+abbrev pub first_breach : Parts → List ℤ → Option Breach
+first_breach m x = or_else (first (column_breach (box_of m) x) (length m.columns)) (first (λ i. row_breach x i (slice_get m.rows i)) (length m.rows))
+
+-- there is no breach exactly where the point is feasible
+abbrev pub BreachesAreExact : Type 0
+BreachesAreExact = (m : Parts) (x : List ℤ) → length x ≡ length m.columns → (first_breach m x ≡ None → IsFeasible m x) × (IsFeasible m x → first_breach m x ≡ None)

@@ -1,0 +1,21 @@
+//! The data of integer programs, and the definitions that every contract of the product speaks of.
+//!
+//! The types are plain: contracts see their fields, a list type as its list and a name as its bytes. The definitions in `specs/`
+//! are what a reader must believe; the laws in `proofs/` are checked.
+#![tactic(auto)]
+
+mod certificates;
+mod limits;
+mod listed;
+mod names;
+mod programs;
+mod runs;
+mod texts;
+
+pub use certificates::{Bound, Cert, weak_duality};
+pub use limits::{Limit, What};
+pub use listed::{Area, Coefs, ColumnList, Listed, Multipliers, Point, RowList};
+pub use names::Name;
+pub use programs::{Breach, Column, Parts, Row, breaches_are_exact};
+pub use runs::{Request, Status};
+pub use texts::{How, MpsError, Number, Side};

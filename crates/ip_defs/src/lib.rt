@@ -7,6 +7,7 @@
 mod certificates;
 mod limits;
 mod listed;
+mod memory;
 mod names;
 mod programs;
 mod runs;
@@ -15,6 +16,7 @@ mod texts;
 pub use certificates::{Bound, Cert, weak_duality};
 pub use limits::{Limit, What};
 pub use listed::{Area, Coefs, ColumnList, Listed, Multipliers, Point, RowList};
+pub use memory::Memory;
 pub use names::Name;
 pub use programs::{Breach, Column, Parts, Row, breaches_are_exact};
 pub use runs::{Request, Status};

@@ -3,5 +3,5 @@
 
 mod models;
 
-pub use ip_defs::{Breach, Column, Limit, Name, Number, Parts, Point, Row, What};
+pub use ip_defs::{Breach, Column, Limit, Memory, Name, Number, Parts, Point, Row, What};
 pub use models::IntModel;

@@ -1,0 +1,110 @@
+ghost use Rattle.std.specs.Prelude.{◌≡◌, ◌*◌, ◌^◌, ◌<◌, ◌≤◌, ℕ, length, pos, ◌+ℤ◌, ◌*ℤ◌, ◌-ℤ◌};
+ghost use Rattle.std.specs.Int.{int_min};
+ghost use Rattle.std.specs.Int.RustNames.{unsigned_abs};
+ghost use Rattle.std.specs.List.{list_any};
+ghost use Rattle.ip_defs.specs.Program.{at, low_at, high_at, coefficient, costs_of};
+ghost use Rattle.ip_defs.specs.Certificates.{is_empty_side};
+ghost use Rattle.ip_defs.specs.Limits.{AreOrdered, AreSmall, IsWithinLimits, IsArea};
+ghost use Rattle.ip_defs.specs.Sums.{sum_below};
+ghost use Rattle.leaf_cert.specs.Columns.{AllSmall, taken_of, least_part};
+
+use crate::wide::{difference, product, total_of};
+use ip_defs::Parts;
+
+/// Whether some column has no number between its sides.
+pub fn has_empty(area: &[(i64, i64)]) -> bool
+    ensures { result ≡ list_any is_empty_side area.now }
+{
+    area.iter().any(|side| side.1 < side.0)
+}
+
+/// Sets each number to 0.
+pub fn clear(taken: &mut [i128])
+    ensures { (j : ℕ) → j < length taken.new → at taken.new j ≡ pos 0 }
+{
+    for number in taken.iter_mut() {
+        *number = 0;
+    }
+}
+
+/// A number and a product.
+fn plus_product(total: i128, multiplier: i64, coefficient: i64) -> i128
+    requires { unsigned_abs total ≤ 2 ^ 125 }
+    ensures { result ≡ total +ℤ multiplier *ℤ coefficient }
+{
+    total_of(
+        total,
+        product(i128::from(multiplier), i128::from(coefficient)),
+    )
+}
+
+/// Adds a multiple of a row to numbers, one for each column.
+fn add_row(taken: &mut [i128], coefs: &[(u32, i64)], multiplier: i64)
+    requires ordered { AreOrdered (length taken.old) coefs.now }
+    requires small { AllSmall (2 ^ 125) taken.old }
+    ensures { (j : ℕ) → j < length taken.old → at taken.new j ≡ at taken.old j +ℤ multiplier *ℤ coefficient coefs.now j }
+{
+    for (column, coefficient) in coefs {
+        let j = *column as usize;
+        taken[j] = plus_product(taken[j], multiplier, *coefficient);
+    }
+}
+
+/// What the multipliers take from the cost of each column: it is at most 2^10 times 2^36 times 2^40 in size, which is 2^86.
+pub fn take_rows(parts: &Parts, y: &[(u32, i64)], taken: &mut [i128])
+    requires limits { IsWithinLimits parts.now }
+    requires ordered { AreOrdered (length parts.now.rows) y.now }
+    requires multipliers { AreSmall (2 ^ 36) y.now }
+    requires size { length taken.old ≡ length parts.now.columns }
+    ensures { (j : ℕ) → j < length taken.new → at taken.new j ≡ taken_of parts.now.rows y.now j }
+{
+    clear(taken);
+    for (row, multiplier) in y {
+        let rows = parts.rows.as_slice();
+        let row = &rows[*row as usize];
+        add_row(taken, row.coefs.as_slice(), *multiplier);
+    }
+}
+
+/// What is left of a column's cost.
+fn reduced_cost(q: i64, cost: i64, taken: i128) -> i128
+    requires q_small { unsigned_abs q ≤ 2 ^ 36 }
+    requires cost_small { unsigned_abs cost ≤ 2 ^ 40 }
+    requires taken_small { unsigned_abs taken ≤ 2 ^ 86 }
+    ensures value { result ≡ q *ℤ cost -ℤ taken }
+    ensures small { unsigned_abs result ≤ 2 ^ 87 }
+{
+    difference(product(i128::from(q), i128::from(cost)), taken)
+}
+
+/// The lesser of two products.
+fn lesser_end(reduced: i128, low: i64, high: i64) -> i128
+    requires reduced_small { unsigned_abs reduced ≤ 2 ^ 87 }
+    requires low_small { unsigned_abs low ≤ 2 ^ 24 }
+    requires high_small { unsigned_abs high ≤ 2 ^ 24 }
+    ensures lesser { result ≡ int_min (reduced *ℤ low) (reduced *ℤ high) }
+    ensures small { unsigned_abs result ≤ 2 ^ 111 }
+{
+    let below = product(reduced, i128::from(low));
+    let above = product(reduced, i128::from(high));
+    below.min(above)
+}
+
+/// What the columns add at least, of which there are at most 2^12.
+pub fn column_sum(parts: &Parts, q: i64, taken: &[i128], area: &[(i64, i64)]) -> i128
+    requires limits { IsWithinLimits parts.now }
+    requires q_small { unsigned_abs q ≤ 2 ^ 36 }
+    requires taken_small { AllSmall (2 ^ 86) taken.now }
+    requires size { length taken.now ≡ length parts.now.columns }
+    requires sides { IsArea (length parts.now.columns) area.now }
+    ensures sum { result ≡ sum_below (least_part (costs_of parts.now) q taken.now area.now) (length area.now) }
+    ensures small { unsigned_abs result ≤ 2 ^ 123 }
+{
+    let columns = parts.columns.as_slice();
+    let mut total: i128 = 0;
+    for (j, side) in area.iter().enumerate() {
+        let reduced = reduced_cost(q, columns[j].cost, taken[j]);
+        total = total_of(total, lesser_end(reduced, side.0, side.1));
+    }
+    total
+}

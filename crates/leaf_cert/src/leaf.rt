@@ -1,0 +1,110 @@
+ghost use Rattle.std.specs.Prelude.{◌≡◌, ◌^◌, ◌≤◌, ◌*ℤ◌, IfSome, length, List, ℤ};
+ghost use Rattle.std.specs.Int.RustNames.{unsigned_abs};
+ghost use Rattle.ip_defs.specs.Program.{IsFeasible, IsIn, cost};
+ghost use Rattle.ip_defs.specs.Certificates.{IsAtMost, dual_value, box_sum, leaf_bound as leaf_bound_of};
+ghost use Rattle.ip_defs.specs.Limits.{IsWithinLimits, IsCert, IsArea};
+ghost use Rattle.leaf_cert.specs.Room.{FitsScratch, room_of};
+
+use crate::columns::{clear, column_sum, has_empty, take_rows};
+use crate::payments::paid;
+use crate::room::Scratch;
+use crate::wide::{ceil_div, product, total_of};
+use ip_defs::{Area, Bound, Cert, Parts};
+use ip_model::IntModel;
+
+/// The constant, q times.
+fn weighed(q: i64, constant: i64) -> i128
+    requires q_small { unsigned_abs q ≤ 2 ^ 36 }
+    requires constant_small { unsigned_abs constant ≤ 2 ^ 62 }
+    ensures value { result ≡ q *ℤ constant }
+    ensures small { unsigned_abs result ≤ 2 ^ 98 }
+{
+    product(i128::from(q), i128::from(constant))
+}
+
+/// What the certificate proves of q times each cost: the payments, the constant and the columns, below 2^108, 2^98 and 2^123.
+fn dual_value_of(
+    parts: &Parts,
+    cert: &Cert,
+    area: &[(i64, i64)],
+    taken: &mut [i128],
+) -> Option<i128>
+    requires limits { IsWithinLimits parts.now }
+    requires cert { IsCert (length parts.now.rows) cert.now }
+    requires area { IsArea (length parts.now.columns) area.now }
+    requires scratch { length taken.old ≡ length parts.now.columns }
+    ensures value { result ≡ dual_value parts.now area.now cert.now.q cert.now.y }
+    ensures small { IfSome result (λ g. unsigned_abs g ≤ 2 ^ 125) }
+{
+    let y = cert.y.as_slice();
+    match paid(parts, y) {
+        Some(paid) => {
+            take_rows(parts, y, taken);
+            let whole = weighed(cert.q, parts.constant);
+            let columns = column_sum(parts, cert.q, taken, area);
+            Some(total_of(total_of(paid, whole), columns))
+        }
+        None => None,
+    }
+}
+
+/// The bound with no multipliers.
+fn box_sum_of(parts: &Parts, area: &[(i64, i64)], taken: &mut [i128]) -> i128
+    requires limits { IsWithinLimits parts.now }
+    requires area { IsArea (length parts.now.columns) area.now }
+    requires scratch { length taken.old ≡ length parts.now.columns }
+    ensures { result ≡ box_sum parts.now area.now }
+{
+    clear(taken);
+    total_of(
+        i128::from(parts.constant),
+        column_sum(parts, 1, taken, area),
+    )
+}
+
+/// The bound of a leaf, by its cases.
+fn bound_of(parts: &Parts, cert: &Cert, area: &[(i64, i64)], taken: &mut [i128]) -> Bound
+    requires limits { IsWithinLimits parts.now }
+    requires cert { IsCert (length parts.now.rows) cert.now }
+    requires area { IsArea (length parts.now.columns) area.now }
+    requires scratch { length taken.old ≡ length parts.now.columns }
+    ensures { result ≡ leaf_bound_of parts.now area.now cert.now }
+{
+    if has_empty(area) {
+        return Bound::Infinite;
+    }
+    match dual_value_of(parts, cert, area, taken) {
+        Some(value) => {
+            if cert.q > 0 {
+                return Bound::At(ceil_div(value, i128::from(cert.q)));
+            }
+            if value > 0 {
+                return Bound::Infinite;
+            }
+            Bound::At(box_sum_of(parts, area, taken))
+        }
+        None => Bound::At(box_sum_of(parts, area, taken)),
+    }
+}
+
+/// The bound of a leaf: each feasible point of the model that lies in the area costs at least it, and where it is infinite there is
+/// no such point. Takes no memory and leaves the box of the scratch alone.
+///
+/// It is infinite where a column of the area is empty. Where each multiplier's row has the side that it pays, a positive `q` divides the dual
+/// value, rounded up, and a ray with a positive dual value is infinite. In each other case it is the sum of the box alone.
+pub fn leaf_bound(model: &IntModel, cert: &Cert, area: &Area, scratch: &mut Scratch) -> Bound
+    requires cert { IsCert (length model.now.rows) cert.now }
+    requires area { IsArea (length model.now.columns) area.now }
+    requires fits { FitsScratch model.now scratch.old }
+    ensures bound { result ≡ leaf_bound_of model.now area.now cert.now }
+    ensures holds { (x : List ℤ) → IsFeasible model.now x → IsIn area.now x → IsAtMost result (cost model.now x) }
+    ensures area { scratch.new.area ≡ scratch.old.area }
+    ensures room { room_of scratch.new ≡ room_of scratch.old }
+{
+    bound_of(
+        model.parts(),
+        cert,
+        area.as_slice(),
+        scratch.taken.as_mut_slice(),
+    )
+}

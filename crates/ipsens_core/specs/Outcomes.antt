@@ -1,0 +1,29 @@
+-- What the commands share: the request of a plain `solve`, the written text of an answer, and what the outside shows.
+use Rattle.std.specs.Prelude.{◌≡◌, ◌⊎◌, ℕ, List, Option, None, take}
+use Rattle.ip_defs.specs.Files.{Files, Takes}
+use Rattle.ip_defs.specs.Runs.{Outside}
+use Rattle.ip_defs.specs.declared.runs.Request.{Request}
+use Rattle.ip_defs.specs.declared.runs.Request.TheVariants.{Solve, Show}
+use Rattle.ip_defs.specs.declared.runs.Status.{Status}
+use Rattle.ip_defs.specs.declared.runs.Status.TheVariants.{WriteFault}
+use Rattle.ips_io.specs.Causes.{Rose}
+
+-- the request is a `solve` with whole numbers as they are written and no box side
+abbrev pub IsPlainSolve : Request → Type 0
+IsPlainSolve (Solve model tree nodes depth pivots digits box_side) = (digits ≡ 0) × (box_side ≡ None)
+IsPlainSolve (Show model digits box_side) = ⊥
+
+-- the name of the model file of a request
+abbrev pub model_of_request : Request → List ℕ
+model_of_request (Solve model tree nodes depth pivots digits box_side) = model
+model_of_request (Show model digits box_side) = model
+
+-- a text was written whole, and the status is its own; or writing failed after some of it
+abbrev pub Writes : Option (List ℕ) → Option (List ℕ) → ℕ → ℕ → Status → List ℕ → Status → Type 0
+Writes before after faults faults_after status text result =
+    ((result ≡ status) × Takes before after text)
+    ⊎ ((result ≡ WriteFault) × Rose faults faults_after × ((most : ℕ) × Takes before after (take most text)))
+
+-- the outside of a call, by what is told of it
+abbrev pub shows : Option Files → Option Files → Option (List ℕ) → Option (List ℕ) → Outside
+shows files files_after taken taken_after = record { files = files; files_after = files_after; taken = taken; taken_after = taken_after }

@@ -1,2 +1,4 @@
 pub mod Causes
 pub mod Shelves
+pub mod Plans
+pub mod MemSinks

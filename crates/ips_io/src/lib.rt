@@ -2,6 +2,8 @@
 //! file and write a whole text over them.
 #![tactic(auto)]
 
+mod memory_sinks;
+mod plans;
 mod reading;
 mod real_files;
 mod real_output;
@@ -9,6 +11,7 @@ mod shelves;
 mod sinks;
 mod writing;
 
+pub use memory_sinks::{MemSink, mem_sink};
 pub use reading::{ReadError, read_all};
 pub use real_files::{FileShelf, file_shelf};
 pub use real_output::{OutSink, out_sink};

@@ -1,1 +1,3 @@
 pub mod PieceLaws
+pub mod PlaceLaws
+pub mod TableLaws

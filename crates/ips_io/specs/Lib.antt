@@ -2,3 +2,5 @@ pub mod Causes
 pub mod Shelves
 pub mod Plans
 pub mod MemSinks
+pub mod Places
+pub mod Tables

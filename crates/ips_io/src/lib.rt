@@ -3,12 +3,14 @@
 #![tactic(auto)]
 
 mod memory_sinks;
+mod places;
 mod plans;
 mod reading;
 mod real_files;
 mod real_output;
 mod shelves;
 mod sinks;
+mod tables;
 mod writing;
 
 pub use memory_sinks::{MemSink, mem_sink};

@@ -4,3 +4,4 @@ pub mod Plans
 pub mod MemSinks
 pub mod Places
 pub mod Tables
+pub mod MemShelves

@@ -2,6 +2,7 @@
 //! file and write a whole text over them.
 #![tactic(auto)]
 
+mod memory_shelves;
 mod memory_sinks;
 mod places;
 mod plans;
@@ -13,6 +14,7 @@ mod sinks;
 mod tables;
 mod writing;
 
+pub use memory_shelves::{MemShelf, mem_shelf};
 pub use memory_sinks::{MemSink, mem_sink};
 pub use reading::{ReadError, read_all};
 pub use real_files::{FileShelf, file_shelf};

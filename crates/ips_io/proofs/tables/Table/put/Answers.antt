@@ -31,13 +31,13 @@ invariant_of-self c =
     let change = changed ls b c.args.name.now bytes place filled (sym at) in
     let before : IsFilled ls b c.self.inside.most_files c.self.inside.room = record { filled = filled; listed = omega arith; within = omega arith } in
     let after =
-        filled_after c.change.result ls (resized ls place.index (length bytes)) c.change.new.files.items b (edited b place.content bytes) c.change.new.buffer.items
-        c.self.inside.most_files c.self.inside.room before c.change.ensures.files c.change.ensures.buffer c.change.ensures.same_files c.change.ensures.same_buffer
-        (λ yes. let fits = c.change.ensures.fits.0 yes in record {
-          filled = change.filled;
-          listed = omega (arith, change.listed);
-          within = omega (arith, change.bytes, change.within)
-        })
+    filled_after c.change.result ls (resized ls place.index (length bytes)) c.change.new.files.items b (edited b place.content bytes) c.change.new.buffer.items
+    c.self.inside.most_files c.self.inside.room before c.change.ensures.files c.change.ensures.buffer c.change.ensures.same_files c.change.ensures.same_buffer
+    (λ yes. let fits = c.change.ensures.fits.0 yes in record {
+      filled = change.filled;
+      listed = omega (arith, change.listed);
+      within = omega (arith, change.bytes, change.within);
+    })
     in
     (after.filled ∙ sym c.change.new.buffer.ok.0, omega (arith, after.listed, c.change.new.files.ok.0), omega (arith, c.change.ensures.files_room), omega (arith, after.within, c.change.new.buffer.ok.0), omega (arith, c.change.ensures.buffer_room))
 

@@ -1,10 +1,8 @@
 -- Files in a buffer: the search for a name, and the change of a content.
-use Rattle.std.proofs.Common.{◌≡◌, ℕ, ◌+◌, ◌-◌, ◌<◌, ◌≤◌, Bool, true, false, cond, List, [], ◌∷◌, ◌++◌, take, drop, length, get_or, Option, Some, None, option_map, bytes_eq, refl, sym, ap, ◌∙◌, arith, append_assoc, length-append, length-drop, add-one, suc}
-use Rattle.std.proofs.lemmas.List.{drop-drop, take-take}
-use Rattle.std.proofs.Math.Seq.{drop-cons, take-add, take-append-add, take-append_seam, drop-append_seam}
-use Rattle.ips_io.specs.Places.{both, total, place_of, shifted, part_of, edited, files_of}
-use Rattle.ips_io.specs.declared.places.Lengths.{Lengths}
-use Rattle.ips_io.specs.declared.places.Place.{Place}
+use Rattle.std.proofs.Common.{◌≡◌, ℕ, ◌+◌, ◌-◌, ◌≤◌, List, ◌++◌, take, drop, length, ap, ◌∙◌, arith, append_assoc, length-drop}
+use Rattle.std.proofs.lemmas.List.{take-take}
+use Rattle.std.proofs.Math.Seq.{take-append-add, take-append_seam, drop-append_seam}
+use Rattle.ips_io.specs.Places.{edited}
 use Rattle.ips_io.specs.declared.places.Part.{Part}
 
 -- a buffer turned so that a part stands last, cut, lengthened and turned back: other bytes in place of the part

@@ -1,5 +1,5 @@
 -- What a shelf in memory is seen as, and what its calls make of it.
-use Rattle.std.specs.Prelude.{ℕ, List, drop, option_map, Option, Some, None, Bool, if◌then◌else◌}
+use Rattle.std.specs.Prelude.{ℕ, List, drop, option_map, Option, None, if◌then◌else◌}
 use Rattle.std.specs.Option.{option_map_or}
 use Rattle.ip_defs.specs.Files.{Files, file_of}
 use Rattle.ips_io.specs.Causes.{counted}

@@ -12,6 +12,8 @@ mod real_output;
 mod shelves;
 mod sinks;
 mod tables;
+#[cfg(test)]
+mod tests;
 mod writing;
 
 pub use memory_shelves::{MemShelf, mem_shelf};

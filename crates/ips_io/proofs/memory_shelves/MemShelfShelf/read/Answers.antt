@@ -1,4 +1,4 @@
-use Rattle.std.proofs.Common.{◌≡◌, ◌+◌, ◌-◌, ◌<◌, ◌≤◌, ◌++◌, List, ℕ, Some, drop, take, min, length, option_map, ◌∙◌, sym, ap, subst, arith, refl}
+use Rattle.std.proofs.Common.{◌≡◌, ◌+◌, ◌-◌, ◌≤◌, ◌++◌, List, ℕ, Some, drop, take, min, option_map, ◌∙◌, sym, ap, subst, arith, refl}
 use Rattle.ips_io.specs.Places.{part_of}
 use Rattle.ips_io.specs.Shelves.{Moved}
 use Rattle.ips_io.proofs.ShelfLaws.{moved_part, rest_of_part}

@@ -1,4 +1,4 @@
-use Rattle.std.proofs.Common.{◌≡◌, Some, ◌∙◌, sym, ap}
+use Rattle.std.proofs.Common.{◌≡◌, ◌∙◌, sym, ap}
 use Rattle.ip_defs.specs.Files.{file_of}
 use Rattle.ips_io.proofs.ShelfLaws.{put_file, put_others}
 use Rattle.ips_io.proofs.memory_shelves.MemShelfShelf.save.Goals as goal

@@ -1,4 +1,4 @@
-use Rattle.std.proofs.Common.{◌≡◌, ◌∙◌, [], Some, None, sym, ap, option_map}
+use Rattle.std.proofs.Common.{◌∙◌, [], sym, ap, option_map}
 use Rattle.ips_io.specs.Places.{part_of}
 use Rattle.ips_io.proofs.TableLaws.{file_at_place, changed}
 use Rattle.ips_io.proofs.tables.Table.find.Goals as goal

@@ -1,4 +1,4 @@
-use Rattle.std.proofs.Common.{◌≡◌, ◌+◌, ◌-◌, ◌<◌, ◌≤◌, ◌∙◌, ◌++◌, ◌∷◌, [], Some, None, length, sym, ap, arith, vec_len}
+use Rattle.std.proofs.Common.{◌∙◌, ◌++◌, ◌∷◌, [], length, sym, ap, arith}
 use Rattle.ips_io.proofs.TableLaws.{changed, added, same_files, filled_after, IsFilled}
 use Rattle.ips_io.specs.Places.{resized, edited}
 use Rattle.ips_io.specs.declared.places.Lengths.{Lengths}

@@ -1,1 +1,4 @@
 pub mod PieceLaws
+pub mod PlaceLaws
+pub mod TableLaws
+pub mod ShelfLaws

@@ -1,2 +1,7 @@
 pub mod Causes
 pub mod Shelves
+pub mod Plans
+pub mod MemSinks
+pub mod Places
+pub mod Tables
+pub mod MemShelves

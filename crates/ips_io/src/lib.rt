@@ -2,13 +2,22 @@
 //! file and write a whole text over them.
 #![tactic(auto)]
 
+mod memory_shelves;
+mod memory_sinks;
+mod places;
+mod plans;
 mod reading;
 mod real_files;
 mod real_output;
 mod shelves;
 mod sinks;
+mod tables;
+#[cfg(test)]
+mod tests;
 mod writing;
 
+pub use memory_shelves::{MemShelf, mem_shelf};
+pub use memory_sinks::{MemSink, mem_sink};
 pub use reading::{ReadError, read_all};
 pub use real_files::{FileShelf, file_shelf};
 pub use real_output::{OutSink, out_sink};

@@ -1,11 +1,11 @@
-ghost use Rattle.std.specs.Prelude.{◌≡◌, is_some, None, ℕ, Option, List};
+ghost use Rattle.std.specs.Prelude.{◌≡◌, is_some, false, None, ℕ, Option, List};
 
 use crate::{Failed, Shelf};
 use std::fs;
 use std::io::Read;
 use std::rt::Files;
 
-/// The files of the machine. Their content is told by nobody. A folder named as a file fails when it is read or saved.
+/// The files of the machine. No content is told. A folder named as a file fails when it is read or saved.
 #[derive(Drop)]
 pub struct FileShelf<R: Files + Drop> {
     rt: R,
@@ -15,7 +15,11 @@ pub struct FileShelf<R: Files + Drop> {
 }
 
 /// A shelf of the files of the machine, with no file begun and no failure counted.
-pub fn file_shelf<R: Files + Drop>(rt: R) -> FileShelf<R> {
+pub fn file_shelf<R: Files + Drop>(rt: R) -> FileShelf<R>
+    ensures begun { is_some result.file ≡ false }
+    ensures faults { result.faults ≡ 0 }
+    ensures save_faults { result.save_faults ≡ 0 }
+{
     FileShelf {
         rt,
         file: None,

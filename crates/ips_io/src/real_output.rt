@@ -3,7 +3,7 @@ ghost use Rattle.std.specs.Prelude.{◌≡◌, None, ℕ, Option, List};
 use crate::{Failed, Sink};
 use std::io::{self, Write};
 
-/// Standard output. What it took is told by nobody.
+/// Standard output. What it took is not told.
 #[derive(Drop)]
 pub struct OutSink<R: Print + Drop> {
     rt: R,
@@ -11,7 +11,9 @@ pub struct OutSink<R: Print + Drop> {
 }
 
 /// A sink that is standard output, with no failure counted.
-pub fn out_sink<R: Print + Drop>(rt: R) -> OutSink<R> {
+pub fn out_sink<R: Print + Drop>(rt: R) -> OutSink<R>
+    ensures { result.faults ≡ 0 }
+{
     OutSink { rt, faults: 0 }
 }
 

@@ -7,6 +7,8 @@ mod limits;
 mod models;
 mod shapes;
 mod sizes;
+#[cfg(test)]
+mod tests;
 mod wide;
 
 pub use breaches::first_breach;

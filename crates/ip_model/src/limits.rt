@@ -7,18 +7,22 @@ ghost use Rattle.ip_model.specs.LimitGroups.{count_limits, own_limits};
 
 use ip_defs::{Column, Limit, Name, Parts, Row, What};
 
-/// The most columns, rows and coefficients of a program.
+/// The most columns of a program.
 const MOST_COLUMNS: usize = 4_096;
 
+/// The most rows.
 const MOST_ROWS: usize = 1_024;
 
+/// The most coefficients in all rows.
 const MOST_ENTRIES: usize = 200_000;
 
-/// The greatest sizes of a cost or coefficient, of a side of a column, and of a side of a row or the constant.
+/// The greatest size of a cost or a coefficient.
 const LARGEST_COST: u64 = 1 << 40;
 
+/// The greatest size of a side of a column.
 const LARGEST_BOUND: u64 = 1 << 24;
 
+/// The greatest size of a side of a row and of the constant.
 const LARGEST_SIDE: u64 = 1 << 62;
 
 /// A name above 255 bytes.

@@ -1,5 +1,6 @@
 pub mod Sums
 pub mod Program
+pub mod Boxes
 pub mod Breaches
 pub mod Certificates
 pub mod Limits

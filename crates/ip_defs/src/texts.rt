@@ -1,4 +1,9 @@
+ghost use Rattle.std.specs.Prelude.{◌≡◌};
+ghost use Rattle.ip_defs.specs.declared.texts.MpsError.TheVariants as Out;
+
 use crate::{Limit, Name};
+use std::alloc::{AllocError, AllocFailed};
+use thiserror::Error;
 
 /// A number of a text: `units / 10^decimals` with the least decimals that are possible, or a size of at least 10^20.
 #[derive(Clone, Copy, Debug, PartialEq, Eq)]
@@ -22,50 +27,88 @@ pub enum Side {
 }
 
 /// Why a text is not taken as a model. `line` counts from 1.
-#[derive(Debug, Drop)]
+#[derive(Debug, Drop, Error)]
 pub enum MpsError {
     /// The text is none of the plain ones that are read today.
+    #[error("the text is none of the plain ones that are read today")]
     NotBuilt,
     /// The text is not UTF-8.
+    #[error("the text is not UTF-8")]
     NotUtf8,
     /// A section comes again or out of order, or a data line stands before ROWS.
+    #[error("line {line}: a section is out of order")]
     SectionOrder { line: u32 },
     /// The section word is none of the seven.
+    #[error("line {line}: unknown section")]
     UnknownSection { line: u32 },
     /// A data line has a number of fields that its section does not have.
+    #[error("line {line}: wrong number of fields")]
     FieldCount { line: u32 },
     /// The kind of a row is none of N, L, G and E.
+    #[error("line {line}: unknown kind of row")]
     RowKind { line: u32 },
     /// A row name stands twice.
+    #[error("line {line}: the row stands twice")]
     TwiceRow { line: u32 },
     /// A named row is not in ROWS.
+    #[error("line {line}: unknown row")]
     UnknownRow { line: u32 },
     /// A column comes again after a line of another column or a marker.
+    #[error("line {line}: the column comes again")]
     SplitColumn { line: u32 },
     /// An entry is written twice.
+    #[error("line {line}: the entry is written twice")]
     TwiceEntry { line: u32 },
     /// A field is no number.
+    #[error("line {line}: a field is no number")]
     Number { line: u32 },
     /// A marker opens what is open, closes what is not, or is none.
+    #[error("line {line}: wrong marker")]
     Marker { line: u32 },
     /// The kind of a bound is none of the nine.
+    #[error("line {line}: unknown kind of bound")]
     BoundKind { line: u32 },
     /// A bound names no column.
+    #[error("line {line}: unknown column")]
     UnknownColumn { line: u32 },
     /// A column is not integer.
+    #[error("column {column} is not integer")]
     Continuous { column: Name },
     /// A side of a column is absent, and no box side can stand for it.
+    #[error("column {column} has no {side:?} bound")]
     NoBound { column: Name, side: Side },
     /// The only bound of a column is a negative upper one.
+    #[error("column {column} has a negative upper bound alone")]
     NegativeUpper { column: Name },
     /// A limit is passed.
+    #[error("a limit is passed")]
     Limit { limit: Limit },
     /// ROWS has no N row.
+    #[error("there is no objective row")]
     NoObjective,
     /// There is no ENDATA line.
+    #[error("there is no ENDATA line")]
     NoEnd,
     /// A number has more than nine decimals.
+    #[error("line {line}: more than nine decimals")]
     Digits { line: u32 },
     /// Memory was wanting; nothing is said of the text.
+    #[error("out of memory")]
     Memory,
+}
+
+impl From<AllocError> for MpsError {
+    ghost from_gives = { λ _ e. e ≡ Out.Memory };
+
+    fn from(_error: AllocError) -> MpsError {
+        MpsError::Memory
+    }
+}
+
+impl<T: Drop> From<AllocFailed<T>> for MpsError {
+    ghost from_gives = { λ _ e. e ≡ Out.Memory };
+
+    fn from(_error: AllocFailed<T>) -> MpsError {
+        MpsError::Memory
+    }
 }

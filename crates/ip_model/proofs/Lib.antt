@@ -1,0 +1,6 @@
+pub mod LimitLaws
+pub mod PlaceLaws
+pub mod ShapeLaws
+pub mod SizeLaws
+pub mod StepLaws
+pub mod WalkLaws

@@ -1,0 +1,2 @@
+pub mod LimitGroups
+pub mod Sizes

@@ -1,7 +1,9 @@
-ghost use Rattle.std.specs.Prelude.{◌≡◌};
-ghost use Rattle.ip_defs.specs.Limits.{IsWithinLimits};
+ghost use Rattle.std.specs.Prelude.{◌≡◌, [], IfOk, IfErr, Some};
+ghost use Rattle.ip_defs.specs.Lists.{first_of};
+ghost use Rattle.ip_defs.specs.Limits.{IsWellShaped, IsWithinLimits, limits_of};
 
-use ip_defs::Parts;
+use crate::limits::first_limit;
+use ip_defs::{Limit, Parts};
 use std::marker::Model;
 
 /// An integer program that is well shaped and within every limit, seen as its parts.
@@ -28,5 +30,20 @@ impl IntModel {
         ensures limits { IsWithinLimits self.now }
     {
         &self.parts
+    }
+}
+
+/// The model of well shaped parts. Takes no memory. Where a limit is passed the parts are handed back with the first one in the
+/// order of `What`: the counts, the columns by number, the rows by number, and what is the program's own.
+pub fn make(parts: Parts) -> Result<IntModel, (Parts, Limit)>
+    requires { IsWellShaped parts }
+    ensures model { IfOk result (λ m. m ≡ parts) }
+    ensures within { IfOk result (λ m. limits_of parts ≡ []) }
+    ensures handed_back { IfErr result (λ e. e.0 ≡ parts) }
+    ensures first { IfErr result (λ e. first_of (limits_of parts) ≡ Some e.1) }
+{
+    match first_limit(&parts) {
+        Some(limit) => Err((parts, limit)),
+        None => Ok(IntModel { parts }),
     }
 }

@@ -1,0 +1,17 @@
+//! The outside of a run: a shelf of files and a sink of output, whose failures are counted, and the two calls that read a whole
+//! file and write a whole text over them.
+#![tactic(auto)]
+
+mod reading;
+mod real_files;
+mod real_output;
+mod shelves;
+mod sinks;
+mod writing;
+
+pub use reading::{ReadError, read_all};
+pub use real_files::{FileShelf, file_shelf};
+pub use real_output::{OutSink, out_sink};
+pub use shelves::{Failed, Shelf};
+pub use sinks::Sink;
+pub use writing::write_all;

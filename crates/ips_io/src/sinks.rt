@@ -1,0 +1,23 @@
+ghost use Rattle.std.specs.Prelude.{◌≡◌, ◌<◌, ◌≤◌, ℕ, List, Option, length, take, IfOk, OnErr};
+ghost use Rattle.ip_defs.specs.Files.{Takes};
+ghost use Rattle.ips_io.specs.Causes.{HasCause};
+
+use crate::Failed;
+
+/// Output: bytes are taken piece by piece.
+pub trait Sink {
+    /// The bytes taken so far, where they are told.
+    ghost taken: { Self → Option (List ℕ) };
+
+    /// The failures so far, at most 2^64 - 1.
+    ghost faults: { Self → ℕ };
+
+    /// Takes bytes from the front of a text, at least one, and answers how many. To take none is a failure.
+    fn write(&mut self, bytes: &[u8]) -> Result<usize, Failed>
+        requires { 0 < length bytes.now }
+        ensures some { IfOk result (λ n. 0 < n) }
+        ensures bound { IfOk result (λ n. n ≤ length bytes.now) }
+        ensures takes { IfOk result (λ n. Takes (taken self.old) (taken self.new) (take n bytes.now)) }
+        ensures err { OnErr result (taken self.new ≡ taken self.old) }
+        ensures cause { HasCause (faults self.old) (faults self.new) result };
+}

@@ -14,20 +14,14 @@ use Rattle.ip_defs.specs.Program.{at, costs_of, coefficient, low_at, high_at}
 use Rattle.ip_defs.specs.Certificates.{coefs_of, entry, reduced, column_part}
 use Rattle.ip_defs.specs.Limits.{number_at, value_at, AreOrdered, AreSmall, IsWithinLimits}
 use Rattle.ip_defs.proofs.SumLaws.{sum_same}
+use Rattle.ip_model.proofs.WalkLaws.{sum_over_more}
 use Rattle.leaf_cert.specs.Columns.{taken_of, least_part}
 use Rattle.leaf_cert.proofs.Rows.{coefficient_small, length_below}
 use Rattle.leaf_cert.proofs.Steps.{size_of_product}
 
-pub sum_over-append : {A : Type 0} (f : A → ℤ) (xs ys : List A) → sum_over f (xs ++ ys) ≡ sum_over f xs +ℤ sum_over f ys
-sum_over-append f [] ys = omega (arith, ints)
-sum_over-append f (x ∷ xs) ys = let rest = sum_over-append f xs ys in omega (arith, ints)
-
 -- one more multiplier
 pub taken_more : (rows : List Row) (y : List (ℕ × ℤ)) (i j : ℕ) → i < length y → taken_of rows (take (i + 1) y) j ≡ taken_of rows (take i y) j +ℤ value_at y i *ℤ entry rows (number_at y i) j
-taken_more rows y i j l =
-    let f : ℕ × ℤ → ℤ = λ p. p.1 *ℤ entry rows p.0 j in
-    let more = ap (sum_over f) (take_more y i (0, pos 0) l) ∙ sum_over-append f (take i y) (get_or y i (0, pos 0) ∷ []) in
-    omega (arith, ints)
+taken_more rows y i j l = sum_over_more (λ p. p.1 *ℤ entry rows p.0 j) y i (0, pos 0) l
 
 -- an entry of a program within its limits
 pub entry_small : (m : Parts) (i j : ℕ) → IsWithinLimits m → unsigned_abs (entry m.rows i j) ≤ 2 ^ 40

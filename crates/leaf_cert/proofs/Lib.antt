@@ -1,3 +1,4 @@
+pub mod AreaLaws
 pub mod Ceilings
 pub mod OrderLaws
 pub mod PaymentLaws

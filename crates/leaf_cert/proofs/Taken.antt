@@ -4,8 +4,7 @@ use Rattle.std.specs.Int.{int_min}
 use Rattle.std.specs.Int.RustNames.{unsigned_abs}
 use Rattle.std.proofs.Common.{arith, refl, ap, sym, ◌∙◌, get_or, subst, add-one}
 use Rattle.std.proofs.lemmas.Int.{ints}
-use Rattle.std.proofs.lemmas.List.{take_more, take_all, get_or-map}
-use Rattle.std.proofs.lemmas.Option.{none-some, slice_get-get_or, get_or_from_slice_get}
+use Rattle.std.proofs.lemmas.List.{take_all}
 use Rattle.ip_defs.specs.declared.programs.Column.{Column}
 use Rattle.ip_defs.specs.declared.programs.Parts.{Parts}
 use Rattle.ip_defs.specs.declared.programs.Row.{Row}
@@ -14,8 +13,10 @@ use Rattle.ip_defs.specs.Program.{at, costs_of, coefficient, low_at, high_at}
 use Rattle.ip_defs.specs.Certificates.{coefs_of, entry, reduced, column_part}
 use Rattle.ip_defs.specs.Limits.{number_at, value_at, AreOrdered, AreSmall, IsWithinLimits}
 use Rattle.ip_defs.proofs.SumLaws.{sum_same}
+use Rattle.ip_model.proofs.PlaceLaws.{cost_of_column}
 use Rattle.ip_model.proofs.WalkLaws.{sum_over_more}
 use Rattle.leaf_cert.specs.Columns.{taken_of, least_part}
+use Rattle.leaf_cert.proofs.AreaLaws.{not_none}
 use Rattle.leaf_cert.proofs.Rows.{coefficient_small, length_below}
 use Rattle.leaf_cert.proofs.Steps.{size_of_product}
 
@@ -35,20 +36,13 @@ entry_small m i j limits = by (slice_get m.rows i) refl
         let all = take_all (length r.coefs) r.coefs (omega arith) in
         subst (λ ps. unsigned_abs (coefficient ps j) ≤ 2 ^ 40) all (coefficient_small (length m.columns) (2 ^ 40) r.coefs j (length r.coefs) shape.coefs row.coefs (omega arith))
 
--- a place within a list has an element
-not_none : {A : Type 0} (xs : List A) (i : ℕ) → i < length xs → slice_get xs i ≡ None → ⊥
-not_none [] i l e = omega arith
-not_none (x ∷ xs) i l e = none-some (get_or (x ∷ xs) i x) (sym e ∙ slice_get-get_or (x ∷ xs) i x l)
-
 -- a cost of a program within its limits
 pub cost_small : (m : Parts) (j : ℕ) → IsWithinLimits m → j < length m.columns → unsigned_abs (at (costs_of m) j) ≤ 2 ^ 40
 cost_small m j limits within = by (slice_get m.columns j) refl
   where
     by : (found : Option Column) → slice_get m.columns j ≡ found → unsigned_abs (at (costs_of m) j) ≤ 2 ^ 40
     by None e = absurd (not_none m.columns j within e)
-    by (Some c) e =
-        let read : at (costs_of m) j ≡ c.cost = get_or-map (λ c. c.cost) m.columns j c (pos 0) within ∙ ap (λ c. c.cost) (get_or_from_slice_get m.columns j c c e) in
-        rw read (limits.columns j c e).cost
+    by (Some c) e = rw (cost_of_column m j c e) (limits.columns j c e).cost
 
 -- the size of what i multipliers take
 pub taken_small : (m : Parts) (y : List (ℕ × ℤ)) (i j : ℕ) → IsWithinLimits m → AreSmall (2 ^ 36) y → i ≤ length y → unsigned_abs (taken_of m.rows (take i y) j) ≤ i * 2 ^ 76

@@ -8,9 +8,15 @@ use Rattle.std.proofs.lemmas.Grind.{get_or-set_at}
 use Rattle.std.proofs.lemmas.Int.{ints, clamps}
 use Rattle.std.proofs.lemmas.List.{length-map, get_or-map, get_or-set_other}
 use Rattle.std.proofs.lemmas.List.Sums.{sum_by-set}
-use Rattle.ip_defs.specs.Program.{IsIn, at, low_at, high_at}
+use Rattle.ip_defs.specs.Program.{IsIn, at, box_of, low_at, high_at}
 use Rattle.ip_defs.specs.Boxes.{below, above, width, IsOpen}
-use Rattle.ip_defs.specs.Limits.{IsArea}
+use Rattle.ip_defs.specs.Certificates.{is_empty_side}
+use Rattle.ip_defs.specs.Limits.{IsArea, IsColumn, IsWithinLimits}
+use Rattle.ip_defs.specs.declared.programs.Column.{Column}
+use Rattle.ip_defs.specs.declared.programs.Parts.{Parts}
+use Rattle.std.specs.List.{list_any}
+use Rattle.std.specs.Prelude.{Some, slice_get, zero}
+use Rattle.std.proofs.lemmas.List.Folds.{list_any_at}
 
 -- lists that agree at each place are equal
 pub same_lists : (xs ys : List ℤ) → length xs ≡ length ys → ((j : ℕ) → j < length ys → at xs j ≡ at ys j) → xs ≡ ys
@@ -125,3 +131,26 @@ above_area n b j cut l p q area =
     let s = area.low j within in
     let t = area.high j within in
     area_cut b j (int_max (low_at b j) (cut +ℤ pos 1)) (high_at b j) l n (omega (arith, ints, clamps)) t area
+
+-- a box that has no empty column is open
+pub open_from : (b : List (ℤ × ℤ)) → list_any is_empty_side b ≡ false → IsOpen b
+open_from b none = λ j within. by j within (is_empty_side (get_or b j (pos 0, pos 0))) refl
+  where
+    by : (j : ℕ) → j < length b → (t : Bool) → is_empty_side (get_or b j (pos 0, pos 0)) ≡ t → low_at b j ≤ℤ high_at b j
+    by j within true e = let some = list_any_at is_empty_side b j (pos 0, pos 0) within e in absurd cc
+    by j within false e = omega (arith, ints)
+
+-- the box of columns within their limits is within the limits
+sides_small : (columns : List Column) → ((j : ℕ) (c : Column) → slice_get columns j ≡ Some c → IsColumn c) → (j : ℕ) → j < length columns
+    → (unsigned_abs (low_at (map (λ c. (c.lo, c.hi)) columns) j) ≤ 2 ^ 24) × (unsigned_abs (high_at (map (λ c. (c.lo, c.hi)) columns) j) ≤ 2 ^ 24)
+sides_small [] all j within = absurd (omega arith)
+sides_small (c ∷ cs) all zero within = let one = all 0 c refl in (one.lo, one.hi)
+sides_small (c ∷ cs) all (suc j) within = sides_small cs (λ k d e. all (suc k) d e) j (omega arith)
+
+-- the box of a program within its limits
+pub box_within : (m : Parts) → IsWithinLimits m → IsArea (length m.columns) (box_of m)
+box_within m limits = record {
+  size = length-map m.columns (λ (c : Column). (c.lo, c.hi));
+  low = λ j within. (sides_small m.columns limits.columns j within).0;
+  high = λ j within. (sides_small m.columns limits.columns j within).1;
+}

@@ -129,7 +129,7 @@ ceiling_below (negsuc a) (negsuc k) n h =
 not_below : (a b : ℤ) → b ≤ℤ a → lt_z a b ≡ false
 not_below a b h = grind (arith, ints)
 
-no_empty : (b : List (ℤ × ℤ)) (x : List ℤ) → IsIn b x → list_any is_empty_side b ≡ false
+pub no_empty : (b : List (ℤ × ℤ)) (x : List ℤ) → IsIn b x → list_any is_empty_side b ≡ false
 no_empty b x inside = list_any_none is_empty_side b (All-from_get_or (λ s. is_empty_side s ≡ false) b (pos 0, pos 0) (λ j l. let low = inside.low j l in let high = inside.high j l in not_below (high_at b j) (low_at b j) (omega (arith, ints))))
 
 -- the box sum is at most the cost

@@ -8,8 +8,7 @@ use leaf_cert::{Area, Bound, Memory, cert_ok, leaf_bound, scratch};
 use models::{ROWS, cert, model};
 use std::alloc::Global;
 use std::env::{self, Env};
-use std::io;
-use std::mem;
+use std::{io, mem};
 
 /// The last argument, and 1 where there is none.
 fn rounds(rt: &(impl Env + Alloc)) -> u32 {

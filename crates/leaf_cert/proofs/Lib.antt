@@ -1,4 +1,3 @@
-pub mod AreaLaws
 pub mod Ceilings
 pub mod OrderLaws
 pub mod PaymentLaws

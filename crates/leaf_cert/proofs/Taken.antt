@@ -1,22 +1,20 @@
 -- What multipliers take from costs, one multiplier at a time, and its size.
-use Rattle.std.specs.Prelude.{◌≡◌, ℕ, zero, suc, ◌+◌, ◌*◌, ◌^◌, ◌<◌, ◌≤◌, List, [], ◌∷◌, ◌++◌, length, take, slice_get, Some, None, Option, ℤ, pos, ◌+ℤ◌, ◌-ℤ◌, ◌*ℤ◌}
+use Rattle.std.specs.Prelude.{◌≡◌, ℕ, zero, suc, ◌+◌, ◌*◌, ◌^◌, ◌<◌, ◌≤◌, List, [], ◌∷◌, length, map, take, slice_get, Some, None, Option, ℤ, pos, ◌+ℤ◌, ◌-ℤ◌, ◌*ℤ◌}
 use Rattle.std.specs.Int.{int_min}
 use Rattle.std.specs.Int.RustNames.{unsigned_abs}
-use Rattle.std.proofs.Common.{arith, refl, ap, sym, ◌∙◌, get_or, subst, add-one}
+use Rattle.std.proofs.Common.{arith, refl, ap, subst, add-one}
 use Rattle.std.proofs.lemmas.Int.{ints}
 use Rattle.std.proofs.lemmas.List.{take_all}
 use Rattle.ip_defs.specs.declared.programs.Column.{Column}
 use Rattle.ip_defs.specs.declared.programs.Parts.{Parts}
 use Rattle.ip_defs.specs.declared.programs.Row.{Row}
-use Rattle.ip_defs.specs.Sums.{sum_over, sum_below}
+use Rattle.ip_defs.specs.Sums.{sum_below}
 use Rattle.ip_defs.specs.Program.{at, costs_of, coefficient, low_at, high_at}
 use Rattle.ip_defs.specs.Certificates.{coefs_of, entry, reduced, column_part}
-use Rattle.ip_defs.specs.Limits.{number_at, value_at, AreOrdered, AreSmall, IsWithinLimits}
+use Rattle.ip_defs.specs.Limits.{number_at, value_at, AreOrdered, AreSmall, IsColumn, IsWithinLimits}
 use Rattle.ip_defs.proofs.SumLaws.{sum_same}
-use Rattle.ip_model.proofs.PlaceLaws.{cost_of_column}
 use Rattle.ip_model.proofs.WalkLaws.{sum_over_more}
 use Rattle.leaf_cert.specs.Columns.{taken_of, least_part}
-use Rattle.leaf_cert.proofs.AreaLaws.{not_none}
 use Rattle.leaf_cert.proofs.Rows.{coefficient_small, length_below}
 use Rattle.leaf_cert.proofs.Steps.{size_of_product}
 
@@ -36,13 +34,14 @@ entry_small m i j limits = by (slice_get m.rows i) refl
         let all = take_all (length r.coefs) r.coefs (omega arith) in
         subst (λ ps. unsigned_abs (coefficient ps j) ≤ 2 ^ 40) all (coefficient_small (length m.columns) (2 ^ 40) r.coefs j (length r.coefs) shape.coefs row.coefs (omega arith))
 
+costs_small : (columns : List Column) → ((j : ℕ) (c : Column) → slice_get columns j ≡ Some c → IsColumn c) → (j : ℕ) → j < length columns → unsigned_abs (at (map (λ c. c.cost) columns) j) ≤ 2 ^ 40
+costs_small [] all j within = absurd (omega arith)
+costs_small (c ∷ cs) all zero within = (all 0 c refl).cost
+costs_small (c ∷ cs) all (suc j) within = costs_small cs (λ k d e. all (suc k) d e) j (omega arith)
+
 -- a cost of a program within its limits
 pub cost_small : (m : Parts) (j : ℕ) → IsWithinLimits m → j < length m.columns → unsigned_abs (at (costs_of m) j) ≤ 2 ^ 40
-cost_small m j limits within = by (slice_get m.columns j) refl
-  where
-    by : (found : Option Column) → slice_get m.columns j ≡ found → unsigned_abs (at (costs_of m) j) ≤ 2 ^ 40
-    by None e = absurd (not_none m.columns j within e)
-    by (Some c) e = rw (cost_of_column m j c e) (limits.columns j c e).cost
+cost_small m j limits within = costs_small m.columns limits.columns j within
 
 -- the size of what i multipliers take
 pub taken_small : (m : Parts) (y : List (ℕ × ℤ)) (i j : ℕ) → IsWithinLimits m → AreSmall (2 ^ 36) y → i ≤ length y → unsigned_abs (taken_of m.rows (take i y) j) ≤ i * 2 ^ 76

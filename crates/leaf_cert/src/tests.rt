@@ -48,10 +48,8 @@ fn area_ok(area: &Area, columns: usize) -> bool
     ensures { IsTrue result → IsArea columns area.now }
 {
     area.as_slice().len() == columns
-        && area
-            .as_slice()
-            .iter()
-            .all(|side| side.0.unsigned_abs() <= LARGEST_SIDE && side.1.unsigned_abs() <= LARGEST_SIDE)
+        && area.as_slice().iter().all(|side| side.0.unsigned_abs() <= LARGEST_SIDE
+            && side.1.unsigned_abs() <= LARGEST_SIDE)
 }
 
 /// The bound of a certificate over an area, where both are within the limits.
@@ -66,7 +64,13 @@ fn bound_over(model: &IntModel, cert: &Cert, area: &Area, scratch: &mut Scratch)
 }
 
 /// The bound over sides of a certificate with a divisor and multipliers.
-fn bound_of(alloc: Global, model: &IntModel, q: i64, y: &[(u32, i64)], sides: &[(i64, i64)]) -> Result<Option<Bound>, Memory> {
+fn bound_of(
+    alloc: Global,
+    model: &IntModel,
+    q: i64,
+    y: &[(u32, i64)],
+    sides: &[(i64, i64)],
+) -> Result<Option<Bound>, Memory> {
     let cert = Cert {
         q,
         y: Multipliers::from_vec(Vec::from_slice(alloc, y)?),
@@ -78,10 +82,29 @@ fn bound_of(alloc: Global, model: &IntModel, q: i64, y: &[(u32, i64)], sides: &[
 
 /// Least -5a - 4b - 3c where 2a + 3b + c <= 5, 4a + b + 2c <= 11 and 3a + 4b + 2c <= 8, from 0 to 10.
 fn three_rows(alloc: Global) -> Result<Option<IntModel>, Memory> {
-    let columns = vec![in alloc; column(alloc, -5, 0, 10), column(alloc, -4, 0, 10), column(alloc, -3, 0, 10)]?;
-    let first = row(alloc, vec![in alloc; (0, 2), (1, 3), (2, 1)]?, None, Some(5));
-    let second = row(alloc, vec![in alloc; (0, 4), (1, 1), (2, 2)]?, None, Some(11));
-    let third = row(alloc, vec![in alloc; (0, 3), (1, 4), (2, 2)]?, None, Some(8));
+    let columns = vec![in alloc;
+        column(alloc, -5, 0, 10),
+        column(alloc, -4, 0, 10),
+        column(alloc, -3, 0, 10),
+    ]?;
+    let first = row(
+        alloc,
+        vec![in alloc; (0, 2), (1, 3), (2, 1)]?,
+        None,
+        Some(5),
+    );
+    let second = row(
+        alloc,
+        vec![in alloc; (0, 4), (1, 1), (2, 2)]?,
+        None,
+        Some(11),
+    );
+    let third = row(
+        alloc,
+        vec![in alloc; (0, 3), (1, 4), (2, 2)]?,
+        None,
+        Some(8),
+    );
     Ok(model(alloc, 0, columns, vec![in alloc; first, second, third]?))
 }
 
@@ -182,7 +205,10 @@ fn greatest_numbers(rt: HostRuntime) -> Result<(), Memory> {
     let area = Area::from_vec(vec![in alloc; (-(1 << 24), 1 << 24); 4096]?);
     // 2^108 + 2^98 - (195 * 1025 + 3901) * 2^100, over 2^36
     let want = -814_079 * (1i128 << 62);
-    assert_eq!(rt; bound_over(&model, &cert, &area, &mut scratch), Some(Bound::At(want)));
+    assert_eq!(rt;
+        bound_over(&model, &cert, &area, &mut scratch),
+        Some(Bound::At(want))
+    );
     assert_eq!(rt; scratch.area.as_slice().len(), 4096);
     Ok(())
 }

@@ -1,4 +1,4 @@
-use Rattle.std.proofs.Common.{arith, rules, ◌≡◌, ◌∙◌, ◌<◌, to_z, of_z, pos, length, Some, refl, ap, sym}
+use Rattle.std.proofs.Common.{arith, rules, ◌≡◌, ◌∙◌, ◌<◌, to_z, of_z, length, Some, sym}
 use Rattle.std.specs.Prelude.{slice_get}
 use Rattle.std.specs.Int.{w128, w64}
 use mir.Val.{SFits}

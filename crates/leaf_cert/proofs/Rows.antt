@@ -9,6 +9,7 @@ use Rattle.std.proofs.lemmas.Grind.{common_steps}
 use Rattle.ip_defs.specs.Program.{at, coefficient}
 use Rattle.ip_defs.specs.Limits.{number_at, value_at, AreOrdered, AreSmall}
 use Rattle.std.specs.Int.RustNames.{unsigned_abs}
+use Rattle.ip_model.proofs.WalkLaws.{place_below}
 use Rattle.ring_laws.proofs.Products.{mul_add}
 
 append_step : (t : Bool) (a x y z : ℤ) → x ≡ y +ℤ z → cond t (a +ℤ x) x ≡ cond t (a +ℤ y) y +ℤ z
@@ -93,14 +94,6 @@ coefficient_small n s ps j (suc i) ordered few l = by (number_at ps i == j) refl
         let more' : coefficient (take (i + 1) ps) j ≡ coefficient (take i ps) j +ℤ pos 0 = more ∙ ap (λ t. coefficient (take i ps) j +ℤ cond t (value_at ps i) (pos 0)) e in
         let total : coefficient (take (i + 1) ps) j ≡ coefficient (take i ps) j = omega (arith, ints) in
         rw (← add-one) (rw total before)
-
--- a place is at most the number there, where numbers rise
-pub place_below : (ps : List (ℕ × ℤ)) (i : ℕ) → ((h k : ℕ) → h < k → k < length ps → number_at ps h < number_at ps k) → i < length ps → i ≤ number_at ps i
-place_below ps zero rising l = omega arith
-place_below ps (suc i) rising l =
-    let before = place_below ps i rising (omega arith) in
-    let more = rising i (suc i) (omega arith) l in
-    omega arith
 
 -- numbers that rise below n are at most n
 pub length_below : {A : Type 0} (ps : List (ℕ × ℤ)) (xs : List A) → ((h k : ℕ) → h < k → k < length ps → number_at ps h < number_at ps k) → ((i : ℕ) → i < length ps → number_at ps i < length xs) → length ps ≤ length xs

@@ -1,33 +1,26 @@
 -- What multipliers take from costs, one multiplier at a time, and its size.
-use Rattle.std.specs.Prelude.{◌≡◌, ℕ, zero, suc, ◌+◌, ◌*◌, ◌^◌, ◌<◌, ◌≤◌, List, [], ◌∷◌, ◌++◌, length, take, slice_get, Some, None, Option, ℤ, pos, ◌+ℤ◌, ◌-ℤ◌, ◌*ℤ◌}
+use Rattle.std.specs.Prelude.{◌≡◌, ℕ, zero, suc, ◌+◌, ◌*◌, ◌^◌, ◌<◌, ◌≤◌, List, [], ◌∷◌, length, map, take, slice_get, Some, None, Option, ℤ, pos, ◌+ℤ◌, ◌-ℤ◌, ◌*ℤ◌}
 use Rattle.std.specs.Int.{int_min}
 use Rattle.std.specs.Int.RustNames.{unsigned_abs}
-use Rattle.std.proofs.Common.{arith, refl, ap, sym, ◌∙◌, get_or, subst, add-one}
+use Rattle.std.proofs.Common.{arith, refl, ap, subst, add-one}
 use Rattle.std.proofs.lemmas.Int.{ints}
-use Rattle.std.proofs.lemmas.List.{take_more, take_all, get_or-map}
-use Rattle.std.proofs.lemmas.Option.{none-some, slice_get-get_or, get_or_from_slice_get}
+use Rattle.std.proofs.lemmas.List.{take_all}
 use Rattle.ip_defs.specs.declared.programs.Column.{Column}
 use Rattle.ip_defs.specs.declared.programs.Parts.{Parts}
 use Rattle.ip_defs.specs.declared.programs.Row.{Row}
-use Rattle.ip_defs.specs.Sums.{sum_over, sum_below}
+use Rattle.ip_defs.specs.Sums.{sum_below}
 use Rattle.ip_defs.specs.Program.{at, costs_of, coefficient, low_at, high_at}
 use Rattle.ip_defs.specs.Certificates.{coefs_of, entry, reduced, column_part}
-use Rattle.ip_defs.specs.Limits.{number_at, value_at, AreOrdered, AreSmall, IsWithinLimits}
+use Rattle.ip_defs.specs.Limits.{number_at, value_at, AreOrdered, AreSmall, IsColumn, IsWithinLimits}
 use Rattle.ip_defs.proofs.SumLaws.{sum_same}
+use Rattle.ip_model.proofs.WalkLaws.{sum_over_more}
 use Rattle.leaf_cert.specs.Columns.{taken_of, least_part}
 use Rattle.leaf_cert.proofs.Rows.{coefficient_small, length_below}
 use Rattle.leaf_cert.proofs.Steps.{size_of_product}
 
-pub sum_over-append : {A : Type 0} (f : A → ℤ) (xs ys : List A) → sum_over f (xs ++ ys) ≡ sum_over f xs +ℤ sum_over f ys
-sum_over-append f [] ys = omega (arith, ints)
-sum_over-append f (x ∷ xs) ys = let rest = sum_over-append f xs ys in omega (arith, ints)
-
 -- one more multiplier
 pub taken_more : (rows : List Row) (y : List (ℕ × ℤ)) (i j : ℕ) → i < length y → taken_of rows (take (i + 1) y) j ≡ taken_of rows (take i y) j +ℤ value_at y i *ℤ entry rows (number_at y i) j
-taken_more rows y i j l =
-    let f : ℕ × ℤ → ℤ = λ p. p.1 *ℤ entry rows p.0 j in
-    let more = ap (sum_over f) (take_more y i (0, pos 0) l) ∙ sum_over-append f (take i y) (get_or y i (0, pos 0) ∷ []) in
-    omega (arith, ints)
+taken_more rows y i j l = sum_over_more (λ p. p.1 *ℤ entry rows p.0 j) y i (0, pos 0) l
 
 -- an entry of a program within its limits
 pub entry_small : (m : Parts) (i j : ℕ) → IsWithinLimits m → unsigned_abs (entry m.rows i j) ≤ 2 ^ 40
@@ -41,20 +34,14 @@ entry_small m i j limits = by (slice_get m.rows i) refl
         let all = take_all (length r.coefs) r.coefs (omega arith) in
         subst (λ ps. unsigned_abs (coefficient ps j) ≤ 2 ^ 40) all (coefficient_small (length m.columns) (2 ^ 40) r.coefs j (length r.coefs) shape.coefs row.coefs (omega arith))
 
--- a place within a list has an element
-not_none : {A : Type 0} (xs : List A) (i : ℕ) → i < length xs → slice_get xs i ≡ None → ⊥
-not_none [] i l e = omega arith
-not_none (x ∷ xs) i l e = none-some (get_or (x ∷ xs) i x) (sym e ∙ slice_get-get_or (x ∷ xs) i x l)
+costs_small : (columns : List Column) → ((j : ℕ) (c : Column) → slice_get columns j ≡ Some c → IsColumn c) → (j : ℕ) → j < length columns → unsigned_abs (at (map (λ c. c.cost) columns) j) ≤ 2 ^ 40
+costs_small [] all j within = absurd (omega arith)
+costs_small (c ∷ cs) all zero within = (all 0 c refl).cost
+costs_small (c ∷ cs) all (suc j) within = costs_small cs (λ k d e. all (suc k) d e) j (omega arith)
 
 -- a cost of a program within its limits
 pub cost_small : (m : Parts) (j : ℕ) → IsWithinLimits m → j < length m.columns → unsigned_abs (at (costs_of m) j) ≤ 2 ^ 40
-cost_small m j limits within = by (slice_get m.columns j) refl
-  where
-    by : (found : Option Column) → slice_get m.columns j ≡ found → unsigned_abs (at (costs_of m) j) ≤ 2 ^ 40
-    by None e = absurd (not_none m.columns j within e)
-    by (Some c) e =
-        let read : at (costs_of m) j ≡ c.cost = get_or-map (λ c. c.cost) m.columns j c (pos 0) within ∙ ap (λ c. c.cost) (get_or_from_slice_get m.columns j c c e) in
-        rw read (limits.columns j c e).cost
+cost_small m j limits within = costs_small m.columns limits.columns j within
 
 -- the size of what i multipliers take
 pub taken_small : (m : Parts) (y : List (ℕ × ℤ)) (i j : ℕ) → IsWithinLimits m → AreSmall (2 ^ 36) y → i ≤ length y → unsigned_abs (taken_of m.rows (take i y) j) ≤ i * 2 ^ 76

@@ -28,6 +28,7 @@ pub fn clear(taken: &mut [i128])
 }
 
 /// A number and a product.
+#[inline]
 fn plus_product(total: i128, multiplier: i64, coefficient: i64) -> i128
     requires { unsigned_abs total ≤ 2 ^ 125 }
     ensures { result ≡ total +ℤ multiplier *ℤ coefficient }
@@ -67,6 +68,7 @@ pub fn take_rows(parts: &Parts, y: &[(u32, i64)], taken: &mut [i128])
 }
 
 /// What is left of a column's cost.
+#[inline]
 fn reduced_cost(q: i64, cost: i64, taken: i128) -> i128
     requires q_small { unsigned_abs q ≤ 2 ^ 36 }
     requires cost_small { unsigned_abs cost ≤ 2 ^ 40 }
@@ -78,6 +80,7 @@ fn reduced_cost(q: i64, cost: i64, taken: i128) -> i128
 }
 
 /// The lesser of two products.
+#[inline]
 fn lesser_end(reduced: i128, low: i64, high: i64) -> i128
     requires reduced_small { unsigned_abs reduced ≤ 2 ^ 87 }
     requires low_small { unsigned_abs low ≤ 2 ^ 24 }

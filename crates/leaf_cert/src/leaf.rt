@@ -90,8 +90,8 @@ fn bound_of(parts: &Parts, cert: &Cert, area: &[(i64, i64)], taken: &mut [i128])
 /// The bound of a leaf: each feasible point of the model that lies in the area costs at least it, and where it is infinite there is
 /// no such point. Takes no memory and leaves the box of the scratch alone.
 ///
-/// It is infinite where a column of the area is empty. Where each multiplier's row has the side that it pays, a positive `q` divides the dual
-/// value, rounded up, and a ray with a positive dual value is infinite. In each other case it is the sum of the box alone.
+/// It is infinite where a column of the area is empty. Where each multiplier's row has the side that it pays, a positive `q` divides
+/// the dual value, rounded up, and a ray with a positive dual value is infinite. In each other case it is the sum of the box alone.
 pub fn leaf_bound(model: &IntModel, cert: &Cert, area: &Area, scratch: &mut Scratch) -> Bound
     requires cert { IsCert (length model.now.rows) cert.now }
     requires area { IsArea (length model.now.columns) area.now }

@@ -7,6 +7,8 @@ mod leaf;
 mod payments;
 mod room;
 mod scratches;
+#[cfg(test)]
+mod tests;
 mod wide;
 
 pub use certs::cert_ok;

@@ -4,6 +4,7 @@ ghost use Rattle.std.specs.Int.RustNames.{FitsSigned, int_div, unsigned_abs};
 ghost use Rattle.ip_defs.specs.Certificates.{ceiling};
 
 /// A product that fits.
+#[inline]
 pub fn product(a: i128, b: i128) -> i128
     requires { FitsSigned w128 (a *ℤ b) }
     ensures { result ≡ a *ℤ b }
@@ -12,6 +13,7 @@ pub fn product(a: i128, b: i128) -> i128
 }
 
 /// A sum that fits.
+#[inline]
 pub fn total_of(a: i128, b: i128) -> i128
     requires { FitsSigned w128 (a +ℤ b) }
     ensures { result ≡ a +ℤ b }
@@ -20,6 +22,7 @@ pub fn total_of(a: i128, b: i128) -> i128
 }
 
 /// A difference that fits.
+#[inline]
 pub fn difference(a: i128, b: i128) -> i128
     requires { FitsSigned w128 (a -ℤ b) }
     ensures { result ≡ a -ℤ b }
@@ -28,6 +31,7 @@ pub fn difference(a: i128, b: i128) -> i128
 }
 
 /// A quotient by a positive number, rounded toward zero.
+#[inline]
 fn quotient(a: i128, b: i128) -> i128
     requires { pos 0 <ℤ b }
     ensures { result ≡ int_div a b }

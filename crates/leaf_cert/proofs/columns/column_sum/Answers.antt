@@ -1,10 +1,9 @@
-use Rattle.std.proofs.Common.{arith, rules, ◌≡◌, ◌∙◌, ◌<◌, to_z, of_z, pos, length, Some, refl, ap, sym}
+use Rattle.std.proofs.Common.{arith, rules, ◌≡◌, ◌∙◌, ◌<◌, to_z, of_z, length, Some, sym}
 use Rattle.std.specs.Prelude.{slice_get}
 use Rattle.std.specs.Int.{w128, w64}
 use mir.Val.{SFits}
 use Rattle.std.proofs.lemmas.Int.{ints, to_z-of_z}
-use Rattle.std.proofs.lemmas.List.{get_or-map}
-use Rattle.std.proofs.lemmas.Option.{slice_get_read}
+use Rattle.ip_model.proofs.PlaceLaws.{read_at, cost_of_column}
 use Rattle.ip_defs.specs.Program.{at, low_at, high_at, costs_of}
 use Rattle.leaf_cert.specs.Columns.{least_part}
 use Rattle.leaf_cert.proofs.Taken.{sum_step}
@@ -17,7 +16,7 @@ reduced_cost-reduced-requires-clause-cost_small c =
     let j = c.loop-j.j in
     let column = c.index-columns-j.result in
     let inside : j < length m.columns = omega (arith, c.requires.sides.size) in
-    let found : slice_get m.columns j ≡ Some column = slice_get_read m.columns (length m.columns) j column refl inside (rw c.as_slice-columns.ensures at c.index-columns-j.is) in
+    let found : slice_get m.columns j ≡ Some column = read_at m.columns c.as_slice-columns.result.now j column c.as_slice-columns.ensures (rw c.as_slice-columns.ensures inside) c.index-columns-j.is in
     let small = (c.requires.limits.columns j column found).cost in
     rw (← c.index-columns-j.is) (omega (arith, ints))
 
@@ -50,7 +49,8 @@ loop-j-preserved c =
     let read_d = to_z-of_z w128 (at d j) fits_d in
     let read_low = to_z-of_z w64 (low_at area j) fits_low in
     let read_high = to_z-of_z w64 (high_at area j) fits_high in
-    let cost : column.cost ≡ at (costs_of m) j = ap (λ c. c.cost) (rw c.as_slice-columns.ensures at c.index-columns-j.is) ∙ sym (get_or-map (λ c. c.cost) m.columns j column (pos 0) inside) in
+    let found : slice_get m.columns j ≡ Some column = read_at m.columns c.as_slice-columns.result.now j column c.as_slice-columns.ensures (rw c.as_slice-columns.ensures inside) c.index-columns-j.is in
+    let cost = sym (cost_of_column m j column found) in
     let reduced = rw (← c.index-columns-j.is, read_cost, read_d, cost) at c.reduced_cost-reduced.ensures.value in
     let is = rw (back'', read_low, read_high, reduced) at c.lesser_end.ensures.lesser in
     let added = rw back' at c.total_of-total.ensures in

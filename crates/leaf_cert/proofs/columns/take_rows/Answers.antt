@@ -8,7 +8,7 @@ use Rattle.std.proofs.lemmas.Option.{slice_get_read}
 use Rattle.ip_defs.specs.Program.{coefficient}
 use Rattle.ip_defs.specs.Certificates.{entry, coefs_of}
 use Rattle.ip_defs.specs.Limits.{number_at, value_at}
-use Rattle.leaf_cert.proofs.Rows.{place_below}
+use Rattle.ip_model.proofs.WalkLaws.{place_below}
 use Rattle.leaf_cert.proofs.Taken.{taken_small, taken_more}
 use Rattle.leaf_cert.proofs.columns.take_rows.Goals as goal
 

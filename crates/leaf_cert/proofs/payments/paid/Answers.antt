@@ -6,7 +6,8 @@ use mir.Val.{SFits}
 use Rattle.std.proofs.lemmas.Int.{ints, to_z-of_z}
 use Rattle.ip_defs.specs.Certificates.{pay, payment}
 use Rattle.ip_defs.specs.Limits.{value_at}
-use Rattle.leaf_cert.proofs.Rows.{place_below, length_below}
+use Rattle.ip_model.proofs.WalkLaws.{place_below}
+use Rattle.leaf_cert.proofs.Rows.{length_below}
 use Rattle.leaf_cert.proofs.PaymentLaws.{pay_next, so_far, onto}
 use Rattle.leaf_cert.proofs.payments.paid.Goals as goal
 

@@ -5,6 +5,8 @@ mod boxes;
 mod messages;
 mod runs;
 mod search;
+#[cfg(test)]
+mod tests;
 mod words;
 
 pub use ip_defs::{Request, Status};

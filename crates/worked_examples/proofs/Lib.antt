@@ -1,0 +1,4 @@
+pub mod AnswerExamples
+pub mod NumberExamples
+pub mod ProgramExamples
+pub mod TextExamples

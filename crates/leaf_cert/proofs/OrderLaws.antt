@@ -1,10 +1,22 @@
 -- Multipliers in order, one more at a time.
-use Rattle.std.specs.Prelude.{◌≡◌, ◌≢◌, ℕ, zero, suc, ◌+◌, ◌^◌, ◌<◌, ◌≤◌, ◌==◌, Bool, true, false, List, length, ℤ, pos}
+use Rattle.std.specs.Prelude.{◌≡◌, ◌≢◌, ℕ, zero, suc, ◌+◌, ◌^◌, ◌<◌, ◌≤◌, ◌==◌, Bool, true, false, List, ℤ, pos}
 use Rattle.std.specs.Int.RustNames.{unsigned_abs}
 use Rattle.std.proofs.Common.{arith, refl, subst, ap, sym, add-one, below_more}
 use Rattle.std.proofs.lemmas.Bool.{eqb-true, eqb-false}
-use Rattle.ip_defs.specs.Limits.{number_at, value_at, AreOrdered, AreSmall}
-use Rattle.leaf_cert.specs.Multipliers.{IsNext, least_after, AreFirst}
+use Rattle.ip_defs.specs.Limits.{number_at, value_at}
+use Rattle.leaf_cert.specs.Multipliers.{IsNext}
+
+-- the first row that is free after so many pairs
+abbrev pub least_after : List (ℕ × ℤ) → ℕ → ℕ
+least_after ps zero = 0
+least_after ps (suc i) = number_at ps i + 1
+
+-- so many pairs of a list are in order and within the limit
+pub record AreFirst (ps : List (ℕ × ℤ)) (rows count : ℕ) : Type 0 where
+  pub rising : (i k : ℕ) → i < k → k < count → number_at ps i < number_at ps k
+  pub within : (i : ℕ) → i < count → number_at ps i < rows
+  pub present : (i : ℕ) → i < count → value_at ps i ≢ pos 0
+  pub small : (i : ℕ) → i < count → unsigned_abs (value_at ps i) ≤ 2 ^ 36
 
 -- one more pair takes its row
 pub least_more : (ps : List (ℕ × ℤ)) (i : ℕ) → number_at ps i + 1 ≡ least_after ps (i + 1)
@@ -39,11 +51,3 @@ first_more ps rows i before next = record {
         let P : ℕ → Type 0 = λ j. number_at ps h < number_at ps j in
         subst P (sym same) (omega arith)
     by h k below l false e = let apart = eqb-false k i e in before.rising h k below (omega arith)
-
--- a pair of a list in order may stand next
-pub next_of : (ps : List (ℕ × ℤ)) (rows i : ℕ) → AreOrdered rows ps → AreSmall (2 ^ 36) ps → i < length ps → IsNext (least_after ps i) (number_at ps i) (value_at ps i) rows
-next_of ps rows i ordered small l = record { free = by i l; within = ordered.within i l; present = ordered.present i l; small = small i l }
-  where
-    by : (i : ℕ) → i < length ps → least_after ps i ≤ number_at ps i
-    by zero l = omega arith
-    by (suc i) l = let rises = ordered.rising i (suc i) (omega arith) l in omega arith

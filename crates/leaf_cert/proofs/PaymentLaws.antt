@@ -21,10 +21,6 @@ pub so_far : (total one : ℤ) (rest : Option ℤ) → option_map (λ r. total +
 so_far total one None = refl
 so_far total one (Some r) = ap Some (sym (+ℤ_assoc total one r))
 
--- one payment, where the row and its side are there
-pub one_payment : (rows : List Row) (p : ℕ × ℤ) (r : Row) (side : ℤ) → slice_get rows p.0 ≡ Some r → side_for p.1 r ≡ Some side → payment rows p ≡ Some (p.1 *ℤ side)
-one_payment rows p r side found has = ap (λ o. option_map (λ s. p.1 *ℤ s) (option_and_then (side_for p.1) o)) found ∙ ap (option_map (λ s. p.1 *ℤ s)) has
-
 -- no payment, where the side is not there
 pub no_payment : (rows : List Row) (p : ℕ × ℤ) (r : Row) → slice_get rows p.0 ≡ Some r → side_for p.1 r ≡ None → payment rows p ≡ None
 no_payment rows p r found has = ap (λ o. option_map (λ s. p.1 *ℤ s) (option_and_then (side_for p.1) o)) found ∙ ap (option_map (λ s. p.1 *ℤ s)) has

@@ -1,5 +1,5 @@
 use Rattle.std.proofs.Common.{◌≡◌}
-use Rattle.leaf_cert.specs.Multipliers.{least_after, AreFirst}
+use Rattle.leaf_cert.proofs.OrderLaws.{least_after, AreFirst}
 use Rattle.leaf_cert.proofs.certs.multipliers_ok.Given as goal
 
 abbrev pub invariant-loop-row : goal.invariant-loop-row

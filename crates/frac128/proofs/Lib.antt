@@ -1,0 +1,6 @@
+pub mod GcdLaws
+pub mod Quotients
+pub mod Rationals
+pub mod Order
+pub mod Fractions
+pub mod FractionLaws

@@ -1,0 +1,5 @@
+pub mod Fractions
+pub mod Gcd
+pub mod LowestTerms
+pub mod Rationals
+pub mod Values

@@ -1,0 +1,18 @@
+//! Exact fractions with parts of 128 bits.
+//!
+//! A [`Frac`] is in lowest terms. An operation answers the exact reduced fraction, or [`Wide`] where a number on the way to it leaves
+//! **the range**, from -(2^127 - 1) to 2^127 - 1. Nothing is rounded, and nothing takes memory.
+#![tactic(auto)]
+
+mod checked;
+mod divisors;
+mod fraction;
+mod making;
+mod sums;
+mod products;
+
+pub use divisors::gcd;
+pub use fraction::{Frac, Wide};
+pub use making::frac;
+pub use sums::{add, sub};
+pub use products::{div, mul};

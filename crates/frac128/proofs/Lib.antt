@@ -1,3 +1,5 @@
+pub mod ComparisonLaws
+pub mod DivisionLaws
 pub mod GcdLaws
 pub mod Quotients
 pub mod Rationals

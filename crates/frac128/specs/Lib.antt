@@ -1,3 +1,4 @@
+pub mod Division
 pub mod Fractions
 pub mod Gcd
 pub mod LowestTerms

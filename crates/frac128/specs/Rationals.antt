@@ -1,5 +1,5 @@
 -- Rational numbers as fractions in lowest terms, so that two are equal where their parts are, with their operations.
-use Rattle.std.specs.Prelude.{◌≡◌, ℕ, zero, suc, ◌+◌, ◌*◌, ◌/◌, ◌-◌, ℤ, pos, negsuc, neg_ℤ, ◌+ℤ◌, ◌-ℤ◌, ◌*ℤ◌, ◌≤ℤ◌, unsigned_abs}
+use Rattle.std.specs.Prelude.{◌≡◌, ◌≢◌, ℕ, zero, suc, ◌+◌, ◌*◌, ◌/◌, ◌-◌, ℤ, pos, negsuc, neg_ℤ, ◌+ℤ◌, ◌-ℤ◌, ◌*ℤ◌, ◌≤ℤ◌, unsigned_abs}
 use Rattle.frac128.specs.Gcd.{gcd}
 use Rattle.frac128.specs.LowestTerms.{divided, over-lowest}
 
@@ -70,3 +70,6 @@ NotNegative p = pos 0 ≤ℤ p.top
 
 abbrev pub AtMost : Rational → Rational → Type 0
 AtMost p q = NotNegative (sub q p)
+
+abbrev pub IsBelow : Rational → Rational → Type 0
+IsBelow p q = AtMost p q × (p ≢ q)

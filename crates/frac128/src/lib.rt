@@ -5,12 +5,16 @@
 #![tactic(auto)]
 
 mod checked;
+mod comparison;
+mod division;
 mod divisors;
 mod fraction;
 mod making;
 mod sums;
 mod products;
 
+pub use comparison::cmp;
+pub use division::{ceil_div, floor_div};
 pub use divisors::gcd;
 pub use fraction::{Frac, Wide};
 pub use making::frac;

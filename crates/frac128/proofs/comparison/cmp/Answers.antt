@@ -1,0 +1,7 @@
+use Rattle.std.proofs.Common.{◌≡◌}
+use Rattle.frac128.specs.Fractions.{IsFraction}
+use Rattle.frac128.proofs.ComparisonLaws.{cross-order}
+use Rattle.frac128.proofs.comparison.cmp.Goals as goal
+
+pub returns-clause-order : goal.returns-clause-order
+returns-clause-order c = cross-order c.args.a c.args.c c.general_comparison.ensures.first c.general_comparison.ensures.second c.general_comparison.result c.general_comparison.ensures.exact

@@ -14,26 +14,17 @@ use Rattle.frac128.specs.Fractions.{Fraction, IsFraction, in_range, within, shar
 use Rattle.frac128.specs.Values.{value_of, IsSum, IsDifference, IsProduct, IsQuotient}
 use Rattle.frac128.proofs.Fractions.{product_is, sum_is, S-of, lowest-is}
 use borrow.Author.Tests.{ltb-true}
-use Rattle.frac128.proofs.GcdLaws.{gcd-is, gcd-mul, gcd-positive, coprime-mul}
-use Rattle.frac128.proofs.Rationals.{euclid, divided-is, same, neg-over, sub_is}
+use Rattle.frac128.proofs.GcdLaws.{gcd-is, gcd-mul, gcd-positive, gcd_comm, coprime-mul, coprime-divisors, gcd-skip}
+use Rattle.frac128.proofs.Rationals.{divided-is, same, neg-over, sub_is}
 use Rattle.frac128.specs.Rationals.{Rational, S, over, add, sub, mul, neg, inverse, inverse_of, rational}
 
 -- ---- divisors
-pub gcd_comm : (a b : ℕ) → gcd a b ≡ gcd b a
-gcd_comm a b = same_from_IsGcd b a (gcd a b) (gcd b a) (IsGcd-swap a b (gcd a b) (gcd-is a b)) (gcd-is b a)
-
 -- the second number is its quotient times the shared factor, and so is the first
 pub shared-first : (m n : ℤ) → shared m n *ℤ int_div m (shared m n) ≡ m
 shared-first m n = divided-is (gcd (unsigned_abs m) (unsigned_abs n)) m (gcd-is (unsigned_abs m) (unsigned_abs n)).0
 
 pub shared-second : (m n : ℤ) → shared m n *ℤ int_div n (shared m n) ≡ n
 shared-second m n = divided-is (gcd (unsigned_abs m) (unsigned_abs n)) n (gcd-is (unsigned_abs m) (unsigned_abs n)).1
-
--- divisors of coprime numbers are coprime
-pub coprime-divisors : (a b m n : ℕ) → gcd a b ≡ 1 → m ∣ a → n ∣ b → gcd m n ≡ 1
-coprime-divisors a b m n one x y =
-    let both = gcd-is m n in
-    dvd-one.0 (subst (λ z. gcd m n ∣ z) one ((gcd-is a b).2 (gcd m n) (dvd_trans (gcd m n) both.0 x) (dvd_trans (gcd m n) both.1 y)))
 
 quotient-divides : (g n : ℕ) → g ∣ n → n / g ∣ n
 quotient-divides g n d = subst (λ z. n / g ∣ z) (mul-div_cancel' g d) (dvd-mul_left (n / g) g)

@@ -1,3 +1,4 @@
+pub mod BinaryGcdLaws
 pub mod ComparisonLaws
 pub mod DivisionLaws
 pub mod GcdLaws

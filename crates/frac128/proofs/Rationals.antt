@@ -9,6 +9,7 @@ use Rattle.std.proofs.lemmas.Nat.Gcd.{dvd_antisymm}
 use Rattle.frac128.specs.Gcd.{gcd}
 pub use Rattle.frac128.specs.Rationals.{Rational, bottom, made}
 unfoldable pub use Rattle.frac128.specs.Rationals.{S, over, both, of, add, sub, mul, neg}
+use Rattle.frac128.proofs.GcdLaws.{euclid}
 use Rattle.frac128.specs.LowestTerms.{gcd-is, gcd-mul, divided, quotients, positive_quotient, over-lowest}
 use Rattle.ring_laws.proofs.Products.{mul_sub}
 use Rattle.ring_laws.proofs.Rings.{Ring, whole}
@@ -16,12 +17,6 @@ use Rattle.ring_laws.proofs.Normal.{num, var, ◌⊕◌, ◌⊖◌, ◌⊗◌, m
 use Rattle.ring_laws.proofs.Named.{ring2, ring3, ring4, ring5, ring6}
 
 -- ---- lowest terms
--- what has no factor in common with the one factor divides the other
-pub euclid : (a b k : ℕ) → 0 < k → gcd b a ≡ 1 → a ∣ b * k → a ∣ k
-euclid a b k p one d =
-    let all : gcd (k * b) (k * a) ≡ k = gcd-mul k b a p ∙ ap (λ z. k * z) one ∙ omega arith in
-    subst (λ z. a ∣ z) all ((gcd-is (k * b) (k * a)).2 a (subst (λ z. a ∣ z) (mul_comm b k) d) (dvd-mul_left a k))
-
 -- a quotient by a divisor is exact
 pub divided-is : (g : ℕ) (a : ℤ) → g ∣ unsigned_abs a → pos g *ℤ divided a g ≡ a
 divided-is g (pos n) d = let e = mul-div_cancel' g d in omega (arith, ints)

@@ -11,6 +11,7 @@ mod divisors;
 mod fraction;
 mod making;
 mod sums;
+mod words;
 mod products;
 
 pub use comparison::cmp;

@@ -26,7 +26,7 @@ shared-first m n = divided-is (gcd (unsigned_abs m) (unsigned_abs n)) m (gcd-is 
 pub shared-second : (m n : ℤ) → shared m n *ℤ int_div n (shared m n) ≡ n
 shared-second m n = divided-is (gcd (unsigned_abs m) (unsigned_abs n)) n (gcd-is (unsigned_abs m) (unsigned_abs n)).1
 
-quotient-divides : (g n : ℕ) → g ∣ n → n / g ∣ n
+pub quotient-divides : (g n : ℕ) → g ∣ n → n / g ∣ n
 quotient-divides g n d = subst (λ z. n / g ∣ z) (mul-div_cancel' g d) (dvd-mul_left (n / g) g)
 
 -- ---- in lowest terms

@@ -15,6 +15,11 @@ pub record IsFraction (num den : ℤ) : Type 0 where
   pub den_fits : unsigned_abs den < 2 ^ 127
   pub lowest : gcd (unsigned_abs num) (unsigned_abs den) ≡ 1
 
+-- both parts have 63 bits at most
+pub record IsSmall (x : Fraction) : Type 0 where
+  pub num : unsigned_abs x.num < 2 ^ 63
+  pub den : unsigned_abs x.den < 2 ^ 63
+
 -- the number lies between -(2^127 - 1) and 2^127 - 1
 abbrev pub in_range : ℤ → Bool
 in_range z = nat_lt (unsigned_abs z) (2 ^ 127)

@@ -10,6 +10,7 @@ mod division;
 mod divisors;
 mod fraction;
 mod making;
+mod small;
 mod sums;
 mod words;
 mod products;

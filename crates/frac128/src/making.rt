@@ -5,6 +5,7 @@ use crate::Frac;
 use crate::checked::over;
 use crate::divisors::shared;
 use crate::fraction::fraction_of;
+use crate::words::over_word;
 
 /// The fraction num / den in lowest terms. The denominator is not 0, and neither number is the least `i128`.
 pub fn frac(num: i128, den: i128) -> Frac
@@ -30,7 +31,7 @@ pub fn lowest(num: i128, den: i128) -> Frac
 
 /// The fraction num / den with both parts divided by their greatest common divisor.
 #[inline]
-pub fn divided(num: i128, den: i128, factor: i128) -> Frac
+fn divided(num: i128, den: i128, factor: i128) -> Frac
     requires positive { pos 0 <ℤ den }
     requires num_fits { unsigned_abs num < 2 ^ 127 }
     requires factor { factor ≡ shared_by num den }
@@ -39,4 +40,16 @@ pub fn divided(num: i128, den: i128, factor: i128) -> Frac
     ensures equal { result.num *ℤ den ≡ num *ℤ result.den }
 {
     fraction_of(over(num, factor), over(den, factor))
+}
+
+/// The same, where the divisor is a word.
+#[inline]
+pub fn divided_by_word(num: i128, den: i128, factor: i64) -> Frac
+    requires positive { pos 0 <ℤ den }
+    requires num_fits { unsigned_abs num < 2 ^ 127 }
+    requires factor { factor ≡ shared_by num den }
+    requires factor_positive { pos 0 <ℤ factor }
+    ensures { result ≡ lowest_of num den }
+{
+    fraction_of(over_word(num, factor), over_word(den, factor))
 }

@@ -1,3 +1,4 @@
+pub mod WholeLaws
 pub mod SharedLaws
 pub mod BinaryGcdLaws
 pub mod ComparisonLaws

@@ -1,10 +1,10 @@
-use Rattle.std.proofs.Common.{rules, ◌≡◌, ◌≢◌, pos, IfOk, Result, Ok, Err, subst, sym}
-use Rattle.frac128.specs.Fractions.{Fraction, IsFraction, reciprocal_of}
-use Rattle.frac128.specs.Values.{IsProduct, IsQuotient}
-use Rattle.frac128.specs.declared.fraction.Wide.{Wide}
-use Rattle.frac128.proofs.FractionLaws.{IfOk-quotient}
+use Rattle.std.proofs.Common.{IfOk, sym, subst}
+use Rattle.frac128.specs.Fractions.{Fraction}
+use Rattle.frac128.specs.Values.{IsProduct}
+use Rattle.frac128.proofs.FractionLaws.{IfOk-quotient, product-exact}
 use Rattle.frac128.proofs.products.div.Goals as goal
 
 pub returns-clause-value : goal.returns-clause-value
 returns-clause-value c =
-    IfOk-quotient c.args.a c.args.c c.general_product.result c.reciprocal.ensures.fraction c.requires (subst (λ y. IfOk c.general_product.result (IsProduct c.args.a y)) c.reciprocal.ensures.value c.general_product.ensures.value)
+    let exact = subst (λ r. IfOk r (IsProduct c.args.a c.reciprocal.result)) (sym c.product.ensures.exact) (product-exact c.args.a c.reciprocal.result c.product.ensures.first c.product.ensures.second) in
+    IfOk-quotient c.args.a c.args.c c.product.result c.reciprocal.ensures.fraction c.requires (subst (λ (y : Fraction). IfOk c.product.result (IsProduct c.args.a y)) c.reciprocal.ensures.value exact)

@@ -1,8 +1,7 @@
 use Rattle.std.proofs.Common.{arith, rules, ◌≡◌, ℕ, ◌∙◌, ap, sym, subst, ◌<◌, ◌^◌, ◌<ℤ◌, ◌+ℤ◌, ◌*ℤ◌, pos, int_div, unsigned_abs, to_z, of_z, IfOk, Some, None, Ok}
 use Rattle.std.specs.Int.{w128}
 use Rattle.frac128.specs.Fractions.{Fraction, sum_of, IsFraction, within, shared}
-use Rattle.frac128.specs.Values.{IsSum}
-use Rattle.frac128.proofs.FractionLaws.{sum_den, sum_num, sum-positive, sum-exact, within-some, sum-made, sum-wide}
+use Rattle.frac128.proofs.FractionLaws.{sum_den, sum_num, sum-positive, within-some, sum-made, sum-wide}
 use Rattle.frac128.proofs.sums.general_sum.Goals as goal
 
 pub lowest-requires-clause-positive : goal.lowest-requires-clause-positive
@@ -18,27 +17,22 @@ lowest-requires-clause-num_fits c =
     let is : within sum ≡ Some (to_z w128 (of_z w128 c.in-Some.num)) = search rules in
     (within-some sum _ is).1
 
-pub returns-in-Some-clause-exact : goal.returns-in-Some-clause-exact
-returns-in-Some-clause-exact c =
+pub returns-in-Some : goal.returns-in-Some
+returns-in-Some c =
     let left : within (c.args.a.num *ℤ int_div c.args.c.den (shared c.args.a.den c.args.c.den)) ≡ Some (to_z w128 (of_z w128 c.in-Some-Some-Some.left)) = search rules in
     let right : within (c.args.c.num *ℤ int_div c.args.a.den (shared c.args.a.den c.args.c.den)) ≡ Some (to_z w128 (of_z w128 c.in-Some-Some-Some.right)) = search rules in
     let num : within (to_z w128 (of_z w128 c.in-Some-Some-Some.left) +ℤ to_z w128 (of_z w128 c.in-Some-Some-Some.right)) ≡ Some (to_z w128 (of_z w128 c.in-Some.num)) = search rules in
     let den : within (int_div c.args.a.den (shared c.args.a.den c.args.c.den) *ℤ c.args.c.den) ≡ Some (to_z w128 (of_z w128 c.in-Some-Some-Some.den)) = search rules in
     ap (λ (r : Fraction). Ok r) c.lowest.ensures.value ∙ sym (sum-made c.args.a c.args.c _ _ left right _ _ num den)
 
-pub returns-in-Some-clause-value : goal.returns-in-Some-clause-value
-returns-in-Some-clause-value c =
-    let first : IsFraction c.args.a.num c.args.a.den = search rules in
-    let second : IsFraction c.args.c.num c.args.c.den = search rules in
-    subst (λ r. IfOk r (IsSum c.args.a c.args.c)) (sym (returns-in-Some-clause-exact c)) (sum-exact c.args.a c.args.c first second)
 
-pub returns-in-None-clause-exact : goal.returns-in-None-clause-exact
-returns-in-None-clause-exact c =
+pub returns-in-None : goal.returns-in-None
+returns-in-None c =
     let left : within (c.args.a.num *ℤ int_div c.args.c.den (shared c.args.a.den c.args.c.den)) ≡ Some (to_z w128 (of_z w128 c.in-Some-Some-Some.left)) = search rules in
     let right : within (c.args.c.num *ℤ int_div c.args.a.den (shared c.args.a.den c.args.c.den)) ≡ Some (to_z w128 (of_z w128 c.in-Some-Some-Some.right)) = search rules in
     let num : within (to_z w128 (of_z w128 c.in-Some-Some-Some.left) +ℤ to_z w128 (of_z w128 c.in-Some-Some-Some.right)) ≡ None = search rules in
     sym (sum-wide c.args.a c.args.c _ _ left right num)
 
-pub returns-in_default-clause-exact : goal.returns-in_default-clause-exact
+pub returns-in_default : goal.returns-in_default
 unfolding sum_of
-returns-in_default-clause-exact c = search rules
+returns-in_default c = search rules

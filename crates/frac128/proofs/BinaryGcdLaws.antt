@@ -1,6 +1,7 @@
 -- The binary algorithm for the greatest common divisor: twos are taken out by shifts, and a difference takes the place of a rest.
 use Rattle.std.specs.Prelude.{◌≡◌, ◌≢◌, ℕ, zero, suc, ◌+◌, ◌-◌, ◌*◌, ◌/◌, ◌%◌, ◌^◌, ◌<◌, ◌≤◌, min}
-use Rattle.std.specs.Int.{◌∣◌, IsGcd, trailing_zeros, bit_at, abs_diff, w64}
+use Rattle.std.specs.Int.{◌∣◌, IsGcd, trailing_zeros, bit_at, abs_diff, Width}
+use mir.Val.{bits}
 use Rattle.std.proofs.Common.{arith, refl, ap, sym, ◌∙◌, subst, ⊎_elim}
 use Rattle.std.proofs.lemmas.Bool.{cases_lt}
 use Rattle.std.proofs.Math.Nat.{dvd-one, dvd-mul_left, dvd-mul_left_of_dvd, mul_comm, mul_assoc, pow-suc}
@@ -19,18 +20,15 @@ low-zero n (suc k) h =
     ap (λ z. n % 2 ^ z) (omega arith) ∙ mod-pow-add n 1 k ∙ ap (λ z. z * 2 ^ k + n % 2 ^ k) here ∙ ap (λ z. 0 * 2 ^ k + z) below ∙ omega arith
 
 -- the twos that are shifted out are all
-pub odd-times : (n : ℕ) → 0 < n → n < 2 ^ 64 → (n / 2 ^ trailing_zeros w64 n) * 2 ^ trailing_zeros w64 n ≡ n
-odd-times n p l =
-    let k = trailing_zeros w64 n in
-    let none = low-zero n k (bit_at-trailing_zeros w64 n p l).2 in
+pub odd-times : (w : Width) (n : ℕ) → 0 < n → n < 2 ^ bits w → (n / 2 ^ trailing_zeros w n) * 2 ^ trailing_zeros w n ≡ n
+odd-times w n p l =
+    let k = trailing_zeros w n in
+    let none = low-zero n k (bit_at-trailing_zeros w n p l).2 in
     let split = shr_split n k in
     omega arith
 
-pub odd-part : (n : ℕ) → 0 < n → n < 2 ^ 64 → (n / 2 ^ trailing_zeros w64 n) % 2 ≡ 1
-odd-part n p l = (bit_at-trailing_zeros w64 n p l).1
-
-pub few-zeros : (n : ℕ) → 0 < n → n < 2 ^ 64 → trailing_zeros w64 n < 64
-few-zeros n p l = (bit_at-trailing_zeros w64 n p l).0
+pub odd-part : (w : Width) (n : ℕ) → 0 < n → n < 2 ^ bits w → (n / 2 ^ trailing_zeros w n) % 2 ≡ 1
+odd-part w n p l = (bit_at-trailing_zeros w n p l).1
 
 -- ---- twos beside an odd number
 gcd-two : (y : ℕ) → y % 2 ≡ 1 → gcd y 2 ≡ 1
@@ -61,13 +59,13 @@ min-odd x y p q = ⊎_elim
     (λ l. let is : min x y ≡ y = omega arith in ap (λ z. z % 2) is ∙ q) (cases_lt x y)
 
 -- one step keeps the greatest common divisor of odd numbers
-pub gcd-step : (x y : ℕ) → x ≢ y → x < 2 ^ 64 → y < 2 ^ 64 → x % 2 ≡ 1 → y % 2 ≡ 1 → gcd (abs_diff x y / 2 ^ trailing_zeros w64 (abs_diff x y)) (min x y) ≡ gcd x y
-gcd-step x y h a b p q =
+pub gcd-step : (w : Width) (x y : ℕ) → x ≢ y → x < 2 ^ bits w → y < 2 ^ bits w → x % 2 ≡ 1 → y % 2 ≡ 1 → gcd (abs_diff x y / 2 ^ trailing_zeros w (abs_diff x y)) (min x y) ≡ gcd x y
+gcd-step w x y h a b p q =
     let gap = abs_diff x y in
-    let k = trailing_zeros w64 gap in
+    let k = trailing_zeros w gap in
     let positive : 0 < gap = omega arith in
-    let small : gap < 2 ^ 64 = omega arith in
-    sym (gcd-odd k (gap / 2 ^ k) (min x y) (min-odd x y p q)) ∙ ap (λ z. gcd z (min x y)) (odd-times gap positive small) ∙ gcd-gap x y
+    let small : gap < 2 ^ bits w = omega arith in
+    sym (gcd-odd k (gap / 2 ^ k) (min x y) (min-odd x y p q)) ∙ ap (λ z. gcd z (min x y)) (odd-times w gap positive small) ∙ gcd-gap x y
 
 pub gcd-same : (x : ℕ) → gcd x x ≡ x
 gcd-same x = same_from_IsGcd x x (gcd x x) x (gcd-is x x) (dvd_refl x, dvd_refl x, λ d p q. p)
@@ -87,10 +85,10 @@ gcd-twos i j m n p q = ⊎_elim
     (λ l. let is : i ≡ min i j = omega arith in common-twos i j m n (omega arith) p ∙ ap (λ z. gcd m n * 2 ^ z) is)
     (λ l. let is : j ≡ min i j = omega arith in gcd_comm (m * 2 ^ i) (n * 2 ^ j) ∙ common-twos j i n m (omega arith) q ∙ ap (λ z. z * 2 ^ j) (gcd_comm n m) ∙ ap (λ z. gcd m n * 2 ^ z) is) (cases_lt i j)
 
--- of two words: that of their odd parts, times the twos of both
-pub word-twos : (a b : ℕ) → 0 < a → 0 < b → a < 2 ^ 64 → b < 2 ^ 64 →
-    gcd (a / 2 ^ trailing_zeros w64 a) (b / 2 ^ trailing_zeros w64 b) * 2 ^ min (trailing_zeros w64 a) (trailing_zeros w64 b) ≡ gcd a b
-word-twos a b p q l m =
-    let i = trailing_zeros w64 a in
-    let j = trailing_zeros w64 b in
-    sym (gcd-twos i j (a / 2 ^ i) (b / 2 ^ j) (odd-part a p l) (odd-part b q m)) ∙ ap (λ z. gcd z (b / 2 ^ j * 2 ^ j)) (odd-times a p l) ∙ ap (gcd a) (odd-times b q m)
+-- of two numbers: that of their odd parts, times the twos of both
+pub shifted-twos : (w : Width) (a b : ℕ) → 0 < a → 0 < b → a < 2 ^ bits w → b < 2 ^ bits w →
+    gcd (a / 2 ^ trailing_zeros w a) (b / 2 ^ trailing_zeros w b) * 2 ^ min (trailing_zeros w a) (trailing_zeros w b) ≡ gcd a b
+shifted-twos w a b p q l m =
+    let i = trailing_zeros w a in
+    let j = trailing_zeros w b in
+    sym (gcd-twos i j (a / 2 ^ i) (b / 2 ^ j) (odd-part w a p l) (odd-part w b q m)) ∙ ap (λ z. gcd z (b / 2 ^ j * 2 ^ j)) (odd-times w a p l) ∙ ap (gcd a) (odd-times w b q m)

@@ -13,7 +13,7 @@ use Rattle.frac128.specs.Fractions.{Fraction, IsFraction, IsSmall, in_range, wit
 use Rattle.frac128.proofs.GcdLaws.{gcd-is, gcd-mod, gcd_comm, coprime-mul, coprime-divisors, gcd-skip}
 use Rattle.frac128.proofs.BinaryGcdLaws.{gcd-same}
 use Rattle.frac128.proofs.Rationals.{divided-is}
-use Rattle.frac128.proofs.FractionLaws.{quotient-divides, sum_num, sum_den, sum-positive, IsFraction-product}
+use Rattle.frac128.proofs.FractionLaws.{quotient-divides, sum_num, sum_den, sum-positive, within-some, IsFraction-product}
 
 -- a divisor of a sum and of one summand divides the other
 dvd-summand : (k : ℕ) (p q : ℤ) → k ∣ unsigned_abs (p +ℤ q) → k ∣ unsigned_abs q → k ∣ unsigned_abs p
@@ -167,6 +167,21 @@ pub shared-rest_of : (n d : ℤ) → pos 0 <ℤ d → shared (int_rem n d) d ≡
 shared-rest_of n (pos m) p = shared-rest n m
 shared-rest_of n (negsuc m) p = absurd (omega (arith, ints))
 
+pub sum-factor : (x y : Fraction) (p : IsFraction x.num x.den) (q : IsFraction y.num y.den) (n e : ℤ) → n ≡ x.num *ℤ int_div y.den (shared x.den y.den) +ℤ y.num *ℤ int_div x.den (shared x.den y.den)
+    → e ≡ int_div x.den (shared x.den y.den) *ℤ y.den → shared n (shared x.den y.den) ≡ shared n e
+sum-factor x y p q n e top under = ap (λ z. shared z (shared x.den y.den)) top ∙ sym (sum-shared x.num x.den y.num y.den p q) ∙ ap (λ z. shared z (sum_den x.num x.den y.num y.den p q)) (sym top) ∙ ap (shared n) (sym under)
+
+-- the same from the steps of a sum
+pub sum-factor_within : (x y : Fraction) (p : IsFraction x.num x.den) (q : IsFraction y.num y.den) (l r n e : ℤ)
+    → within (x.num *ℤ int_div y.den (shared x.den y.den)) ≡ Some l → within (y.num *ℤ int_div x.den (shared x.den y.den)) ≡ Some r → within (l +ℤ r) ≡ Some n → within (int_div x.den (shared x.den y.den) *ℤ y.den) ≡ Some e
+    → shared n (shared x.den y.den) ≡ shared n e
+sum-factor_within x y p q l r n e f g h k =
+    let left = within-some (x.num *ℤ int_div y.den (shared x.den y.den)) l f in
+    let right = within-some (y.num *ℤ int_div x.den (shared x.den y.den)) r g in
+    let sum = within-some (l +ℤ r) n h in
+    let under = within-some (int_div x.den (shared x.den y.den) *ℤ y.den) e k in
+    sum-factor x y p q n e (sum.0 ∙ ap (λ z. z +ℤ r) left.0 ∙ ap (λ z. x.num *ℤ int_div y.den (shared x.den y.den) +ℤ z) right.0) under.0
+
 -- ---- sums and products of small fractions
 module _ (x y : Fraction) (p : IsFraction x.num x.den) (q : IsFraction y.num y.den) (small : IsSmall x) (small' : IsSmall y) (n e : ℤ) where
   module _ (top : n ≡ int_div x.num (shared x.num y.den) *ℤ int_div y.num (shared y.num x.den)) (under : e ≡ int_div x.den (shared y.num x.den) *ℤ int_div y.den (shared x.num y.den)) where
@@ -195,7 +210,7 @@ module _ (x y : Fraction) (p : IsFraction x.num x.den) (q : IsFraction y.num y.d
         subst (λ z. unsigned_abs z < 2 ^ 127) (sym top) (small-sum (x.num *ℤ int_div y.den (pos f)) (y.num *ℤ int_div x.den (pos f)) left right)
 
     pub small-sum-shared : shared n (shared x.den y.den) ≡ shared n e
-    small-sum-shared = ap (λ z. shared z (shared x.den y.den)) top ∙ sym (sum-shared x.num x.den y.num y.den p q) ∙ ap (λ z. shared z (sum_den x.num x.den y.num y.den p q)) (sym top) ∙ ap (shared n) (sym under)
+    small-sum-shared = sum-factor x y p q n e top under
 
     pub small-sum-is : sum_of x y ≡ Ok (lowest_of n e)
     small-sum-is = sum-small x y p q small.num small.den small'.num small'.den ∙ ap (λ z. Ok (lowest_of z (sum_den x.num x.den y.num y.den p q))) (sym top) ∙ ap (λ z. Ok (lowest_of n z)) (sym under)

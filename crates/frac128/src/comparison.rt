@@ -1,9 +1,11 @@
 ghost use Rattle.std.specs.Prelude.{◌≡◌, ◌*◌, ◌<◌, ◌*ℤ◌};
 ghost use Rattle.std.specs.Ordering.{nat_cmp, int_cmp};
-ghost use Rattle.frac128.specs.Fractions.{IsFraction};
+ghost use Rattle.frac128.specs.Fractions.{IsFraction, IsSmall};
 ghost use Rattle.frac128.specs.Values.{IsOrder};
 
 use crate::Frac;
+use crate::small::is_small;
+use crate::words::word_product;
 use std::cmp::Ordering;
 
 /// Compares two fractions by their values.
@@ -11,14 +13,39 @@ pub fn cmp(a: Frac, c: Frac) -> Ordering
     ensures exact { result ≡ int_cmp (a.num *ℤ c.den) (c.num *ℤ a.den) }
     ensures order { IsOrder result a c }
 {
-    general_comparison(a, c)
+    comparison(a, c)
+}
+
+/// Compares two fractions: by their numerators where the denominators are equal, by their cross products where those fit at once.
+#[inline]
+fn comparison(a: Frac, c: Frac) -> Ordering
+    ensures exact { result ≡ int_cmp (a.num *ℤ c.den) (c.num *ℤ a.den) }
+    ensures first { IsFraction a.num a.den }
+    ensures second { IsFraction c.num c.den }
+{
+    if a.den == c.den {
+        a.num.cmp(&c.num)
+    } else if is_small(a) && is_small(c) {
+        small_comparison(a, c)
+    } else {
+        general_comparison(a, c)
+    }
+}
+
+/// Compares the cross products of small fractions.
+#[inline]
+fn small_comparison(a: Frac, c: Frac) -> Ordering
+    requires first { IsSmall a }
+    requires second { IsSmall c }
+    ensures { result ≡ int_cmp (a.num *ℤ c.den) (c.num *ℤ a.den) }
+{
+    let left = word_product(a.num as i64, c.den as i64);
+    left.cmp(&word_product(c.num as i64, a.den as i64))
 }
 
 /// Compares any two fractions.
 fn general_comparison(a: Frac, c: Frac) -> Ordering
-    ensures exact { result ≡ int_cmp (a.num *ℤ c.den) (c.num *ℤ a.den) }
-    ensures first { IsFraction a.num a.den }
-    ensures second { IsFraction c.num c.den }
+    ensures { result ≡ int_cmp (a.num *ℤ c.den) (c.num *ℤ a.den) }
 {
     let (num, den) = (a.num.unsigned_abs(), a.den.unsigned_abs());
     let (other_num, other_den) = (c.num.unsigned_abs(), c.den.unsigned_abs());

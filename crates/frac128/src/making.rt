@@ -19,7 +19,7 @@ pub fn frac(num: i128, den: i128) -> Frac
 }
 
 /// The fraction num / den in lowest terms, for a positive denominator.
-pub fn lowest(num: i128, den: i128) -> Frac
+fn lowest(num: i128, den: i128) -> Frac
     requires positive { pos 0 <ℤ den }
     requires num_fits { unsigned_abs num < 2 ^ 127 }
     ensures value { result ≡ lowest_of num den }
@@ -31,7 +31,7 @@ pub fn lowest(num: i128, den: i128) -> Frac
 
 /// The fraction num / den with both parts divided by their greatest common divisor.
 #[inline]
-fn divided(num: i128, den: i128, factor: i128) -> Frac
+pub fn divided(num: i128, den: i128, factor: i128) -> Frac
     requires positive { pos 0 <ℤ den }
     requires num_fits { unsigned_abs num < 2 ^ 127 }
     requires factor { factor ≡ shared_by num den }

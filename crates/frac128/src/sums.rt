@@ -6,7 +6,7 @@ use crate::{Frac, Wide};
 use crate::checked::{over, plus, times};
 use crate::divisors::shared;
 use crate::fraction::fraction_of;
-use crate::making::lowest;
+use crate::making::divided;
 use crate::small::{is_small, small_sum};
 
 /// The sum. With the arguments a/b and c/d and g = gcd(b, d), `Wide` comes exactly where a * (d/g), c * (b/g), their sum or (b/g) * d
@@ -67,7 +67,8 @@ fn whole_sum(a: Frac, c: Frac) -> Result<Frac, Wide>
     }
 }
 
-/// The sum of any two fractions.
+/// The sum of any two fractions. What it has in common with its denominator divides the common part of the denominators (Knuth, The
+/// Art of Computer Programming, 4.5.1).
 fn general_sum(a: Frac, c: Frac) -> Result<Frac, Wide>
     ensures { result ≡ sum_of a c }
 {
@@ -76,7 +77,7 @@ fn general_sum(a: Frac, c: Frac) -> Result<Frac, Wide>
     let right_factor = over(a.den, common);
     match (times(a.num, left_factor), times(c.num, right_factor), times(right_factor, c.den)) {
         (Some(left), Some(right), Some(den)) => match plus(left, right) {
-            Some(num) => Ok(lowest(num, den)),
+            Some(num) => Ok(divided(num, den, shared(num, common))),
             None => Err(Wide),
         },
         _ => Err(Wide),

@@ -19,7 +19,7 @@ pub fn word_gcd(a: u64, b: u64) -> u64
 }
 
 /// The greatest common divisor of two odd words.
-fn odd_gcd(a: u64, b: u64) -> u64
+pub fn odd_gcd(a: u64, b: u64) -> u64
     requires first { a % 2 ≡ 1 }
     requires second { b % 2 ≡ 1 }
     ensures { result ≡ gcd_of a b }

@@ -15,12 +15,12 @@ loop-x-preserved c =
     let fits : c.abs_diff-gap.result < 2 ^ 64 = omega arith in
     let shifted = shr_le c.abs_diff-gap.result (trailing_zeros w64 c.abs_diff-gap.result) in
     record {
-      first = odd-part c.abs_diff-gap.result positive fits;
+      first = odd-part w64 c.abs_diff-gap.result positive fits;
       second = ap (λ n. n % 2) lesser ∙ min-odd c.loop-x.x c.loop-x.y c.loop-x.invariant.first c.loop-x.invariant.second;
       first_fits = omega arith;
       second_fits = omega arith;
       same = ap (λ n. gcd (n / 2 ^ trailing_zeros w64 n) c.min-y.result) gap ∙ ap (gcd (abs_diff c.loop-x.x c.loop-x.y / 2 ^ trailing_zeros w64 (abs_diff c.loop-x.x c.loop-x.y))) lesser
-        ∙ gcd-step c.loop-x.x c.loop-x.y c.loop-x-test.true small other_small c.loop-x.invariant.first c.loop-x.invariant.second ∙ c.loop-x.invariant.same;
+        ∙ gcd-step w64 c.loop-x.x c.loop-x.y c.loop-x-test.true small other_small c.loop-x.invariant.first c.loop-x.invariant.second ∙ c.loop-x.invariant.same;
     }
 
 pub returns : goal.returns

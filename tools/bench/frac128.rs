@@ -30,10 +30,33 @@ fn over(a: i128, b: i128) -> i128 {
     if b == 1 { a } else { a / b }
 }
 
+const WORD: u128 = u64::MAX as u128;
+
 fn gcd(a: u128, b: u128) -> u128 {
-    let (mut x, mut y) = (a, b);
-    while y != 0 {
-        (x, y) = (y, x % y);
+    if a == 0 {
+        return b;
+    }
+    if b == 0 {
+        return a;
+    }
+    if b <= WORD {
+        return u128::from(word_gcd(b as u64, (a % b) as u64));
+    }
+    if a <= WORD {
+        return u128::from(word_gcd(a as u64, (b % a) as u64));
+    }
+    let (twos, other_twos) = (a.trailing_zeros(), b.trailing_zeros());
+    odd_long_gcd(a >> twos, b >> other_twos) << twos.min(other_twos)
+}
+
+fn odd_long_gcd(mut x: u128, mut y: u128) -> u128 {
+    while x != y {
+        if x <= WORD && y <= WORD {
+            return u128::from(odd_gcd(x as u64, y as u64));
+        }
+        let gap = x.abs_diff(y);
+        y = x.min(y);
+        x = gap >> gap.trailing_zeros();
     }
     x
 }
@@ -166,7 +189,8 @@ fn general_sum(a: Frac, c: Frac) -> Result<Frac, Wide> {
     let right = times(c.num, right_factor).ok_or(Wide)?;
     let den = times(right_factor, c.den).ok_or(Wide)?;
     let num = plus(left, right).ok_or(Wide)?;
-    Ok(frac(num, den))
+    let factor = shared(num, common);
+    Ok(Frac { num: over(num, factor), den: over(den, factor) })
 }
 
 struct Source(u64);

@@ -1,15 +1,15 @@
 -- The binary algorithm for the greatest common divisor: twos are taken out by shifts, and a difference takes the place of a rest.
 use Rattle.std.specs.Prelude.{◌≡◌, ◌≢◌, ℕ, zero, suc, ◌+◌, ◌-◌, ◌*◌, ◌/◌, ◌%◌, ◌^◌, ◌<◌, ◌≤◌, min}
-use Rattle.std.specs.Int.{◌∣◌, IsGcd, trailing_zeros, bit_at, abs_diff, Width}
+use Rattle.std.specs.Int.{trailing_zeros, bit_at, abs_diff, Width}
 use mir.Val.{bits}
-use Rattle.std.proofs.Common.{arith, refl, ap, sym, ◌∙◌, subst, ⊎_elim}
+use Rattle.std.proofs.Common.{arith, ap, sym, ◌∙◌, ⊎_elim}
 use Rattle.std.proofs.lemmas.Bool.{cases_lt}
-use Rattle.std.proofs.Math.Nat.{dvd-one, dvd-mul_left, dvd-mul_left_of_dvd, mul_comm, mul_assoc, pow-suc}
+use Rattle.std.proofs.Math.Nat.{dvd-one, mul_comm, pow-suc}
 use Rattle.std.proofs.lemmas.Nat.{pow-add, mod-pow-add, pow_pos, shr_split}
 use Rattle.std.proofs.lemmas.Nat.Bits.{bit_at-trailing_zeros}
-use Rattle.std.proofs.lemmas.Nat.Gcd.{dvd_refl, dvd_trans, dvd_antisymm, IsGcd-from_sub, same_from_IsGcd}
+use Rattle.std.proofs.lemmas.Nat.Gcd.{dvd_refl, IsGcd-from_sub, same_from_IsGcd}
 use Rattle.frac128.specs.Gcd.{gcd}
-use Rattle.frac128.proofs.GcdLaws.{gcd-is, gcd-mul, gcd-mod, gcd_comm, gcd-zero, coprime-mul, coprime-divisors, gcd-skip}
+use Rattle.frac128.proofs.GcdLaws.{gcd-is, gcd-mul, gcd-mod, gcd_comm, coprime-mul, gcd-skip}
 
 -- ---- the odd part of a number
 low-zero : (n k : ℕ) → ((i : ℕ) → i < k → bit_at n i ≡ 0) → n % 2 ^ k ≡ 0
@@ -49,9 +49,9 @@ gcd-sub x y l = same_from_IsGcd x y (gcd (x - y) y) (gcd x y) (IsGcd-from_sub x 
 pub gcd-gap : (x y : ℕ) → gcd (abs_diff x y) (min x y) ≡ gcd x y
 gcd-gap x y = ⊎_elim
     (λ l. let first : abs_diff x y ≡ y - x = omega arith in let second : min x y ≡ x = omega arith in
-      ap (λ z. gcd z (min x y)) first ∙ ap (gcd (y - x)) second ∙ gcd-sub y x (omega arith) ∙ gcd_comm y x)
+    ap (λ z. gcd z (min x y)) first ∙ ap (gcd (y - x)) second ∙ gcd-sub y x (omega arith) ∙ gcd_comm y x)
     (λ l. let first : abs_diff x y ≡ x - y = omega arith in let second : min x y ≡ y = omega arith in
-      ap (λ z. gcd z (min x y)) first ∙ ap (gcd (x - y)) second ∙ gcd-sub x y (omega arith)) (cases_lt x y)
+    ap (λ z. gcd z (min x y)) first ∙ ap (gcd (x - y)) second ∙ gcd-sub x y (omega arith)) (cases_lt x y)
 
 pub min-odd : (x y : ℕ) → x % 2 ≡ 1 → y % 2 ≡ 1 → min x y % 2 ≡ 1
 min-odd x y p q = ⊎_elim

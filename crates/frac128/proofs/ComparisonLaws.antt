@@ -1,6 +1,6 @@
 -- The order of cross products is that of the values.
-use Rattle.std.specs.Prelude.{◌≡◌, ◌≢◌, ℤ, pos, negsuc, ◌+ℤ◌, ◌*ℤ◌, ◌≤ℤ◌, ◌<ℤ◌}
-use Rattle.std.proofs.Common.{arith, refl, ap, sym, ◌∙◌, subst}
+use Rattle.std.specs.Prelude.{◌≡◌, ℤ, pos, negsuc, ◌+ℤ◌, ◌*ℤ◌, ◌<ℤ◌}
+use Rattle.std.proofs.Common.{arith, ap, sym, ◌∙◌}
 use Rattle.std.proofs.lemmas.Int.{ints}
 use Rattle.std.specs.Ordering.{MatchOrdering, int_cmp}
 use Rattle.std.specs.declared.cmp.Ordering.{Ordering}
@@ -24,9 +24,10 @@ product-parts x y p q =
 below : (x y : Fraction) → IsFraction x.num x.den → IsFraction y.num y.den → (x.num *ℤ y.den) <ℤ (y.num *ℤ x.den) → IsBelow (value_of x) (value_of y)
 below x y p q h =
     let left = product-parts x y p q in
-    let right = product-parts y x q p in
-    (cross_at_most (value_of x) (value_of y) (omega (arith, ints)),
-    λ e. let same : (value_of x).top *ℤ bottom (value_of y) ≡ (value_of y).top *ℤ bottom (value_of x) = ap (λ z. z.top *ℤ bottom (value_of y)) e ∙ ap (λ z. (value_of y).top *ℤ bottom z) (sym e) in omega (arith, ints))
+    let right = product-parts y x q p in (
+      cross_at_most (value_of x) (value_of y) (omega (arith, ints)),
+      λ e. let same : (value_of x).top *ℤ bottom (value_of y) ≡ (value_of y).top *ℤ bottom (value_of x) = ap (λ z. z.top *ℤ bottom (value_of y)) e ∙ ap (λ z. (value_of y).top *ℤ bottom z) (sym e) in omega (arith, ints),
+    )
 
 pub cross-order : (x y : Fraction) → IsFraction x.num x.den → IsFraction y.num y.den → (r : Ordering) → r ≡ int_cmp (x.num *ℤ y.den) (y.num *ℤ x.den) → IsOrder r x y
 cross-order x y p q r e = by r (int_ranked (x.num *ℤ y.den) (y.num *ℤ x.den) r e)

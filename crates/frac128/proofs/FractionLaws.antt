@@ -1,12 +1,11 @@
 -- Laws of fractions in lowest terms: what the operations answer is in lowest terms, and is the exact value.
-use Rattle.std.specs.Prelude.{◌≡◌, ◌≢◌, ℕ, zero, suc, ◌+◌, ◌*◌, ◌-◌, ◌/◌, ◌<◌, ◌≤◌, ◌^◌, [], ◌∷◌, Bool, true, false, if◌then◌else◌, Option, Some, None, Result, Ok, Err, IfOk, ℤ, pos, negsuc, neg_ℤ, ◌+ℤ◌, ◌-ℤ◌, ◌*ℤ◌, ◌<ℤ◌, int_lt, int_div, unsigned_abs}
+use Rattle.std.specs.Prelude.{◌≡◌, ◌≢◌, ℕ, zero, suc, ◌*◌, ◌-◌, ◌/◌, ◌<◌, ◌^◌, [], ◌∷◌, Bool, true, false, if◌then◌else◌, Option, Some, None, Result, Ok, Err, IfOk, ℤ, pos, negsuc, neg_ℤ, ◌+ℤ◌, ◌*ℤ◌, ◌<ℤ◌, int_lt, int_div, unsigned_abs}
 use Rattle.std.specs.Int.{◌∣◌}
 use Rattle.std.proofs.Common.{arith, refl, ap, sym, ◌∙◌, subst}
 use Rattle.std.proofs.lemmas.Int.{ints, unsigned_abs-mul}
-use Rattle.std.proofs.Math.Nat.{dvd-mul_right, dvd-mul_left, mul-div_cancel', div-le_self, dvd-one, mul_comm, mul_assoc}
-use Rattle.std.proofs.lemmas.Nat.Gcd.{dvd_trans, dvd_antisymm, IsGcd-swap, same_from_IsGcd}
+use Rattle.std.proofs.Math.Nat.{dvd-mul_left, mul-div_cancel', div-le_self}
 use Rattle.ring_laws.proofs.Rings.{whole}
-use Rattle.ring_laws.proofs.Normal.{num, var, ◌⊕◌, ◌⊖◌, ◌⊗◌, minus, combine}
+use Rattle.ring_laws.proofs.Normal.{var, ◌⊕◌, ◌⊖◌, ◌⊗◌, minus, combine}
 use Rattle.frac128.specs.Gcd.{gcd}
 use Rattle.frac128.specs.declared.fraction.Wide.{Wide}
 use Rattle.frac128.specs.LowestTerms.{quotients, divided-size}
@@ -14,9 +13,9 @@ use Rattle.frac128.specs.Fractions.{Fraction, IsFraction, in_range, within, shar
 use Rattle.frac128.specs.Values.{value_of, IsSum, IsDifference, IsProduct, IsQuotient}
 use Rattle.frac128.proofs.Fractions.{product_is, sum_is, S-of, lowest-is}
 use borrow.Author.Tests.{ltb-true}
-use Rattle.frac128.proofs.GcdLaws.{gcd-is, gcd-mul, gcd-positive, gcd_comm, coprime-mul, coprime-divisors, gcd-skip}
+use Rattle.frac128.proofs.GcdLaws.{gcd-is, gcd_comm, coprime-mul, coprime-divisors}
 use Rattle.frac128.proofs.Rationals.{divided-is, same, neg-over, sub_is}
-use Rattle.frac128.specs.Rationals.{Rational, S, over, add, sub, mul, neg, inverse, inverse_of, rational}
+use Rattle.frac128.specs.Rationals.{S, over, add, mul, neg, inverse, inverse_of, rational}
 
 -- ---- divisors
 -- the second number is its quotient times the shared factor, and so is the first
@@ -227,11 +226,11 @@ IsDifference-negative x y r h = h ∙ ap (add (value_of x)) (negative-value y) �
 
 pub IsFraction-turned : (n d t u : ℤ) → IsFraction n d → pos 0 <ℤ u → unsigned_abs t ≡ unsigned_abs d → unsigned_abs u ≡ unsigned_abs n → IsFraction t u
 IsFraction-turned n d t u x p e f = record {
-      positive = p;
-      num_fits = subst (λ z. z < 2 ^ 127) (sym e) x.den_fits;
-      den_fits = subst (λ z. z < 2 ^ 127) (sym f) x.num_fits;
-      lowest = ap (λ z. gcd z (unsigned_abs u)) e ∙ ap (gcd (unsigned_abs d)) f ∙ gcd_comm (unsigned_abs d) (unsigned_abs n) ∙ x.lowest;
-    }
+  positive = p;
+  num_fits = subst (λ z. z < 2 ^ 127) (sym e) x.den_fits;
+  den_fits = subst (λ z. z < 2 ^ 127) (sym f) x.num_fits;
+  lowest = ap (λ z. gcd z (unsigned_abs u)) e ∙ ap (gcd (unsigned_abs d)) f ∙ gcd_comm (unsigned_abs d) (unsigned_abs n) ∙ x.lowest;
+}
 
 inverse-parts : (n : ℤ) (less : ℕ) (d : ℤ) → S less ≡ d → n ≢ pos 0 → value_of (reciprocal_of (record { num = n; den = d })) ≡ inverse_of n less
 unfolding rational
@@ -261,7 +260,7 @@ module _ (x y : Fraction) (l r : ℤ) (p : within (x.num *ℤ int_div y.den (sha
   unfolding sum_of
   sum-made n e f h = rw (sum-steps, f, p, q, h) refl
 
-  pub sum-wide : within (l +ℤ r) ≡ None → sum_of x y ≡ Err (record { })
+  pub sum-wide : within (l +ℤ r) ≡ None → sum_of x y ≡ Err (record {})
   unfolding sum_of
   sum-wide f = rw (sum-steps, f, p, q) refl
 

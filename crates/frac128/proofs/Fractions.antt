@@ -7,7 +7,7 @@ use Rattle.frac128.specs.Gcd.{gcd}
 use Rattle.ring_laws.proofs.Rings.{whole}
 use Rattle.ring_laws.proofs.Normal.{num, var, ◌⊕◌, ◌⊖◌, ◌⊗◌, minus, combine}
 unfoldable pub use Rattle.frac128.specs.Rationals.{rational}
-use Rattle.frac128.proofs.Rationals.{Rational, S, bottom, over, over-is, same, unique, both, both-is, made, add, sub, mul, add-over, sub-over, mul-over, cancel}
+use Rattle.frac128.proofs.Rationals.{S, bottom, over, over-is, same, unique, both, both-is, made, add, sub, mul, add-over, sub-over, mul-over, cancel}
 
 -- a positive denominator from its less by one
 pub S-of : (d : ℤ) → pos 0 <ℤ d → S (unsigned_abs d - 1) ≡ d

@@ -1,11 +1,9 @@
 -- Laws of the greatest common divisor.
-use Rattle.std.specs.Prelude.{◌≡◌, ◌≢◌, ℕ, zero, suc, ◌+◌, ◌*◌, ◌/◌, ◌%◌, ◌<◌, ◌≤◌, ◌==◌, Bool, true, false, cond}
-use Rattle.std.proofs.Common.{arith, refl, ap, sym, ◌∙◌, eqb, subst}
-use Rattle.std.proofs.lemmas.Bool.{eqb-true, eqb-false}
+use Rattle.std.specs.Prelude.{◌≡◌, ℕ, zero, suc, ◌*◌, ◌%◌, ◌<◌, ◌≤◌}
+use Rattle.std.proofs.Common.{arith, ap, ◌∙◌, subst}
 use Rattle.std.specs.Int.{◌∣◌}
-use Rattle.std.proofs.Math.Nat.{mod-lt, dvd-mul_left, dvd-mul_right, dvd-mul_right_of_dvd, dvd-mul_left_of_dvd, mul-dvd-mul_left, mul-dvd-mul_right, dvd_of_mul-dvd-mul_left, mul-div_cancel', dvd-one, pos_of_dvd_of_pos, le_of_dvd, mul_comm}
+use Rattle.std.proofs.Math.Nat.{dvd-mul_left, dvd-mul_left_of_dvd, dvd-one, le_of_dvd, mul_comm}
 use Rattle.std.proofs.lemmas.Nat.Gcd.{dvd_refl, dvd_trans, dvd_antisymm, IsGcd-swap, IsGcd-from_mod, IsGcd-from_zero, same_from_IsGcd}
-use Rattle.std.specs.Int.{IsGcd}
 use Rattle.frac128.specs.Gcd.{gcd}
 pub use Rattle.frac128.specs.LowestTerms.{gcd-is, gcd-mul, gcd-positive}
 

@@ -1,16 +1,16 @@
 -- Rational numbers as fractions in lowest terms: equal where their parts are.
-use Rattle.std.specs.Prelude.{◌≡◌, ℕ, zero, suc, ◌+◌, ◌*◌, ◌/◌, ◌-◌, ◌<◌, [], ◌∷◌, ℤ, pos, negsuc, neg_ℤ, ◌+ℤ◌, ◌-ℤ◌, ◌*ℤ◌}
+use Rattle.std.specs.Prelude.{◌≡◌, ℕ, suc, ◌*◌, ◌/◌, ◌-◌, [], ◌∷◌, ℤ, pos, negsuc, neg_ℤ, ◌+ℤ◌, ◌-ℤ◌, ◌*ℤ◌}
 use Rattle.std.specs.Int.RustNames.{unsigned_abs}
 use Rattle.std.specs.Int.{◌∣◌}
 use Rattle.std.proofs.Common.{arith, refl, ap, sym, ◌∙◌, subst}
 use Rattle.std.proofs.lemmas.Int.{ints, unsigned_abs-mul}
-use Rattle.std.proofs.Math.Nat.{ℕ_set, mul_comm, dvd-mul_left, mul-div_cancel', mul-div_cancel_left}
+use Rattle.std.proofs.Math.Nat.{ℕ_set, dvd-mul_left, mul-div_cancel'}
 use Rattle.std.proofs.lemmas.Nat.Gcd.{dvd_antisymm}
 use Rattle.frac128.specs.Gcd.{gcd}
 pub use Rattle.frac128.specs.Rationals.{Rational, bottom, made}
 unfoldable pub use Rattle.frac128.specs.Rationals.{S, over, both, of, add, sub, mul, neg}
 use Rattle.frac128.proofs.GcdLaws.{euclid}
-use Rattle.frac128.specs.LowestTerms.{gcd-is, gcd-mul, divided, quotients, positive_quotient, over-lowest}
+use Rattle.frac128.specs.LowestTerms.{gcd-is, divided, positive_quotient}
 use Rattle.ring_laws.proofs.Products.{mul_sub}
 use Rattle.ring_laws.proofs.Rings.{Ring, whole}
 use Rattle.ring_laws.proofs.Normal.{num, var, ◌⊕◌, ◌⊖◌, ◌⊗◌, minus, combine}

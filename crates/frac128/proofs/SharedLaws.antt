@@ -1,15 +1,15 @@
 -- What a sum of fractions can have in common with its denominator divides the common part of the denominators.
-use Rattle.std.specs.Prelude.{◌≡◌, ℕ, zero, suc, ◌+◌, ◌-◌, ◌*◌, ◌/◌, ◌%◌, ◌<◌, ◌≤◌, ◌^◌, [], ◌∷◌, Bool, true, false, if◌then◌else◌, Option, Some, None, Result, Ok, Err, ℤ, pos, negsuc, neg_ℤ, ◌+ℤ◌, ◌-ℤ◌, ◌*ℤ◌, ◌<ℤ◌, int_div, int_rem, unsigned_abs}
+use Rattle.std.specs.Prelude.{◌≡◌, ℕ, suc, ◌*◌, ◌/◌, ◌%◌, ◌<◌, ◌≤◌, ◌^◌, Bool, true, false, if◌then◌else◌, Some, None, Ok, ℤ, pos, negsuc, neg_ℤ, ◌+ℤ◌, ◌-ℤ◌, ◌*ℤ◌, ◌<ℤ◌, int_div, int_rem, unsigned_abs}
 use Rattle.std.specs.Int.{◌∣◌}
 use Rattle.std.proofs.Common.{arith, refl, ap, sym, ◌∙◌, subst}
 use borrow.Author.Tests.{lt-ltb}
 use Rattle.std.proofs.lemmas.Int.{ints, unsigned_abs-mul}
-use Rattle.std.proofs.Math.Nat.{dvd-mul_right, dvd-mul_left, dvd-mul_left_of_dvd, mul-div_cancel', mul-le-mul, div-le_self, div-one, dvd-one}
-use Rattle.std.proofs.lemmas.Nat.Gcd.{dvd_refl, dvd_trans}
+use Rattle.std.proofs.Math.Nat.{dvd-mul_right, dvd-mul_left_of_dvd, mul-div_cancel', mul-le-mul, div-le_self, div-one, dvd-one}
+use Rattle.std.proofs.lemmas.Nat.Gcd.{dvd_refl}
 use Rattle.ring_laws.proofs.Products.{mul_sub}
 use Rattle.frac128.specs.Gcd.{gcd}
 use Rattle.frac128.specs.LowestTerms.{quotients, divided-size}
-use Rattle.frac128.specs.Fractions.{Fraction, IsFraction, IsSmall, in_range, within, shared, lowest_of, sum_where, sum_of, fraction_where, product_of}
+use Rattle.frac128.specs.Fractions.{Fraction, IsFraction, IsSmall, in_range, within, shared, lowest_of, sum_of, product_of}
 use Rattle.frac128.proofs.GcdLaws.{gcd-is, gcd-mod, gcd_comm, coprime-mul, coprime-divisors, gcd-skip}
 use Rattle.frac128.proofs.BinaryGcdLaws.{gcd-same}
 use Rattle.frac128.proofs.Rationals.{divided-is}
@@ -125,9 +125,12 @@ sum-small x y p q xn xd yn yd =
     let left = small-product x.num (int_div y.den (pos f)) xn (small-quotient f y.den yd) in
     let right = small-product y.num (int_div x.den (pos f)) yn (small-quotient f x.den xd) in
     let under = small-product (int_div x.den (pos f)) y.den (small-quotient f x.den xd) yd in
-    rw (within-fits (x.num *ℤ int_div y.den (pos f)) (omega arith), within-fits (y.num *ℤ int_div x.den (pos f)) (omega arith),
+    rw (
+      within-fits (x.num *ℤ int_div y.den (pos f)) (omega arith),
+      within-fits (y.num *ℤ int_div x.den (pos f)) (omega arith),
       within-fits (x.num *ℤ int_div y.den (pos f) +ℤ y.num *ℤ int_div x.den (pos f)) (small-sum (x.num *ℤ int_div y.den (pos f)) (y.num *ℤ int_div x.den (pos f)) left right),
-      within-fits (int_div x.den (pos f) *ℤ y.den) (omega arith)) refl
+      within-fits (int_div x.den (pos f) *ℤ y.den) (omega arith),
+    ) refl
 
 -- the product of small fractions is in the range
 pub product-small : (x y : Fraction) → unsigned_abs x.num < 2 ^ 63 → unsigned_abs x.den < 2 ^ 63 → unsigned_abs y.num < 2 ^ 63 → unsigned_abs y.den < 2 ^ 63

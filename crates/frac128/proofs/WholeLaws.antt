@@ -1,11 +1,10 @@
 -- Sums and products of whole numbers and with 0.
-use Rattle.std.specs.Prelude.{◌≡◌, ℕ, zero, suc, ◌/◌, ◌<◌, ◌^◌, Option, Some, None, Result, Ok, Err, ℤ, pos, negsuc, neg_ℤ, ◌+ℤ◌, ◌*ℤ◌, ◌<ℤ◌, int_div, unsigned_abs}
-use Rattle.std.proofs.Common.{arith, refl, ap, sym, ◌∙◌, subst}
+use Rattle.std.specs.Prelude.{◌≡◌, zero, suc, ◌/◌, ◌<◌, ◌^◌, Some, None, Ok, Err, ℤ, pos, negsuc, neg_ℤ, ◌+ℤ◌, ◌*ℤ◌, ◌<ℤ◌, int_div, unsigned_abs}
+use Rattle.std.proofs.Common.{arith, refl, ap, sym, ◌∙◌}
 use Rattle.std.proofs.lemmas.Int.{ints}
 use Rattle.std.proofs.Math.Nat.{div_self, zero-div, dvd-one}
 use Rattle.frac128.specs.Gcd.{gcd}
-use Rattle.frac128.specs.declared.fraction.Wide.{Wide}
-use Rattle.frac128.specs.Fractions.{Fraction, IsFraction, within, shared, lowest_of, sum_of, fraction_where, product_of}
+use Rattle.frac128.specs.Fractions.{Fraction, IsFraction, within, shared, sum_of, fraction_where, product_of}
 use Rattle.frac128.proofs.GcdLaws.{gcd-is, gcd_comm, gcd-zero}
 use Rattle.frac128.proofs.FractionLaws.{sum-made, sum-wide}
 use Rattle.frac128.proofs.SharedLaws.{within-fits, quotient-one, lowest-already, shared-one}
@@ -69,7 +68,7 @@ module _ (x y : Fraction) (p : IsFraction x.num x.den) (q : IsFraction y.num y.d
     pub whole-sum : (n : ℤ) → within (x.num +ℤ y.num) ≡ Some n → sum_of x y ≡ Ok (record { num = n; den = pos 1 })
     whole-sum n e = sum-made x y x.num y.num left right n (pos 1) e under ∙ ap (λ (r : Fraction). Ok r) (lowest-already n (pos 1) n (pos 1) (shared-one n (pos 1) refl) refl refl)
 
-    pub whole-sum_wide : within (x.num +ℤ y.num) ≡ None → sum_of x y ≡ Err (record { })
+    pub whole-sum_wide : within (x.num +ℤ y.num) ≡ None → sum_of x y ≡ Err (record {})
     whole-sum_wide e = sum-wide x y x.num y.num left right e
 
     pub whole-product : product_of x y ≡ fraction_where (within (x.num *ℤ y.num)) (Some (pos 1))

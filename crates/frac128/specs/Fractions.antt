@@ -1,5 +1,5 @@
 -- Fractions in lowest terms whose parts are in the range, and what the operations on them answer.
-use Rattle.std.specs.Prelude.{◌≡◌, ℕ, ◌<◌, ◌^◌, Bool, if◌then◌else◌, Option, Some, None, Result, Ok, Err, ℤ, pos, neg_ℤ, ◌+ℤ◌, ◌*ℤ◌, ◌<ℤ◌, int_lt, int_div, nat_lt, unsigned_abs}
+use Rattle.std.specs.Prelude.{◌≡◌, ◌<◌, ◌^◌, Bool, if◌then◌else◌, Option, Some, None, Result, Ok, Err, ℤ, pos, neg_ℤ, ◌+ℤ◌, ◌*ℤ◌, ◌<ℤ◌, int_lt, int_div, nat_lt, unsigned_abs}
 use Rattle.frac128.specs.Gcd.{gcd}
 use Rattle.frac128.specs.declared.fraction.Wide.{Wide}
 
@@ -43,10 +43,10 @@ reduced_of n d = if int_lt d (pos 0) then lowest_of (neg_ℤ n) (neg_ℤ d) else
 -- num / den in lowest terms where all four numbers are in the range, and wide else
 abbrev pub sum_where : Option ℤ → Option ℤ → Option ℤ → Option ℤ → Result Fraction Wide
 sum_where (Some left) (Some right) (Some num) (Some den) = Ok (lowest_of num den)
-sum_where (Some left) (Some right) (Some num) None = Err (record { })
-sum_where (Some left) (Some right) None den = Err (record { })
-sum_where (Some left) None num den = Err (record { })
-sum_where None right num den = Err (record { })
+sum_where (Some left) (Some right) (Some num) None = Err (record {})
+sum_where (Some left) (Some right) None den = Err (record {})
+sum_where (Some left) None num den = Err (record {})
+sum_where None right num den = Err (record {})
 
 -- a/b + c/d with g = gcd(b, d): the numbers are a * (d/g), c * (b/g), their sum, and (b/g) * d
 unfoldable pub sum_of : Fraction → Fraction → Result Fraction Wide
@@ -59,8 +59,8 @@ sum_of x y =
 -- num / den where both numbers are in the range, and wide else
 abbrev pub fraction_where : Option ℤ → Option ℤ → Result Fraction Wide
 fraction_where (Some num) (Some den) = Ok (record { num = num; den = den })
-fraction_where (Some num) None = Err (record { })
-fraction_where None den = Err (record { })
+fraction_where (Some num) None = Err (record {})
+fraction_where None den = Err (record {})
 
 -- a/b * c/d with g = gcd(a, d) and h = gcd(c, b): the numbers are (a/g) * (c/h) and (b/h) * (d/g)
 unfoldable pub product_of : Fraction → Fraction → Result Fraction Wide

@@ -1,5 +1,5 @@
 -- The quotients of two numbers by their greatest common divisor have no common divisor: why fractions can be put in lowest terms.
-use Rattle.std.specs.Prelude.{◌≡◌, ℕ, zero, suc, ◌+◌, ◌*◌, ◌/◌, ◌-◌, ◌%◌, ◌<◌, ◌≤◌, ◌==◌, Bool, true, false, cond, ℤ, pos, negsuc, int_div, unsigned_abs}
+use Rattle.std.specs.Prelude.{◌≡◌, ℕ, zero, suc, ◌*◌, ◌/◌, ◌-◌, ◌%◌, ◌<◌, ◌≤◌, ◌==◌, Bool, true, false, cond, ℤ, pos, negsuc, int_div, unsigned_abs}
 use Rattle.std.specs.Int.{◌∣◌, IsGcd}
 use Rattle.std.proofs.Common.{arith, refl, ap, sym, ◌∙◌, subst}
 use Rattle.std.proofs.lemmas.Bool.{eqb-true, eqb-false}
@@ -12,7 +12,7 @@ use Rattle.frac128.specs.Gcd.{gcd, gcd_within}
 pub gcd_within-is : (k a b : ℕ) → b ≤ k → IsGcd a b (gcd_within k a b)
 gcd_within-is zero a b l = IsGcd-from_zero a b (omega arith)
 gcd_within-is (suc k) a b l = by (b == 0) refl
-  (λ p. gcd_within-is k b (a % b) (let small = mod-lt a p in omega arith))
+    (λ p. gcd_within-is k b (a % b) (let small = mod-lt a p in omega arith))
   where
     by : (t : Bool) → (b == 0) ≡ t → (0 < b → IsGcd b (a % b) (gcd_within k b (a % b))) → IsGcd a b (cond t a (gcd_within k b (a % b)))
     by true e f = IsGcd-from_zero a b (eqb-true b 0 e)

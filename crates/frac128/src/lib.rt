@@ -10,15 +10,18 @@ mod division;
 mod divisors;
 mod fraction;
 mod making;
+mod products;
 mod small;
 mod sums;
 mod words;
-mod products;
 
 pub use comparison::cmp;
 pub use division::{ceil_div, floor_div};
 pub use divisors::gcd;
 pub use fraction::{Frac, Wide};
 pub use making::frac;
-pub use sums::{add, sub};
 pub use products::{div, mul};
+pub use sums::{add, sub};
+
+#[cfg(test)]
+mod tests;

@@ -15,7 +15,11 @@ pub fn frac(num: i128, den: i128) -> Frac
     ensures value { result ≡ reduced_of num den }
     ensures equal { result.num *ℤ den ≡ num *ℤ result.den }
 {
-    if den < 0 { lowest(-num, -den) } else { lowest(num, den) }
+    if den < 0 {
+        lowest(-num, -den)
+    } else {
+        lowest(num, den)
+    }
 }
 
 /// The fraction num / den in lowest terms, for a positive denominator.

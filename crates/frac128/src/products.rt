@@ -2,11 +2,11 @@ ghost use Rattle.std.specs.Prelude.{◌≡◌, ◌≢◌, IfOk, pos};
 ghost use Rattle.frac128.specs.Fractions.{IsFraction, product_of, quotient_of, reciprocal_of};
 ghost use Rattle.frac128.specs.Values.{IsProduct, IsQuotient};
 
-use crate::{Frac, Wide};
 use crate::checked::{over, times};
 use crate::divisors::shared;
 use crate::fraction::fraction_of;
 use crate::small::{is_small, small_product};
+use crate::{Frac, Wide};
 
 /// The product. With the arguments a/b and c/d, g = gcd(a, d) and h = gcd(c, b), `Wide` comes exactly where (a/g) * (c/h) or
 /// (b/h) * (d/g) leaves the range.
@@ -33,7 +33,11 @@ fn reciprocal(c: Frac) -> Frac
     ensures value { result ≡ reciprocal_of c }
     ensures fraction { IsFraction c.num c.den }
 {
-    if c.num < 0 { fraction_of(-c.den, -c.num) } else { fraction_of(c.den, c.num) }
+    if c.num < 0 {
+        fraction_of(-c.den, -c.num)
+    } else {
+        fraction_of(c.den, c.num)
+    }
 }
 
 /// The product. The cheap cases come first: whole numbers, 0, and parts of one word.
@@ -73,7 +77,10 @@ fn general_product(a: Frac, c: Frac) -> Result<Frac, Wide>
 {
     let first = shared(a.num, c.den);
     let second = shared(c.num, a.den);
-    match (times(over(a.num, first), over(c.num, second)), times(over(a.den, second), over(c.den, first))) {
+    match (
+        times(over(a.num, first), over(c.num, second)),
+        times(over(a.den, second), over(c.den, first)),
+    ) {
         (Some(num), Some(den)) => Ok(fraction_of(num, den)),
         _ => Err(Wide),
     }

@@ -45,8 +45,15 @@ pub fn small_sum(a: Frac, c: Frac) -> Frac
     let (other_num, other_den) = (c.num as i64, c.den as i64);
     let common = shared_den(den, other_den);
     let (left_factor, right_factor) = (word_over(other_den, common), word_over(den, common));
-    let sum = total(word_product(num, left_factor), word_product(other_num, right_factor));
-    divided_by_word(sum, word_product(right_factor, other_den), shared_factor(sum, common))
+    let sum = total(
+        word_product(num, left_factor),
+        word_product(other_num, right_factor),
+    );
+    divided_by_word(
+        sum,
+        word_product(right_factor, other_den),
+        shared_factor(sum, common),
+    )
 }
 
 /// The greatest common divisor of two denominators: at once where they are equal.
@@ -66,5 +73,9 @@ fn shared_factor(a: i128, b: i64) -> i64
     ensures value { result ≡ shared a b }
     ensures positive { pos 0 <ℤ result }
 {
-    if b == 1 { 1 } else { word_shared(rest_by_word(a, b), b) }
+    if b == 1 {
+        1
+    } else {
+        word_shared(rest_by_word(a, b), b)
+    }
 }

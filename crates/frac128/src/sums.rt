@@ -2,12 +2,12 @@ ghost use Rattle.std.specs.Prelude.{◌≡◌, IfOk, pos};
 ghost use Rattle.frac128.specs.Fractions.{IsFraction, sum_of, difference_of, negative_of};
 ghost use Rattle.frac128.specs.Values.{IsSum, IsDifference};
 
-use crate::{Frac, Wide};
 use crate::checked::{over, plus, times};
 use crate::divisors::shared;
 use crate::fraction::fraction_of;
 use crate::making::divided;
 use crate::small::{is_small, small_sum};
+use crate::{Frac, Wide};
 
 /// The sum. With the arguments a/b and c/d and g = gcd(b, d), `Wide` comes exactly where a * (d/g), c * (b/g), their sum or (b/g) * d
 /// leaves the range.
@@ -75,7 +75,11 @@ fn general_sum(a: Frac, c: Frac) -> Result<Frac, Wide>
     let common = shared(a.den, c.den);
     let left_factor = over(c.den, common);
     let right_factor = over(a.den, common);
-    match (times(a.num, left_factor), times(c.num, right_factor), times(right_factor, c.den)) {
+    match (
+        times(a.num, left_factor),
+        times(c.num, right_factor),
+        times(right_factor, c.den),
+    ) {
         (Some(left), Some(right), Some(den)) => match plus(left, right) {
             Some(num) => Ok(divided(num, den, shared(num, common))),
             None => Err(Wide),

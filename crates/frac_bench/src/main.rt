@@ -4,8 +4,7 @@
 mod operands;
 
 use operands::{Kind, Operands};
-use std::env;
-use std::io;
+use std::{env, io};
 
 fn main(rt: HostRuntime) -> io::Result<()> {
     let mut words = env::args(&rt)?.skip(1);

@@ -30,7 +30,10 @@ impl Source {
         ensures low { pos 0 ≤ℤ result }
         ensures high { result <ℤ pos (2 ^ 31) }
     {
-        self.state = self.state.wrapping_mul(6364136223846793005).wrapping_add(1442695040888963407);
+        self.state = self
+            .state
+            .wrapping_mul(6364136223846793005)
+            .wrapping_add(1442695040888963407);
         i128::from(self.state >> 33)
     }
 
@@ -74,7 +77,11 @@ impl Source {
 /// A fraction to operate on, one to multiply by and one to subtract.
 fn sample(kind: Kind, source: &mut Source) -> (Frac, Frac, Frac) {
     match kind {
-        Kind::Whole => (frac(source.signed(), 1), frac(source.signed(), 1), frac(source.signed(), 1)),
+        Kind::Whole => (
+            frac(source.signed(), 1),
+            frac(source.signed(), 1),
+            frac(source.signed(), 1),
+        ),
         Kind::Small => (
             frac(source.signed(), source.up_to(999)),
             frac(source.signed(), source.up_to(999)),
@@ -92,7 +99,11 @@ impl Operands {
     /// The operands of a kind, the same at each run.
     pub fn new(kind: Kind) -> Operands {
         let one = frac(1, 1);
-        let mut operands = Operands { left: [one; 64], factors: [one; 64], terms: [one; 64] };
+        let mut operands = Operands {
+            left: [one; 64],
+            factors: [one; 64],
+            terms: [one; 64],
+        };
         let mut source = Source { state: 2026 };
         for index in 0..64 {
             let (left, factor, term) = sample(kind, &mut source);
@@ -109,9 +120,15 @@ impl Operands {
         for round in 0..rounds {
             let left = self.left[(round % 64) as usize];
             let place = (round / 64 % 64) as usize;
-            let answer = if round % 2 == 0 { mul(left, self.factors[place]) } else { sub(left, self.terms[place]) };
+            let answer = if round % 2 == 0 {
+                mul(left, self.factors[place])
+            } else {
+                sub(left, self.terms[place])
+            };
             sum = match answer {
-                Ok(value) => sum.wrapping_mul(31).wrapping_add(low_bits(value.num()) ^ low_bits(value.den())),
+                Ok(value) => sum
+                    .wrapping_mul(31)
+                    .wrapping_add(low_bits(value.num()) ^ low_bits(value.den())),
                 Err(_) => sum.wrapping_add(1),
             };
         }

@@ -1,7 +1,6 @@
-use Rattle.std.proofs.Common.{arith, ◌≡◌, ◌∙◌, ◌*◌, ◌<◌, ◌%◌, ◌/◌, sym, ap, ◌+◌}
+use Rattle.std.proofs.Common.{arith, ◌≡◌, ◌∙◌, ◌*◌, ◌%◌, ◌+◌}
 use Rattle.std.specs.declared.cmp.Ordering.TheVariants.{Less, Equal, Greater}
 use Rattle.std.specs.Cmp.{nat_cmp_is}
-use Rattle.std.proofs.Math.Nat.{mul-le-mul_left, mul-le-mul_right}
 use Rattle.frac128.proofs.Quotients.{less_floor, rests, no_rest, second_rest, first_rest, same_order}
 use Rattle.frac128.proofs.comparison.+compare.Goals as goal
 

@@ -1,5 +1,3 @@
-use Rattle.std.proofs.Common.{◌≡◌}
-use Rattle.frac128.specs.Fractions.{IsFraction}
 use Rattle.frac128.proofs.ComparisonLaws.{cross-order}
 use Rattle.frac128.proofs.comparison.cmp.Goals as goal
 

@@ -1,4 +1,4 @@
-use Rattle.std.proofs.Common.{arith, rules, ◌≡◌, ◌≤◌, ◌*◌, ◌%◌, ◌/◌, ◌^◌, ◌<◌, ◌∙◌, ap, sym, min}
+use Rattle.std.proofs.Common.{arith, rules, ◌≡◌, ◌*◌, ◌%◌, ◌/◌, ◌^◌, ◌<◌, ◌∙◌, ap, sym}
 use Rattle.std.specs.Int.{trailing_zeros, w128}
 use Rattle.frac128.specs.Gcd.{gcd}
 use Rattle.frac128.proofs.GcdLaws.{gcd-mod, gcd-zero, gcd_comm, gcd-small}

@@ -1,7 +1,6 @@
-use Rattle.std.proofs.Common.{arith, ◌≡◌, ◌<◌, ◌≤◌, ◌<ℤ◌, pos, unsigned_abs}
+use Rattle.std.proofs.Common.{arith, ◌<◌, unsigned_abs}
 use Rattle.std.proofs.lemmas.Int.{ints, to_z-of_z}
 use Rattle.std.specs.Int.{w128}
-use Rattle.frac128.specs.Gcd.{gcd}
 use Rattle.frac128.proofs.GcdLaws.{gcd-small, gcd-positive}
 use Rattle.frac128.proofs.divisors.shared.Goals as goal
 

@@ -1,7 +1,7 @@
-use Rattle.std.proofs.Common.{arith, rules, ◌≡◌, ◌∙◌, ap, sym, subst, ◌<◌, ◌^◌, ◌<ℤ◌, ◌*ℤ◌, pos, int_div, unsigned_abs, to_z, of_z}
+use Rattle.std.proofs.Common.{arith, rules, ◌≡◌, ◌∙◌, sym, subst, ◌*ℤ◌, int_div, to_z, of_z}
 use Rattle.std.specs.Int.{w128}
-use Rattle.std.proofs.lemmas.Int.{ints, to_z-of_z}
-use Rattle.frac128.specs.Fractions.{Fraction, lowest_of, shared}
+use Rattle.std.proofs.lemmas.Int.{ints}
+use Rattle.frac128.specs.Fractions.{Fraction, shared}
 use Rattle.frac128.proofs.FractionLaws.{lowest-made, lowest-parts, lowest_of-equal}
 use Rattle.frac128.proofs.making.divided.Goals as goal
 

@@ -1,4 +1,4 @@
-use Rattle.std.proofs.Common.{arith, rules, ◌≡◌, ◌∙◌, ◌<◌, ◌^◌, int_div, unsigned_abs, to_z, of_z}
+use Rattle.std.proofs.Common.{arith, rules, ◌≡◌, ◌∙◌, int_div, to_z, of_z}
 use Rattle.std.specs.Int.{w128}
 use Rattle.std.proofs.lemmas.Int.{ints}
 use Rattle.frac128.specs.Fractions.{shared}

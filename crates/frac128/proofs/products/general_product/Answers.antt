@@ -1,4 +1,4 @@
-use Rattle.std.proofs.Common.{arith, rules, ◌≡◌, ℕ, ◌∙◌, ap, sym, subst, ◌<◌, ◌^◌, ◌<ℤ◌, ◌*ℤ◌, pos, int_div, unsigned_abs, to_z, of_z, IfOk, Some}
+use Rattle.std.proofs.Common.{rules, ◌≡◌, ◌*ℤ◌, int_div, to_z, of_z, Some}
 use Rattle.std.specs.Int.{w128}
 use Rattle.frac128.specs.Fractions.{product_of, IsFraction, within, shared}
 use Rattle.frac128.proofs.FractionLaws.{IsFraction-product}
@@ -15,7 +15,6 @@ fraction_of-requires c =
 pub returns-in-Some-Some : goal.returns-in-Some-Some
 unfolding product_of
 returns-in-Some-Some c = search rules
-
 
 pub returns-in_default : goal.returns-in_default
 unfolding product_of

@@ -11,7 +11,7 @@ returns-then-c-eq0-clause-exact c =
     let first : IsFraction c.args.a.num c.args.a.den = search rules in
     let second : IsFraction c.args.c.num c.args.c.den = search rules in
     let is : product_of c.args.a c.args.c ≡ Ok (record { num = pos 0; den = pos 1 }) = ⊎_elim
-      (λ e. let none : c.args.a.num ≡ pos 0 = search rules in zero-product_left c.args.a c.args.c first second none)
-      (λ e. let read = e.1 in let none : c.args.c.num ≡ pos 0 = search rules in zero-product_right c.args.a c.args.c first second none)
-      c.if-c-eq0.either in
+    (λ e. let none : c.args.a.num ≡ pos 0 = search rules in zero-product_left c.args.a c.args.c first second none)
+    (λ e. let read = e.1 in let none : c.args.c.num ≡ pos 0 = search rules in zero-product_right c.args.a c.args.c first second none)
+    c.if-c-eq0.either in
     ap (λ (r : Fraction). Ok r) c.fraction_of.ensures.value ∙ sym is

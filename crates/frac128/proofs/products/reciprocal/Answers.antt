@@ -1,5 +1,4 @@
-use Rattle.std.proofs.Common.{arith, rules, ◌≡◌, ◌<ℤ◌, pos}
-use Rattle.std.proofs.lemmas.Int.{ints}
+use Rattle.std.proofs.Common.{rules}
 use Rattle.frac128.specs.Fractions.{IsFraction}
 use Rattle.frac128.proofs.FractionLaws.{IsFraction-turned}
 use Rattle.frac128.proofs.products.reciprocal.Goals as goal

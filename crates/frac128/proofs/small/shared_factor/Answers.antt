@@ -1,4 +1,4 @@
-use Rattle.std.proofs.Common.{rules, ◌≡◌, ◌∙◌, sym, pos, int_rem, unsigned_abs, to_z, of_z}
+use Rattle.std.proofs.Common.{rules, ◌≡◌, ◌∙◌, sym, pos, int_rem, to_z, of_z}
 use Rattle.std.specs.Int.{w64}
 use Rattle.frac128.specs.Fractions.{shared}
 use Rattle.frac128.proofs.SharedLaws.{shared-one, shared-rest_of}

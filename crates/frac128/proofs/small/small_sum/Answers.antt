@@ -1,4 +1,4 @@
-use Rattle.std.proofs.Common.{rules, refl, ◌≡◌, ◌∙◌, ap, sym, ◌<◌, ◌^◌, ◌+ℤ◌, ◌*ℤ◌, int_div, unsigned_abs, to_z, of_z, Ok}
+use Rattle.std.proofs.Common.{rules, refl, ◌≡◌, ◌∙◌, ap, sym, ◌+ℤ◌, ◌*ℤ◌, int_div, to_z, of_z, Ok}
 use Rattle.std.specs.Int.{w64, w128}
 use Rattle.std.proofs.lemmas.Int.{fits_signed_from_abs}
 use Rattle.frac128.specs.Fractions.{Fraction, IsFraction, shared}

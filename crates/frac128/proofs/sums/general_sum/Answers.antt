@@ -1,7 +1,7 @@
-use Rattle.std.proofs.Common.{arith, rules, ◌≡◌, ℕ, ◌∙◌, ap, sym, subst, ◌<◌, ◌^◌, ◌<ℤ◌, ◌+ℤ◌, ◌*ℤ◌, pos, int_div, unsigned_abs, to_z, of_z, IfOk, Some, None, Ok}
+use Rattle.std.proofs.Common.{rules, ◌≡◌, ◌∙◌, ap, sym, subst, ◌<ℤ◌, ◌+ℤ◌, ◌*ℤ◌, pos, int_div, to_z, of_z, Some, None, Ok}
 use Rattle.std.specs.Int.{w128}
 use Rattle.frac128.specs.Fractions.{Fraction, sum_of, IsFraction, within, shared}
-use Rattle.frac128.proofs.FractionLaws.{sum_den, sum_num, sum-positive, within-some, sum-made, sum-wide}
+use Rattle.frac128.proofs.FractionLaws.{sum_den, sum-positive, within-some, sum-made, sum-wide}
 use Rattle.frac128.proofs.SharedLaws.{sum-factor_within}
 use Rattle.frac128.proofs.sums.general_sum.Goals as goal
 
@@ -36,7 +36,6 @@ returns-in-Some c =
     let num : within (to_z w128 (of_z w128 c.in-Some-Some-Some.left) +ℤ to_z w128 (of_z w128 c.in-Some-Some-Some.right)) ≡ Some (to_z w128 (of_z w128 c.in-Some.num)) = search rules in
     let den : within (int_div c.args.a.den (shared c.args.a.den c.args.c.den) *ℤ c.args.c.den) ≡ Some (to_z w128 (of_z w128 c.in-Some-Some-Some.den)) = search rules in
     ap (λ (r : Fraction). Ok r) c.divided.ensures.value ∙ sym (sum-made c.args.a c.args.c _ _ left right _ _ num den)
-
 
 pub returns-in-None : goal.returns-in-None
 returns-in-None c =

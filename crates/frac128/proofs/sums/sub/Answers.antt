@@ -1,5 +1,5 @@
 use Rattle.std.proofs.Common.{IfOk, sym, subst}
-use Rattle.frac128.specs.Fractions.{Fraction, IsFraction, negative_of}
+use Rattle.frac128.specs.Fractions.{Fraction}
 use Rattle.frac128.specs.Values.{IsSum}
 use Rattle.frac128.proofs.FractionLaws.{IfOk-difference, sum-exact}
 use Rattle.frac128.proofs.sums.sub.Goals as goal

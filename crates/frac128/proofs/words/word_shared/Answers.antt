@@ -1,7 +1,6 @@
-use Rattle.std.proofs.Common.{arith, rules, sym, ◌≡◌, ◌<◌, ◌≤◌, ◌<ℤ◌, pos, unsigned_abs}
+use Rattle.std.proofs.Common.{arith, rules, sym, ◌≡◌, ◌<◌, pos, unsigned_abs}
 use Rattle.std.proofs.lemmas.Int.{ints, to_z-of_z}
 use Rattle.std.specs.Int.{w64}
-use Rattle.frac128.specs.Gcd.{gcd}
 use Rattle.frac128.proofs.GcdLaws.{gcd-small, gcd-positive}
 use Rattle.frac128.proofs.SharedLaws.{shared-one}
 use Rattle.frac128.proofs.words.word_shared.Goals as goal

@@ -1,0 +1,11 @@
+pub mod WholeLaws
+pub mod SharedLaws
+pub mod BinaryGcdLaws
+pub mod ComparisonLaws
+pub mod DivisionLaws
+pub mod GcdLaws
+pub mod Quotients
+pub mod Rationals
+pub mod Order
+pub mod Fractions
+pub mod FractionLaws

@@ -1,0 +1,75 @@
+-- Rational numbers as fractions in lowest terms, so that two are equal where their parts are, with their operations.
+use Rattle.std.specs.Prelude.{◌≡◌, ◌≢◌, ℕ, zero, suc, ◌+◌, ◌*◌, ◌/◌, ◌-◌, ℤ, pos, negsuc, neg_ℤ, ◌+ℤ◌, ◌-ℤ◌, ◌*ℤ◌, ◌≤ℤ◌, unsigned_abs}
+use Rattle.frac128.specs.Gcd.{gcd}
+use Rattle.frac128.specs.LowestTerms.{divided, over-lowest}
+
+-- the fraction top / (less + 1) in lowest terms
+pub record Rational : Type 0 where
+  pub top : ℤ
+  pub less : ℕ
+  pub lowest : gcd (unsigned_abs top) (suc less) ≡ 1
+
+-- the denominator of a less by one; shut, so that a product of denominators stays one in goals
+unfoldable pub S : ℕ → ℤ
+S c = pos (suc c)
+
+-- the denominator
+abbrev pub bottom : Rational → ℤ
+bottom p = S p.less
+
+-- a fraction from its parts
+abbrev pub made : (a : ℤ) (c : ℕ) → gcd (unsigned_abs a) (suc c) ≡ 1 → Rational
+made a c h = record { top = a; less = c; lowest = h }
+
+-- the fraction a / (c + 1) in lowest terms
+unfoldable pub over : ℤ → ℕ → Rational
+over a c =
+    let g = gcd (unsigned_abs a) (suc c) in
+    made (divided a g) (suc c / g - 1) (over-lowest a c)
+
+-- the less by one of a product of denominators
+unfoldable pub both : ℕ → ℕ → ℕ
+both c d = c + d + c * d
+
+-- ---- operations
+-- a whole number
+unfoldable pub of : ℤ → Rational
+of z = over z 0
+
+unfoldable pub add : Rational → Rational → Rational
+add p q = over (p.top *ℤ bottom q +ℤ q.top *ℤ bottom p) (both p.less q.less)
+
+unfoldable pub sub : Rational → Rational → Rational
+sub p q = over (p.top *ℤ bottom q -ℤ q.top *ℤ bottom p) (both p.less q.less)
+
+unfoldable pub mul : Rational → Rational → Rational
+mul p q = over (p.top *ℤ q.top) (both p.less q.less)
+
+unfoldable pub neg : Rational → Rational
+neg p = over (neg_ℤ p.top) p.less
+
+-- one divided by a / (c + 1), and 0 for 0
+abbrev pub inverse_of : ℤ → ℕ → Rational
+inverse_of (pos zero) c = of (pos 0)
+inverse_of (pos (suc n)) c = over (S c) n
+inverse_of (negsuc n) c = over (neg_ℤ (S c)) n
+
+unfoldable pub inverse : Rational → Rational
+inverse p = inverse_of p.top p.less
+
+abbrev pub quotient : Rational → Rational → Rational
+quotient p q = mul p (inverse q)
+
+-- a fraction with a positive denominator as a rational number
+unfoldable pub rational : ℤ → ℤ → Rational
+rational n d = over n (unsigned_abs d - 1)
+
+-- ---- order
+abbrev pub NotNegative : Rational → Type 0
+NotNegative p = pos 0 ≤ℤ p.top
+
+abbrev pub AtMost : Rational → Rational → Type 0
+AtMost p q = NotNegative (sub q p)
+
+abbrev pub IsBelow : Rational → Rational → Type 0
+IsBelow p q = AtMost p q × (p ≢ q)

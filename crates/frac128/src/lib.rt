@@ -1,0 +1,27 @@
+//! Exact fractions with parts of 128 bits.
+//!
+//! A [`Frac`] is in lowest terms. An operation answers the exact reduced fraction, or [`Wide`] where a number on the way to it leaves
+//! **the range**, from -(2^127 - 1) to 2^127 - 1. Nothing is rounded, and nothing takes memory.
+#![tactic(auto)]
+
+mod checked;
+mod comparison;
+mod division;
+mod divisors;
+mod fraction;
+mod making;
+mod products;
+mod small;
+mod sums;
+mod words;
+
+pub use comparison::cmp;
+pub use division::{ceil_div, floor_div};
+pub use divisors::gcd;
+pub use fraction::{Frac, Wide};
+pub use making::frac;
+pub use products::{div, mul};
+pub use sums::{add, sub};
+
+#[cfg(test)]
+mod tests;

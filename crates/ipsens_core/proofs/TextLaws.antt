@@ -1,0 +1,40 @@
+-- Printed values, one column at a time.
+use Rattle.std.specs.Prelude.{◌≡◌, ℕ, zero, suc, ◌/◌, ◌%◌, ◌<◌, ◌≤◌, List, [], ◌∷◌, ◌++◌, length, take, zip, flat_map, Some, slice_get, ℤ, pos, negsuc, decimal, refl}
+use Rattle.std.specs.Fmt.{signed_decimal}
+use Rattle.std.proofs.Common.{arith, ap, sym, ◌∙◌, append_assoc}
+use Rattle.ip_defs.specs.Numbers.{decimal_text, size_text}
+use Rattle.ip_defs.specs.Program.{at}
+use Rattle.ip_defs.specs.Texts.{value_line}
+use Rattle.ip_defs.specs.declared.programs.Column.{Column}
+
+append_nil : {A : Type 0} (xs : List A) → xs ++ [] ≡ xs
+append_nil [] = refl
+append_nil (x ∷ xs) = ap (λ l. x ∷ l) (append_nil xs)
+
+-- the values of one more column come last
+pub values_more : (cs : List Column) (xs : List ℤ) (j : ℕ) (c : Column) → slice_get cs j ≡ Some c → j < length xs
+    → flat_map value_line (take (suc j) (zip cs xs)) ≡ flat_map value_line (take j (zip cs xs)) ++ value_line (c, at xs j)
+values_more [] xs j c e l = absurd cc
+values_more (d ∷ cs) [] j c e l = absurd (omega arith)
+values_more (d ∷ cs) (x ∷ xs) zero c e l = let same : d ≡ c = cc in append_nil (value_line (d, x)) ∙ ap (λ b. value_line (b, x)) same
+values_more (d ∷ cs) (x ∷ xs) (suc j) c e l = ap (λ bs. value_line (d, x) ++ bs) (values_more cs xs j c e (omega arith)) ∙ sym (append_assoc (value_line (d, x)) (flat_map value_line (take j (zip cs xs))) (value_line (c, at xs j)))
+
+-- a whole amount is written without decimals
+size_of_whole : (n : ℕ) → size_text n 0 ≡ decimal n
+size_of_whole n =
+    let whole : n / 1 ≡ n = omega arith in
+    let rest : n % 1 ≡ 0 = omega arith in
+    rw (whole, rest) (append_nil (decimal n))
+
+pub whole_text : (z : ℤ) → decimal_text z 0 ≡ signed_decimal z
+whole_text (pos n) = size_of_whole n
+whole_text (negsuc n) = ap (λ l. 45 ∷ l) (size_of_whole (suc n))
+
+-- past the last column all values are there
+pub values_all : (cs : List Column) (xs : List ℤ) (j : ℕ) → length cs ≤ j → flat_map value_line (zip cs xs) ≡ flat_map value_line (take j (zip cs xs))
+values_all [] xs zero h = refl
+values_all [] xs (suc j) h = refl
+values_all (c ∷ cs) [] zero h = absurd (omega arith)
+values_all (c ∷ cs) [] (suc j) h = refl
+values_all (c ∷ cs) (x ∷ xs) zero h = absurd (omega arith)
+values_all (c ∷ cs) (x ∷ xs) (suc j) h = ap (λ bs. value_line (c, x) ++ bs) (values_all cs xs j (omega arith))

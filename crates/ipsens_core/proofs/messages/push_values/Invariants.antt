@@ -1,0 +1,7 @@
+use Rattle.std.proofs.Common.{◌≡◌, ◌++◌, take}
+use Rattle.std.specs.Prelude.{flat_map, string_bytes, zip}
+use Rattle.ip_defs.specs.Texts.{value_line}
+use Rattle.ipsens_core.proofs.messages.push_values.Given as goal
+
+abbrev pub invariant-loop-j : goal.invariant-loop-j
+invariant-loop-j l = string_bytes l.text ≡ string_bytes l.initial.text ++ flat_map value_line (take l.j (zip l.columns l.point))

@@ -15,6 +15,6 @@ above b j cut = slice_set b j (int_max (low_at b j) (cut +ℤ pos 1), high_at b 
 abbrev pub IsOpen : List (ℤ × ℤ) → Type 0
 IsOpen b = (j : ℕ) → j < length b → low_at b j ≤ℤ high_at b j
 
--- the sum of the widths of the columns
+-- the sum of the widths of the columns; an empty column counts 0
 abbrev pub width : List (ℤ × ℤ) → ℕ
 width b = sum_by (λ s. int_gap s.0 s.1) b

@@ -11,13 +11,13 @@ use Rattle.ip_defs.specs.declared.certificates.Bound.{Bound}
 use Rattle.ip_defs.specs.declared.certificates.Bound.TheVariants.{At, Infinite}
 use Rattle.ip_defs.specs.declared.certificates.Cert.{Cert}
 
--- the side that a multiplier pays, 0 where it pays none
+-- the side that a multiplier pays: the low side for a positive one, the high side for a negative one
 abbrev pub side_for : ℤ → Row → Option ℤ
 side_for (pos zero) r = Some (pos 0)
 side_for (pos (suc n)) r = r.low
 side_for (negsuc n) r = r.high
 
--- the multiplier times its side, where the row and the side are there
+-- the multiplier times its side, where the row and the side are there; no multiplier of a certificate is 0
 abbrev pub payment : List Row → ℕ × ℤ → Option ℤ
 payment rows p = option_map (λ side. p.1 *ℤ side) (option_and_then (side_for p.1) (slice_get rows p.0))
 
@@ -26,26 +26,28 @@ abbrev pub pay : List Row → List (ℕ × ℤ) → Option ℤ
 pay rows [] = Some (pos 0)
 pay rows (p ∷ ps) = option_and_then (λ one. option_map (λ rest. one +ℤ rest) (pay rows ps)) (payment rows p)
 
--- the coefficient of a row by number, and 0 where there is no such row
+-- the coefficients of a row, none where there is no such row
 abbrev pub coefs_of : Option Row → List (ℕ × ℤ)
 coefs_of None = []
 coefs_of (Some r) = r.coefs
 
+-- the coefficient of a row and a column by number, and 0 where there is no such row
 abbrev pub entry : List Row → ℕ → ℕ → ℤ
 entry rows i j = coefficient (coefs_of (slice_get rows i)) j
 
--- what is left of a column's cost after the multipliers
+-- the reduced cost of a column: what is left of q times its cost after the multipliers
 abbrev pub reduced : Parts → ℤ → List (ℕ × ℤ) → ℕ → ℤ
 reduced m q y j = q *ℤ at (costs_of m) j -ℤ sum_over (λ p. p.1 *ℤ entry m.rows p.0 j) y
 
--- the least that the columns can add
+-- the least that the columns can add over a box: for each the lesser of its reduced cost times its two ends
 abbrev pub column_part : Parts → List (ℤ × ℤ) → ℤ → List (ℕ × ℤ) → ℤ
 column_part m b q y = sum_below (λ j. int_min (reduced m q y j *ℤ low_at b j) (reduced m q y j *ℤ high_at b j)) (length b)
 
+-- the dual value of a divisor and multipliers over a box, none where a side that is paid is absent
 abbrev pub dual_value : Parts → List (ℤ × ℤ) → ℤ → List (ℕ × ℤ) → Option ℤ
 dual_value m b q y = option_map (λ paid. paid +ℤ (q *ℤ m.constant) +ℤ column_part m b q y) (pay m.rows y)
 
--- the bound with no multipliers
+-- the sum of a box: the dual value of q = 1 with no multipliers
 abbrev pub box_sum : Parts → List (ℤ × ℤ) → ℤ
 box_sum m b = m.constant +ℤ column_part m b (pos 1) []
 
@@ -54,17 +56,18 @@ abbrev pub ceiling : ℤ → ℕ → ℤ
 ceiling (pos a) n = pos ((a + n - 1) / n)
 ceiling (negsuc a) n = neg_ℤ (pos (suc a / n))
 
+-- a column has no number between its sides
 abbrev pub is_empty_side : ℤ × ℤ → Bool
 is_empty_side s = lt_z s.1 s.0
 
--- the bound by the dual_value: q is positive, or 0
+-- what a dual value bounds: rounded up over a positive q; infinite where q is 0 and it is positive; else the sum of the box
 abbrev pub bound_by : ℤ → ℤ → Option ℤ → Bound
 bound_by (pos (suc n)) otherwise (Some g) = At (ceiling g (suc n))
 bound_by (pos zero) otherwise (Some g) = if lt_z (pos 0) g then Infinite else At otherwise
 bound_by (negsuc n) otherwise (Some g) = At otherwise
 bound_by q otherwise None = At otherwise
 
--- the bound of a leaf
+-- the bound of a leaf: infinite where a column of the box is empty, else what its dual value bounds
 abbrev pub leaf_bound : Parts → List (ℤ × ℤ) → Cert → Bound
 leaf_bound m b c = if list_any is_empty_side b then Infinite else bound_by c.q (box_sum m b) (dual_value m b c.q c.y)
 
@@ -73,6 +76,6 @@ abbrev pub IsAtMost : Bound → ℤ → Type 0
 IsAtMost (At v) w = v ≤ℤ w
 IsAtMost Infinite w = ⊥
 
--- weak duality over boxes
+-- weak duality over boxes: each feasible point that lies in a box costs at least the leaf bound of any certificate there
 abbrev pub WeakDuality : Type 0
 WeakDuality = (m : Parts) (b : List (ℤ × ℤ)) (c : Cert) (x : List ℤ) → length b ≡ length m.columns → IsFeasible m x → IsIn b x → IsAtMost (leaf_bound m b c) (cost m x)

@@ -1,5 +1,5 @@
--- What is wrong with an MPS text, in the order in which refusals are answered: line by line, each line judged from the lines
--- before it alone; then the end of the text, the objective, the columns, and the limits of the model.
+-- What is wrong with an MPS text, in the order in which refusals are answered: line by line, each line judged from itself and the
+-- lines before it; then the end of the text, the objective, the columns, and the limits of the model.
 use Rattle.std.specs.Prelude.{ℕ, ◌==◌, nat_lt, nat_le, Bool, false, ◌&&◌, ◌||◌, not, if◌then◌else◌, List, [], ◌∷◌, ◌++◌, length, map, flat_map, position, Option, Some, bytes_eq, codes, ℤ, neg_ℤ}
 use Rattle.std.specs.List.{list_any, list_all}
 use Rattle.std.specs.Option.{option_map_or, is_none}
@@ -113,7 +113,7 @@ all_line_faults ls = flat_map (λ p. line_faults p.0 p.1) (with_earlier ls)
 abbrev pub continuous_faults : List Line → List ℕ → List MpsError
 continuous_faults ls name = when (not (is_integer ls name)) (Continuous name)
 
--- the box side is wanting, or lies beyond the other side, which is present
+-- the side is absent, and the box side is wanting or lies beyond the other side, which is present
 abbrev pub lower_is_missing : Option ℤ → Option ℤ → Option ℤ → Bool
 lower_is_missing box_side lower upper = is_none lower && (is_none box_side || option_map_or (λ b. option_map_or (λ u. lt_z u (neg_ℤ b)) upper false) box_side false)
 
@@ -125,10 +125,11 @@ bound_missing ls how name =
     when (lower_is_missing how.box_side (lower_side ls name) (upper_side ls name)) (NoBound name Lower)
     ++ when (upper_is_missing how.box_side (lower_side ls name) (upper_side ls name)) (NoBound name Upper)
 
--- the last upper entry is UP or UI with a negative number, and no entry is for the lower side
+-- the entry is UP or UI with a negative number
 abbrev pub is_negative_upper : Line → Bool
 is_negative_upper l = kind_is (codes "UP" ∷ codes "UI" ∷ []) l && is_negative_number (number_at (bound_text l))
 
+-- the last upper entry is such a one, and no entry is for the lower side
 abbrev pub upper_faults : List Line → List ℕ → List MpsError
 upper_faults ls name = when (is_none (lower_entry ls name) && option_map_or is_negative_upper (upper_entry ls name) false) (NegativeUpper name)
 
@@ -149,10 +150,10 @@ faults_of_lines ls how =
     ++ flat_map (upper_faults ls) (column_names ls)
     ++ limit_faults (model_from ls how)
 
--- MpsFault: the first refusal of a text, or none
+-- the fault of a text: its first refusal, or none. A byte that is no UTF-8 is one wherever it stands
 abbrev pub mps_fault : List ℕ → How → Option MpsError
 mps_fault text how = if is_utf8 text then first_of (faults_of_lines (lines_of text) how) else Some NotUtf8
 
--- ModelOf, where there is no refusal
+-- the model of a text, where it has no fault
 abbrev pub model_of : List ℕ → How → Parts
 model_of text how = model_from (lines_of text) how

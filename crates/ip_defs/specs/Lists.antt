@@ -32,7 +32,7 @@ with_earlier xs = after_those [] xs
 abbrev pub is_among : List ℕ → List (List ℕ) → Bool
 is_among name names = list_any (bytes_eq name) names
 
--- the least number from i on, of n more at most, that passes
+-- the least of the n numbers from i on that passes, and i + n where none does
 abbrev pub least_from : (ℕ → Bool) → ℕ → ℕ → ℕ
 least_from test i zero = i
 least_from test i (suc n) = let later = least_from test (suc i) n in if test i then i else later

@@ -1,5 +1,5 @@
--- The numbers of a text, and the decimal texts that are printed. A number is an optional sign, digits with an optional point, and
--- an optional exponent of one to four digits, or a word for infinity; it has at most 32 characters.
+-- The numbers of a text, and the decimal texts that are printed. A number is an optional sign, then a numeral (digits with an
+-- optional point, and an optional exponent of one to four digits) or a word for infinity; it has at most 32 characters.
 use Rattle.std.specs.Prelude.{ℕ, zero, suc, ◌+◌, ◌-◌, ◌*◌, ◌/◌, ◌%◌, ◌^◌, ◌==◌, nat_le, Bool, true, false, ◌&&◌, ◌||◌, not, if◌then◌else◌, List, [], ◌∷◌, ◌++◌, length, Option, None, ℤ, pos, negsuc, neg_ℤ, ◌-ℤ◌, ◌*ℤ◌, decimal, codes}
 use Rattle.std.specs.List.{list_any, list_all, before_first, after_first}
 use Rattle.std.specs.Str.{str_eq_ignore_ascii_case}
@@ -122,7 +122,7 @@ abbrev pub places : ℕ → ℕ → List ℕ
 places zero rest = []
 places (suc k) rest = if rest == 0 then [] else (48 + rest / 10 ^ k) ∷ places k (rest % 10 ^ k)
 
--- u units with k decimals, written
+-- n units with k decimals, written
 abbrev pub size_text : ℕ → ℕ → List ℕ
 size_text n k = decimal (n / 10 ^ k) ++ (if n % 10 ^ k == 0 then [] else 46 ∷ places k (n % 10 ^ k))
 

@@ -27,7 +27,7 @@ abbrev pub is_negative_number : Number → Bool
 is_negative_number (Dec units decimals) = lt_z units (pos 0)
 is_negative_number (Large negative) = negative
 
--- the number in units of 10^-k; a Large one stands for 10^20, which passes each limit
+-- the number in units of 10^-k; a Large one stands for 10^20 of the written units with its sign, which passes each limit
 abbrev pub units : ℕ → Number → ℤ
 units k (Dec u d) = u *ℤ pos (10 ^ (k - d))
 units k (Large negative) = signed negative (10 ^ (20 + k))
@@ -51,7 +51,8 @@ sets_lower l = kind_is (codes "LO" ∷ codes "LI" ∷ codes "FX" ∷ codes "FR" 
 abbrev pub sets_upper : Line → Bool
 sets_upper l = kind_is (codes "UP" ∷ codes "UI" ∷ codes "FX" ∷ codes "FR" ∷ codes "PL" ∷ codes "BV" ∷ []) l
 
--- the side that an entry gives: none, 0 or 1, or its number; Large without end on its own side is none
+-- the side that an entry gives: BV gives 0 and 1, FR, MI and PL none, the others their number, rounded inwards, but none where it
+-- is Large towards that side
 abbrev pub lower_by : Line → Option ℤ
 lower_by l =
     let n = number_at (bound_text l) in
@@ -106,7 +107,7 @@ decimals_in es row = map (λ e. decimals_of (number_at e.text)) (filter (λ e. b
 abbrev pub row_decimals : List Line → How → List ℕ → ℕ
 row_decimals ls how row = largest how.digits (decimals_in (kept_entries (codes "COLUMNS") ls ++ kept_entries (codes "RHS") ls ++ kept_entries (codes "RANGES") ls) row)
 
--- the table of row sides: v is the right side, r the range and s its size, in units
+-- the table of row sides: v is the right side, r the range and s its size, in units; finite says that the range is not Large
 abbrev pub range_sides : List ℕ → ℤ → Bool → ℤ → ℕ → Option ℤ × Option ℤ
 range_sides kind v finite r s =
     let low = where_true finite (v -ℤ pos s) in
@@ -121,7 +122,7 @@ plain_sides kind v =
     if bytes_eq kind (codes "L") then (None, Some v)
     else (if bytes_eq kind (codes "G") then (Some v, None) else (Some v, Some v))
 
--- a Large right side gives a row without sides, or passes its limit
+-- a Large right side gives a row without sides
 abbrev pub is_open : List ℕ → Number → Bool
 is_open kind b =
     is_large b && ((bytes_eq kind (codes "L") && not (is_negative_number b)) || (bytes_eq kind (codes "G") && is_negative_number b))

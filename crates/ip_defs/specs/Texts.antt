@@ -21,7 +21,7 @@ use Rattle.ip_defs.specs.declared.texts.MpsError.TheVariants.{NotBuilt, NotUtf8,
 abbrev pub newline : List ℕ
 newline = 10 ∷ []
 
--- V: an amount in cost units
+-- an amount in units of the costs, as it is printed
 abbrev pub value_text : Parts → ℤ → List ℕ
 value_text m v = decimal_text v m.cost_decimals
 
@@ -36,7 +36,7 @@ abbrev pub optimum_lines : Parts → Option (List ℤ) → List ℕ
 optimum_lines m None = codes "empty" ++ newline
 optimum_lines m (Some x) = codes "optimum " ++ value_text m (cost m x) ++ newline ++ value_lines m x
 
--- how many nodes a tree has, and how many of its splits were made without a linear program
+-- how many nodes a tree has, and how many of its splits were made without the answer of a linear program
 abbrev pub count_lines : ℕ → ℕ → List ℕ
 count_lines nodes skipped = codes "nodes " ++ decimal nodes ++ newline ++ codes "skipped " ++ decimal skipped ++ newline
 
@@ -140,10 +140,11 @@ columns_block m =
     if length m.columns == 0 then []
     else triple (codes "M") (codes "'MARKER'") (codes "'INTORG'") ∷ flat_map (column_block m) (enumerate_from 0 m.columns) ++ triple (codes "M") (codes "'MARKER'") (codes "'INTEND'") ∷ []
 
--- the low side of G, else the high side, and 1e30 for a row without sides; nothing for 0
+-- the right side of a row: the low side of G, else the high side
 abbrev pub right_side : Row → Option ℤ
 right_side r = if is_from_below r then r.low else r.high
 
+-- its line: nothing for 0, and 1e30 for a row without sides
 abbrev pub rhs_line : Row → List Written
 rhs_line r = option_map_or (λ b. when (not (int_eq b (pos 0))) (triple (codes "RHS") r.name (decimal_text b r.decimals))) (right_side r) (triple (codes "RHS") r.name (codes "1e30") ∷ [])
 

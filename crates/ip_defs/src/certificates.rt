@@ -17,7 +17,7 @@ pub enum Bound {
 }
 
 /// Weak duality over boxes: each feasible point that lies in a box costs at least the leaf bound of any certificate there, and
-/// where the bound is infinite there is no such point. After the weak duality of linear programs.
+/// where the bound is infinite there is no such point. The idea is the weak duality of linear programs, over boxes in place of the dual signs.
 pub fn weak_duality()
     ensures { WeakDuality }
 {}

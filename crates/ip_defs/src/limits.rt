@@ -1,4 +1,4 @@
-/// What a limit is of, in the order in which limits are tried.
+/// What a limit is of. The limits of one column are tried before those of the next, and so those of rows: `limits_of` has the order.
 #[derive(Clone, Copy, Debug, PartialEq, Eq)]
 pub enum What {
     /// The number of columns, at most 4,096.

@@ -35,13 +35,13 @@ pub enum MpsError {
     /// The text is not UTF-8.
     #[error("the text is not UTF-8")]
     NotUtf8,
-    /// A section comes again or out of order, or a data line stands before ROWS.
+    /// A section comes again or out of order, or one that it needs is missing; or a data line stands before ROWS.
     #[error("line {line}: a section is out of order")]
     SectionOrder { line: u32 },
     /// The section word is none of the seven.
     #[error("line {line}: unknown section")]
     UnknownSection { line: u32 },
-    /// A data line has a number of fields that its section does not have.
+    /// A data line has a number of fields that its section, and in BOUNDS its kind, does not have.
     #[error("line {line}: wrong number of fields")]
     FieldCount { line: u32 },
     /// The kind of a row is none of N, L, G and E.
@@ -56,13 +56,13 @@ pub enum MpsError {
     /// A column comes again after a line of another column or a marker.
     #[error("line {line}: the column comes again")]
     SplitColumn { line: u32 },
-    /// An entry is written twice.
+    /// An entry of a kept row, a right side or a range is written twice.
     #[error("line {line}: the entry is written twice")]
     TwiceEntry { line: u32 },
     /// A field is no number.
     #[error("line {line}: a field is no number")]
     Number { line: u32 },
-    /// A marker opens what is open, closes what is not, or is none.
+    /// A marker opens what is open, closes what is not, or is none; or a row is named as a marker.
     #[error("line {line}: wrong marker")]
     Marker { line: u32 },
     /// The kind of a bound is none of the nine.
@@ -77,8 +77,8 @@ pub enum MpsError {
     /// A side of a column is absent, and no box side can stand for it.
     #[error("column {column} has no {side:?} bound")]
     NoBound { column: Name, side: Side },
-    /// The only bound of a column is a negative upper one.
-    #[error("column {column} has a negative upper bound alone")]
+    /// The last upper bound of a column is UP or UI with a negative number, and no entry is for its lower side.
+    #[error("column {column} has a negative upper bound and no lower one")]
     NegativeUpper { column: Name },
     /// A limit is passed.
     #[error("a limit is passed")]
@@ -89,7 +89,7 @@ pub enum MpsError {
     /// There is no ENDATA line.
     #[error("there is no ENDATA line")]
     NoEnd,
-    /// A number has more than nine decimals.
+    /// A kept cost, coefficient, right side, range or constant has more than nine decimals.
     #[error("line {line}: more than nine decimals")]
     Digits { line: u32 },
     /// Memory was wanting; nothing is said of the text.

@@ -1,4 +1,4 @@
-ghost use Rattle.std.specs.Prelude.{◌≡◌, ◌≤◌, ◌^◌, length, None};
+ghost use Rattle.std.specs.Prelude.{◌≡◌, ◌≤◌, ◌^◌, IfOk, length, None};
 
 use crate::draft::{Draft, RowDraft, RowKind, name_of};
 use crate::fields::{Kind, fields_of, kind_of, without_return};
@@ -100,7 +100,8 @@ fn row_of(alloc: Global, name: &str, row: &RowDraft) -> Result<Row, MpsError> {
 }
 
 /// Goes through the lines up to ENDATA.
-fn draft_of(alloc: Global, text: &str) -> Result<Draft, MpsError> {
+fn draft_of(alloc: Global, text: &str) -> Result<Draft, MpsError>
+{
     let mut draft = Draft::new(alloc);
     let mut line: u32 = 0;
     for piece in text.split('\n') {
@@ -125,7 +126,9 @@ fn draft_of(alloc: Global, text: &str) -> Result<Draft, MpsError> {
 }
 
 /// The parts of a draft.
-fn parts_of(alloc: Global, draft: &Draft) -> Result<Parts, MpsError> {
+fn parts_of(alloc: Global, draft: &Draft) -> Result<Parts, MpsError>
+    ensures { IfOk result (λ m. m.cost_decimals ≡ 0) }
+{
     let objective = match &draft.objective {
         Some(name) => name_of(alloc, name.as_str())?,
         None => return Err(MpsError::NotBuilt),
@@ -145,6 +148,7 @@ pub fn read(alloc: Global, text: &[u8], how: How) -> Result<IntModel, MpsError>
     requires length { length text.now ≤ 2 ^ 31 }
     requires digits { how.digits ≡ 0 }
     requires box_side { how.box_side ≡ None }
+    ensures { IfOk result (λ m. m.cost_decimals ≡ 0) }
 {
     let text = match str::from_utf8(text) {
         Ok(text) => text,
@@ -168,25 +172,5 @@ pub fn read(alloc: Global, text: &[u8], how: How) -> Result<IntModel, MpsError>
             side: Side::Upper,
         }),
         None => Ok(model),
-    }
-}
-
-#[cfg(test)]
-mod tests {
-    use super::*;
-    use std::test::Fail;
-
-    const HOW: How = How {
-        digits: 0,
-        box_side: None,
-    };
-
-    #[test]
-    fn tries(rt: HostRuntime) -> Result<(), Fail> {
-        let alloc = rt.alloc();
-        let text = b"NAME example\nROWS\n N cost\n L r1\nCOLUMNS\n M 'MARKER' 'INTORG'\n a cost -5 r1 2\n M 'MARKER' 'INTEND'\nRHS\n RHS r1 5\nBOUNDS\n UP BND a 10\nENDATA\n";
-        let model = read(alloc, text, HOW)?;
-        assert_eq!(rt; model.parts().columns.as_slice().len(), 1);
-        Ok(())
     }
 }

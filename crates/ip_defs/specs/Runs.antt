@@ -59,7 +59,7 @@ IsSolveAnswer q bytes a =
 abbrev pub IsAnswerOrRefusal : Request → List ℕ → Answer → Type 0
 IsAnswerOrRefusal q bytes a =
     ((m : Parts) × IsWithinLimits m × ((o : Option (List ℤ)) × Solves m o × (a ≡ says Answered (optimum_lines m o))))
-        ⊎ ((e : MpsError) × (a ≡ refuses_model (refusal_text e)))
+    ⊎ ((e : MpsError) × (a ≡ refuses_model (refusal_text e)))
 
 -- ---- the run relation, over what is owed to the model file
 

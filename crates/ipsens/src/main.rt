@@ -1,12 +1,11 @@
 //! The program `ipsens`: an exact solver for bounded integer programs.
 #![tactic(auto)]
 
-use ipsens_core::{Status, code, run};
 use ips_io::{file_shelf, out_sink};
-use std::env;
-use std::io;
+use ipsens_core::{Status, code, run};
 use std::process::ExitCode;
 use std::rt::Env;
+use std::{env, io};
 
 /// The words after the program's name, none where they are no text: those are no command then.
 fn words_of<R: Env + AllocGlobal>(rt: &R) -> Result<Vec<String>, io::Error> {

@@ -5,7 +5,7 @@ use Rattle.std.proofs.lemmas.Bool.Decides.{nat_tests}
 use Rattle.std.proofs.lemmas.List.{length-replicate}
 use Rattle.std.proofs.lemmas.Slice.Eq.{bytes_eq-Decides}
 use Rattle.ip_defs.specs.Files.{Files, file_of, Keeps, Takes, Agrees}
-use Rattle.ip_defs.specs.Runs.{Answer, Outside, says, refuses_model, longest_model, AnswersModel, AnswersRequest, IsRunOf, IsAnswered, IsCutOff, RunMeets}
+use Rattle.ip_defs.specs.Runs.{Answer, Outside, says, refuses_model, longest_model, AnswersModel, AnswersRequest, IsAnswerOrRefusal, IsRunOf, IsAnswered, IsCutOff, RunMeets}
 use Rattle.ip_defs.specs.Texts.{refused_model}
 use Rattle.ip_defs.specs.Words.{Word, request_of, usage_text}
 use Rattle.ip_defs.specs.declared.runs.Request.{Request}
@@ -189,3 +189,7 @@ usage_meets IsRight words files taken taken' f f' result none writes =
 pub told_of : (status : Status) → (status ≡ Answered) ⊎ (status ≡ Refused) → IsTold status
 told_of status (inl e) = inl e
 told_of status (inr e) = inr (inl e)
+
+-- the bytes of a text are an answer where the text is
+pub right_text : (q : Request) (bytes : List ℕ) (status : Status) (text written : List ℕ) → written ≡ text → IsAnswerOrRefusal q bytes (says status text) → IsAnswerOrRefusal q bytes (says status written)
+right_text q bytes status text written e h = rw e h

@@ -1,10 +1,11 @@
 -- Printed values, one column at a time.
-use Rattle.std.specs.Prelude.{◌≡◌, ℕ, zero, suc, ◌/◌, ◌%◌, ◌<◌, ◌≤◌, List, [], ◌∷◌, ◌++◌, length, take, zip, flat_map, Some, slice_get, ℤ, pos, negsuc, decimal, refl}
+use Rattle.std.specs.Prelude.{◌≡◌, ℕ, zero, suc, ◌/◌, ◌%◌, ◌<◌, ◌≤◌, List, [], ◌∷◌, ◌++◌, length, take, zip, flat_map, Some, slice_get, ℤ, pos, negsuc, decimal, codes, refl}
 use Rattle.std.specs.Fmt.{signed_decimal}
 use Rattle.std.proofs.Common.{arith, ap, sym, ◌∙◌, append_assoc}
 use Rattle.ip_defs.specs.Numbers.{decimal_text, size_text}
 use Rattle.ip_defs.specs.Program.{at}
-use Rattle.ip_defs.specs.Texts.{value_line}
+use Rattle.ip_defs.specs.Texts.{on_column, refused_model, side_text, value_line}
+use Rattle.ip_defs.specs.declared.texts.Side.TheVariants.{Lower, Upper}
 use Rattle.ip_defs.specs.declared.programs.Column.{Column}
 
 append_nil : {A : Type 0} (xs : List A) → xs ++ [] ≡ xs
@@ -38,3 +39,14 @@ values_all (c ∷ cs) [] zero h = absurd (omega arith)
 values_all (c ∷ cs) [] (suc j) h = refl
 values_all (c ∷ cs) (x ∷ xs) zero h = absurd (omega arith)
 values_all (c ∷ cs) (x ∷ xs) (suc j) h = ap (λ bs. value_line (c, x) ++ bs) (values_all cs xs j (omega arith))
+
+-- the two parts of a value's line
+pub value_text_is : (name number : List ℕ) → (codes "value " ++ name ++ codes " ") ++ (number ++ codes "\n") ≡ codes "value " ++ name ++ codes " " ++ number ++ codes "\n"
+value_text_is name number = sym (append_assoc (codes "value " ++ name ++ codes " ") number (codes "\n"))
+
+-- the line of a column without a side
+pub no_lower_is : (name : List ℕ) → codes "refused model M15 column " ++ name ++ codes " lower\n" ≡ refused_model (codes "M15" ++ on_column name ++ side_text Lower)
+no_lower_is name = ap (λ bs. codes "refused model M15 column " ++ bs) (sym (append_assoc name (codes " lower") (codes "\n")))
+
+pub no_upper_is : (name : List ℕ) → codes "refused model M15 column " ++ name ++ codes " upper\n" ≡ refused_model (codes "M15" ++ on_column name ++ side_text Upper)
+no_upper_is name = ap (λ bs. codes "refused model M15 column " ++ bs) (sym (append_assoc name (codes " upper") (codes "\n")))

@@ -1,7 +1,9 @@
-ghost use Rattle.std.specs.Prelude.{◌≡◌, length};
+ghost use Rattle.std.specs.Prelude.{◌≡◌, ◌≢◌, ◌++◌, IfOk, OnOk, Some, codes, decimal, flat_map, length, string_bytes, zip};
+ghost use Rattle.std.specs.Fmt.{signed_decimal};
 ghost use Rattle.std.specs.Option.{ForSome};
+ghost use Rattle.ip_defs.specs.Texts.{on_column, optimum_lines, refusal_text, refused_model, side_text, value_line, what_text};
 
-use ip_defs::{Limit, MpsError, Point, Side, What};
+use ip_defs::{Column, Limit, MpsError, Point, Side, What};
 use ip_model::{IntModel, cost};
 use std::alloc::{AllocError, Global};
 
@@ -12,31 +14,88 @@ pub const USAGE: &[u8] =
 /// What is printed for a model file that is too long.
 pub const TOO_LONG: &[u8] = b"refused model too long\n";
 
-/// The text of a solved model: `optimum V` and a `value` line for each column in order, or `empty`.
+/// The front of a column's line: its name.
+fn named(alloc: Global, name: &str) -> Result<String, AllocError>
+    ensures { IfOk result (λ s. string_bytes s ≡ codes "value " ++ name.now ++ codes " ") }
+{
+    format!(in alloc; "value {name} ")
+}
+
+/// The rest of a column's line: its value.
+fn numbered(alloc: Global, value: i64) -> Result<String, AllocError>
+    ensures { IfOk result (λ s. string_bytes s ≡ signed_decimal value ++ codes "\n") }
+{
+    format!(in alloc; "{value}\n")
+}
+
+/// The line of a column's value at a point.
+fn value_text(alloc: Global, name: &str, value: i64) -> Result<String, AllocError>
+    ensures { IfOk result (λ s. string_bytes s ≡ codes "value " ++ name.now ++ codes " " ++ signed_decimal value ++ codes "\n") }
+{
+    let mut line = named(alloc, name)?;
+    let number = numbered(alloc, value)?;
+    line.push_str(number.as_str())?;
+    Ok(line)
+}
+
+/// Adds the line of each column's value, in order.
+fn push_values(
+    alloc: Global,
+    columns: &[Column],
+    point: &[i64],
+    text: &mut String,
+) -> Result<(), AllocError>
+    requires { length point.now ≡ length columns.now }
+    ensures { OnOk result (string_bytes text.new ≡ string_bytes text.old ++ flat_map value_line (zip columns.now point.now)) }
+{
+    for (j, column) in columns.iter().enumerate() {
+        let line = value_text(alloc, column.name.as_str(), point[j])?;
+        text.push_str(line.as_str())?;
+    }
+    Ok(())
+}
+
+/// The first line of an optimum.
+fn optimum_line(alloc: Global, cost: i128) -> Result<String, AllocError>
+    ensures { IfOk result (λ s. string_bytes s ≡ codes "optimum " ++ signed_decimal cost ++ codes "\n") }
+{
+    format!(in alloc; "optimum {cost}\n")
+}
+
+/// The text of a point and its cost.
+fn optimum_text(alloc: Global, model: &IntModel, point: &Point) -> Result<String, AllocError>
+    requires size { length point.now ≡ length model.now.columns }
+    requires units { model.now.cost_decimals ≡ 0 }
+    ensures { IfOk result (λ s. string_bytes s ≡ optimum_lines model.now (Some point.now)) }
+{
+    let cost = cost(model, point);
+    let mut text = optimum_line(alloc, cost)?;
+    let columns = model.parts().columns.as_slice();
+    push_values(alloc, columns, point.as_slice(), &mut text)?;
+    Ok(text)
+}
+
+/// The text of a solved model whose costs are whole: `optimum V` and a `value` line for each column in order, or `empty`.
 pub fn solve_text(
     alloc: Global,
     model: &IntModel,
     outcome: &Option<Point>,
 ) -> Result<String, AllocError>
-    requires { ForSome outcome.now (λ x. length x ≡ length model.now.columns) }
+    requires size { ForSome outcome.now (λ x. length x ≡ length model.now.columns) }
+    requires units { model.now.cost_decimals ≡ 0 }
+    ensures { IfOk result (λ s. string_bytes s ≡ optimum_lines model.now outcome.now) }
 {
-    let point = match outcome {
-        Some(point) => point,
-        None => return String::from_str(alloc, "empty\n"),
-    };
-    let cost = cost(model, point);
-    let mut text = format!(in alloc; "optimum {cost}\n")?;
-    let columns = model.parts().columns.as_slice();
-    for (column, value) in columns.iter().zip(point.as_slice()) {
-        let name = column.name.as_str();
-        let line = format!(in alloc; "value {name} {value}\n")?;
-        text.push_str(line.as_str())?;
+    match outcome {
+        Some(point) => optimum_text(alloc, model, point),
+        None => String::from_str(alloc, "empty\n"),
     }
-    Ok(text)
 }
 
 /// The line of a refused model text.
-pub fn refusal_line(alloc: Global, error: &MpsError) -> Result<String, AllocError> {
+pub fn refusal_line(alloc: Global, error: &MpsError) -> Result<String, AllocError>
+    requires { error.now ≢ MpsError.Memory }
+    ensures { IfOk result (λ s. string_bytes s ≡ refused_model (refusal_text error.now)) }
+{
     match error {
         MpsError::NotBuilt => String::from_str(alloc, "refused model M0\n"),
         MpsError::NotUtf8 => String::from_str(alloc, "refused model M1\n"),
@@ -56,11 +115,7 @@ pub fn refusal_line(alloc: Global, error: &MpsError) -> Result<String, AllocErro
             let column = column.as_str();
             format!(in alloc; "refused model M14 column {column}\n")
         }
-        MpsError::NoBound { column, side } => {
-            let column = column.as_str();
-            let side = side_word(*side);
-            format!(in alloc; "refused model M15 column {column} {side}\n")
-        }
+        MpsError::NoBound { column, side } => no_bound_line(alloc, column.as_str(), *side),
         MpsError::NegativeUpper { column } => {
             let column = column.as_str();
             format!(in alloc; "refused model M16 column {column}\n")
@@ -69,24 +124,42 @@ pub fn refusal_line(alloc: Global, error: &MpsError) -> Result<String, AllocErro
         MpsError::NoObjective => String::from_str(alloc, "refused model M18\n"),
         MpsError::NoEnd => String::from_str(alloc, "refused model M19\n"),
         MpsError::Digits { line } => format!(in alloc; "refused model M20 line {line}\n"),
-        MpsError::Memory => Ok(String::new(alloc)),
+        MpsError::Memory => unreachable!(),
     }
 }
 
-fn side_word(side: Side) -> &'static str {
+fn no_lower_line(alloc: Global, column: &str) -> Result<String, AllocError>
+    ensures { IfOk result (λ s. string_bytes s ≡ codes "refused model M15 column " ++ column.now ++ codes " lower\n") }
+{
+    format!(in alloc; "refused model M15 column {column} lower\n")
+}
+
+fn no_upper_line(alloc: Global, column: &str) -> Result<String, AllocError>
+    ensures { IfOk result (λ s. string_bytes s ≡ codes "refused model M15 column " ++ column.now ++ codes " upper\n") }
+{
+    format!(in alloc; "refused model M15 column {column} upper\n")
+}
+
+fn no_bound_line(alloc: Global, column: &str, side: Side) -> Result<String, AllocError>
+    ensures { IfOk result (λ s. string_bytes s ≡ refused_model (codes "M15" ++ on_column column.now ++ side_text side)) }
+{
     match side {
-        Side::Lower => "lower",
-        Side::Upper => "upper",
+        Side::Lower => no_lower_line(alloc, column),
+        Side::Upper => no_upper_line(alloc, column),
     }
 }
 
-fn limit_line(alloc: Global, limit: &Limit) -> Result<String, AllocError> {
+fn limit_line(alloc: Global, limit: &Limit) -> Result<String, AllocError>
+    ensures { IfOk result (λ s. string_bytes s ≡ refused_model (codes "M17 " ++ what_text limit.now.what ++ codes " " ++ decimal limit.now.index)) }
+{
     let what = what_word(limit.what);
     let index = limit.index;
     format!(in alloc; "refused model M17 {what} {index}\n")
 }
 
-fn what_word(what: What) -> &'static str {
+fn what_word(what: What) -> &'static str
+    ensures { result.now ≡ what_text what }
+{
     match what {
         What::Columns => "columns",
         What::Rows => "rows",

@@ -1,6 +1,8 @@
-ghost use Rattle.std.specs.Prelude.{◌≡◌, ◌⊎◌, ◌≤◌, IfOk, length, map, string_bytes, None, Some};
+ghost use Rattle.std.specs.Prelude.{◌≡◌, ◌⊎◌, ◌≤◌, IfOk, List, None, Option, ℤ, length, map, string_bytes};
 ghost use Rattle.ip_defs.specs.Files.{Takes};
-ghost use Rattle.ip_defs.specs.Runs.{AnswersRequest, IsAnswerOrRefusal, IsRunOf, RunMeets};
+ghost use Rattle.ip_defs.specs.Limits.{IsWithinLimits};
+ghost use Rattle.ip_defs.specs.Runs.{AnswersRequest, IsAnswerOrRefusal, IsRunOf, RunMeets, Solves, says};
+ghost use Rattle.ip_defs.specs.Texts.{optimum_lines};
 ghost use Rattle.ip_defs.specs.Words.{request_of};
 ghost use Rattle.ips_io.specs.Causes.{Rose};
 ghost use Rattle.ipsens_core.specs.Outcomes.{IsPlainSolve, Writes, model_of_request, shows};
@@ -9,6 +11,7 @@ use crate::messages::{TOO_LONG, USAGE, refusal_line, solve_text};
 use crate::search::solve;
 use crate::words::{WordsError, request};
 use ip_defs::{How, Memory, MpsError, Name, Request, Status};
+use ip_model::IntModel;
 use ips_io::{ReadError, Shelf, Sink, read_all, write_all};
 use mps_reader::read;
 use std::alloc::Global;
@@ -22,18 +25,34 @@ const PLAIN: How = How {
     box_side: None,
 };
 
+/// The text of a solved model.
+fn solved_text(alloc: Global, model: &IntModel) -> Result<String, Memory>
+    requires { model.now.cost_decimals ≡ 0 }
+    ensures limits { IsWithinLimits model.now }
+    ensures text { IfOk result (λ s. (o : Option (List ℤ)) × Solves model.now o × (string_bytes s ≡ optimum_lines model.now o)) }
+{
+    let _parts = model.parts();
+    let outcome = solve(alloc, model)?;
+    let text = solve_text(alloc, model, &outcome)?;
+    Ok(text)
+}
+
 /// What is printed for a model file, and whether it is an answer or a refusal.
 fn answer_of(alloc: Global, bytes: &[u8]) -> Result<(Status, String), Memory>
     requires { length bytes.now ≤ 16777216 }
-    ensures { IfOk result (λ r. (r.0 ≡ Status.Answered) ⊎ (r.0 ≡ Status.Refused)) }
+    ensures told { IfOk result (λ r. (r.0 ≡ Status.Answered) ⊎ (r.0 ≡ Status.Refused)) }
+    ensures right { IfOk result (λ r. (q : Request) → IsAnswerOrRefusal q bytes.now (says r.0 (string_bytes r.1))) }
 {
     match read(alloc, bytes, PLAIN) {
         Ok(model) => {
-            let outcome = solve(alloc, &model)?;
-            Ok((Status::Answered, solve_text(alloc, &model, &outcome)?))
+            let text = solved_text(alloc, &model)?;
+            Ok((Status::Answered, text))
         }
         Err(MpsError::Memory) => Err(Memory),
-        Err(error) => Ok((Status::Refused, refusal_line(alloc, &error)?)),
+        Err(error) => {
+            let text = refusal_line(alloc, &error)?;
+            Ok((Status::Refused, text))
+        }
     }
 }
 

@@ -6,17 +6,35 @@ use std::alloc::{AllocError, Global};
 use std::test::Fail;
 
 /// Least -5a - 4b - 3c with three rows; its least point is (2, 0, 1).
-const THREE_ROWS: &str = "NAME example\nROWS\n N cost\n L r1\n L r2\n L r3\nCOLUMNS\n M 'MARKER' 'INTORG'\n a cost -5 r1 2\n a r2 4 r3 3\n b cost -4 r1 3\n b r2 1 r3 4\n c cost -3 r1 1\n c r2 2 r3 2\n M 'MARKER' 'INTEND'\nRHS\n RHS r1 5 r2 11\n RHS r3 8\nBOUNDS\n UP BND a 10\n UP BND b 10\n UP BND c 10\nENDATA\n";
-const NO_NUMBER: &str = "NAME example\nROWS\n N cost\n L r1\n L r2\n L r3\nCOLUMNS\n M 'MARKER' 'INTORG'\n a cost -5 r1 2\n a r2 4 r3 3\n b cost -4x r1 3\n b r2 1 r3 4\n c cost -3 r1 1\n c r2 2 r3 2\n M 'MARKER' 'INTEND'\nRHS\n RHS r1 5 r2 11\n RHS r3 8\nBOUNDS\n UP BND a 10\n UP BND b 10\n UP BND c 10\nENDATA\n";
-const DECIMALS: &str = "NAME example\nROWS\n N cost\n L r1\n L r2\n L r3\nCOLUMNS\n M 'MARKER' 'INTORG'\n a cost -5 r1 2\n a r2 4 r3 3\n b cost -4.5 r1 3\n b r2 1 r3 4\n c cost -3 r1 1\n c r2 2 r3 2\n M 'MARKER' 'INTEND'\nRHS\n RHS r1 5 r2 11\n RHS r3 8\nBOUNDS\n UP BND a 10\n UP BND b 10\n UP BND c 10\nENDATA\n";
-const HALF: &str = "ROWS\n N cost\n L r1\nCOLUMNS\n M 'MARKER' 'INTORG'\n x cost -1 r1 2\n M 'MARKER' 'INTEND'\nRHS\n RHS r1 3\nBOUNDS\n UP BND x 5\nENDATA\n";
-const ODD: &str = "ROWS\n N cost\n E e\nCOLUMNS\n M 'MARKER' 'INTORG'\n x e 2\n y e -2\n M 'MARKER' 'INTEND'\nRHS\n RHS e 1\nBOUNDS\n BV BND x\n BV BND y\nENDATA\n";
-const NO_ROWS: &str = "ROWS\n N cost\nCOLUMNS\n M 'MARKER' 'INTORG'\n x cost 2\n y cost -1\n M 'MARKER' 'INTEND'\nBOUNDS\n UP BND x 4\n UP BND y 4\nENDATA\n";
-const EMPTY_COLUMN: &str = "ROWS\n N cost\nCOLUMNS\n M 'MARKER' 'INTORG'\n x cost 1\n M 'MARKER' 'INTEND'\nBOUNDS\n LO BND x 5\n UP BND x 3\nENDATA\n";
-const NEGATIVE_SUM: &str = "ROWS\n N cost\n L r1\nCOLUMNS\n M 'MARKER' 'INTORG'\n x cost -1 r1 1\n y cost -1 r1 1\n M 'MARKER' 'INTEND'\nRHS\n RHS r1 -1\nBOUNDS\n UP BND x 1\n UP BND y 1\nENDATA\n";
-const NO_UPPER: &str = "ROWS\n N cost\n L r1\nCOLUMNS\n M 'MARKER' 'INTORG'\n x cost -1 r1 2\n M 'MARKER' 'INTEND'\nRHS\n RHS r1 7\nENDATA\n";
+const THREE_ROWS: &str =
+    "NAME example\nROWS\n N cost\n L r1\n L r2\n L r3\nCOLUMNS\n M 'MARKER' 'INTORG'\n a cost -5 r1 2\n a r2 4 r3 3\n b cost -4 r1 3\n b r2 1 r3 4\n c cost -3 r1 1\n c r2 2 r3 2\n M 'MARKER' 'INTEND'\nRHS\n RHS r1 5 r2 11\n RHS r3 8\nBOUNDS\n UP BND a 10\n UP BND b 10\n UP BND c 10\nENDATA\n";
 
-const USAGE_LINE: &str = "usage: ipsens solve MODEL | check MODEL TREE | ask MODEL TREE QUESTIONS | sweep MODEL SWEEP | recheck MODEL SWEEP PROOF | show MODEL | trial N\n";
+const NO_NUMBER: &str =
+    "NAME example\nROWS\n N cost\n L r1\n L r2\n L r3\nCOLUMNS\n M 'MARKER' 'INTORG'\n a cost -5 r1 2\n a r2 4 r3 3\n b cost -4x r1 3\n b r2 1 r3 4\n c cost -3 r1 1\n c r2 2 r3 2\n M 'MARKER' 'INTEND'\nRHS\n RHS r1 5 r2 11\n RHS r3 8\nBOUNDS\n UP BND a 10\n UP BND b 10\n UP BND c 10\nENDATA\n";
+
+const DECIMALS: &str =
+    "NAME example\nROWS\n N cost\n L r1\n L r2\n L r3\nCOLUMNS\n M 'MARKER' 'INTORG'\n a cost -5 r1 2\n a r2 4 r3 3\n b cost -4.5 r1 3\n b r2 1 r3 4\n c cost -3 r1 1\n c r2 2 r3 2\n M 'MARKER' 'INTEND'\nRHS\n RHS r1 5 r2 11\n RHS r3 8\nBOUNDS\n UP BND a 10\n UP BND b 10\n UP BND c 10\nENDATA\n";
+
+const HALF: &str =
+    "ROWS\n N cost\n L r1\nCOLUMNS\n M 'MARKER' 'INTORG'\n x cost -1 r1 2\n M 'MARKER' 'INTEND'\nRHS\n RHS r1 3\nBOUNDS\n UP BND x 5\nENDATA\n";
+
+const ODD: &str =
+    "ROWS\n N cost\n E e\nCOLUMNS\n M 'MARKER' 'INTORG'\n x e 2\n y e -2\n M 'MARKER' 'INTEND'\nRHS\n RHS e 1\nBOUNDS\n BV BND x\n BV BND y\nENDATA\n";
+
+const NO_ROWS: &str =
+    "ROWS\n N cost\nCOLUMNS\n M 'MARKER' 'INTORG'\n x cost 2\n y cost -1\n M 'MARKER' 'INTEND'\nBOUNDS\n UP BND x 4\n UP BND y 4\nENDATA\n";
+
+const EMPTY_COLUMN: &str =
+    "ROWS\n N cost\nCOLUMNS\n M 'MARKER' 'INTORG'\n x cost 1\n M 'MARKER' 'INTEND'\nBOUNDS\n LO BND x 5\n UP BND x 3\nENDATA\n";
+
+const NEGATIVE_SUM: &str =
+    "ROWS\n N cost\n L r1\nCOLUMNS\n M 'MARKER' 'INTORG'\n x cost -1 r1 1\n y cost -1 r1 1\n M 'MARKER' 'INTEND'\nRHS\n RHS r1 -1\nBOUNDS\n UP BND x 1\n UP BND y 1\nENDATA\n";
+
+const NO_UPPER: &str =
+    "ROWS\n N cost\n L r1\nCOLUMNS\n M 'MARKER' 'INTORG'\n x cost -1 r1 2\n M 'MARKER' 'INTEND'\nRHS\n RHS r1 7\nENDATA\n";
+
+const USAGE_LINE: &str =
+    "usage: ipsens solve MODEL | check MODEL TREE | ask MODEL TREE QUESTIONS | sweep MODEL SWEEP | recheck MODEL SWEEP PROOF | show MODEL | trial N\n";
 
 fn owned(alloc: Global, words: &[&str]) -> Result<Vec<String>, AllocError> {
     let mut all = Vec::new(alloc);
@@ -36,15 +54,27 @@ fn shelf_with(alloc: Global, text: &[u8], piece: u64) -> Result<Option<MemShelf>
 fn models_are_solved(rt: HostRuntime) -> Result<(), Fail> {
     let alloc = rt.alloc();
     for (text, status, wanted) in [
-        (THREE_ROWS, Status::Answered, "optimum -13\nvalue a 2\nvalue b 0\nvalue c 1\n"),
+        (
+            THREE_ROWS,
+            Status::Answered,
+            "optimum -13\nvalue a 2\nvalue b 0\nvalue c 1\n",
+        ),
         (HALF, Status::Answered, "optimum -1\nvalue x 1\n"),
         (ODD, Status::Answered, "empty\n"),
-        (NO_ROWS, Status::Answered, "optimum -4\nvalue x 0\nvalue y 4\n"),
+        (
+            NO_ROWS,
+            Status::Answered,
+            "optimum -4\nvalue x 0\nvalue y 4\n",
+        ),
         (EMPTY_COLUMN, Status::Answered, "empty\n"),
         (NEGATIVE_SUM, Status::Answered, "empty\n"),
         (NO_NUMBER, Status::Refused, "refused model M10 line 11\n"),
         (DECIMALS, Status::Refused, "refused model M0\n"),
-        (NO_UPPER, Status::Refused, "refused model M15 column x upper\n"),
+        (
+            NO_UPPER,
+            Status::Refused,
+            "refused model M15 column x upper\n",
+        ),
         ("", Status::Refused, "refused model M0\n"),
     ] {
         for piece in [1, 7, 100_000] {
@@ -119,11 +149,17 @@ fn faults_have_their_status(rt: HostRuntime) -> Result<(), Fail> {
     let mut shelf = shelf_with(alloc, THREE_ROWS.as_bytes(), 100)?.ok_or("no room")?;
     let mut sink = mem_sink(alloc, 10_000, 100)?;
     let words = owned(alloc, &["solve", "another"])?;
-    assert_eq!(rt; run(alloc, words.as_slice(), &mut shelf, &mut sink), Status::ReadFault);
+    assert_eq!(rt;
+        run(alloc, words.as_slice(), &mut shelf, &mut sink),
+        Status::ReadFault
+    );
     let mut sink: MemSink = mem_sink(alloc, 10_000, 5)?;
     assert!(rt; sink.fail_at(2));
     let words = owned(alloc, &["solve", "m"])?;
-    assert_eq!(rt; run(alloc, words.as_slice(), &mut shelf, &mut sink), Status::WriteFault);
+    assert_eq!(rt;
+        run(alloc, words.as_slice(), &mut shelf, &mut sink),
+        Status::WriteFault
+    );
     assert_eq!(rt; sink.bytes(), b"optim".as_slice());
     Ok(())
 }

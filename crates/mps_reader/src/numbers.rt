@@ -15,13 +15,7 @@ fn is_sign(byte: u8) -> bool {
 
 fn without_sign(text: &[u8]) -> &[u8] {
     match text {
-        [first, rest @ ..] => {
-            if is_sign(*first) {
-                rest
-            } else {
-                text
-            }
-        }
+        [first, rest @ ..] => { if is_sign(*first) { rest } else { text } }
         [] => text,
     }
 }

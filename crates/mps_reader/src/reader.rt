@@ -20,7 +20,10 @@ impl Draft {
         };
         let has_rows = self.objective.is_some() || section <= Section::Rows;
         let has_columns = self.has_columns || section <= Section::Columns;
-        if !is_later || !has_rows || !has_columns || (section > Section::Columns && self.in_integers)
+        if !is_later
+            || !has_rows
+            || !has_columns
+            || (section > Section::Columns && self.in_integers)
         {
             return Err(MpsError::NotBuilt);
         }
@@ -100,8 +103,7 @@ fn row_of(alloc: Global, name: &str, row: &RowDraft) -> Result<Row, MpsError> {
 }
 
 /// Goes through the lines up to ENDATA.
-fn draft_of(alloc: Global, text: &str) -> Result<Draft, MpsError>
-{
+fn draft_of(alloc: Global, text: &str) -> Result<Draft, MpsError> {
     let mut draft = Draft::new(alloc);
     let mut line: u32 = 0;
     for piece in text.split('\n') {

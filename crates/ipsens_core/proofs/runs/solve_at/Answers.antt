@@ -1,6 +1,6 @@
-use Rattle.std.proofs.Common.{◌≡◌, ◌∙◌, ap, sym, refl, Err, length, vec_len}
+use Rattle.std.proofs.Common.{◌≡◌, ◌∙◌, ap, sym, Err, length, vec_len}
 use Rattle.ip_defs.specs.Runs.{IsAnswerOrRefusal}
-use Rattle.ipsens_core.proofs.RunLaws.{read_meets, told_of, too_long_meets}
+use Rattle.ipsens_core.proofs.RunLaws.{read_meets, right_text, told_of, too_long_meets}
 use Rattle.ipsens_core.proofs.runs.solve_at.Goals as goal
 
 pub returns-in-Err-TooLong-clause-answer : goal.returns-in-Err-TooLong-clause-answer
@@ -13,4 +13,4 @@ returns-in-Ok-answer_of-clause-answer g c =
     let size : length c.in-Ok.bytes.items ≡ vec_len c.in-Ok.bytes = ap length (sym c.as_slice.ensures.value) ∙ c.as_slice.ensures.len in
     read_meets IsAnswerOrRefusal c.args.request.now c.as_str.result.now c.in-Ok.bytes.items (g.S.Shelf.files c.args.shelf.now) (g.S.Shelf.files c.read_all.new.shelf) (g.K.Sink.taken c.args.out.now) (g.K.Sink.taken c.finish-in-Ok-answer_of.new.out) (g.K.Sink.faults c.args.out.now) (g.K.Sink.faults c.finish-in-Ok-answer_of.new.out) c.in-Ok-answer_of.status c.as_bytes.result.now c.finish-in-Ok-answer_of.result
     c.requires (c.as_str.ensures ∙ c.model_name-name.ensures) c.read_all.ensures.files c.read_all.ensures.untold c.in-Ok.ensures.whole (rw size c.in-Ok.ensures.length)
-    (told_of c.in-Ok-answer_of.status c.in-Ok-answer_of.ensures) (c.in-Ok-answer_of.ensures, refl) c.finish-in-Ok-answer_of.ensures.writes
+    (told_of c.in-Ok-answer_of.status c.in-Ok-answer_of.ensures.told) (right_text c.args.request.now c.in-Ok.bytes.items c.in-Ok-answer_of.status _ c.as_bytes.result.now c.as_bytes.ensures.value (c.in-Ok-answer_of.ensures.right c.args.request.now)) c.finish-in-Ok-answer_of.ensures.writes

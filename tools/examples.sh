@@ -1,0 +1,20 @@
+#!/usr/bin/env bash
+# Runs the built program on each example and compares what it prints with its output.txt; then, where a folder of further models is
+# given, prints the first line of the answer to each of its plain and small ones.
+#     tools/examples.sh [FOLDER]
+top=$(cd "$(dirname "${BASH_SOURCE[0]}")/.." && pwd) || exit 1
+failed=0
+for folder in "$top"/examples/*/; do
+  if "$top/ipsens" solve "$folder/model.mps" | diff - "$folder/output.txt"; then
+    echo "right: $(basename "$folder")"
+  else
+    echo "wrong: $(basename "$folder")"
+    failed=1
+  fi
+done
+if [ -n "$1" ] && [ -d "$1" ]; then
+  for name in glpk_sample_cnf opb_unsat glpk_todd_6 glpk_todd_10 glpk_queens_4; do
+    [ -f "$1/$name.mps" ] && echo "$name: $("$top/ipsens" solve "$1/$name.mps" | head -n 1)"
+  done
+fi
+exit $failed

@@ -7,6 +7,7 @@ mod bounds;
 mod columns;
 mod draft;
 mod fields;
+mod lines;
 mod numbers;
 mod reader;
 mod sections;

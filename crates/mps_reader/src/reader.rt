@@ -1,7 +1,8 @@
 ghost use Rattle.std.specs.Prelude.{◌≡◌, ◌≤◌, ◌^◌, IfOk, length, None};
 
 use crate::draft::{Draft, RowDraft, RowKind, name_of};
-use crate::fields::{Kind, fields_of, kind_of, without_return};
+use crate::fields::fields_of;
+use crate::lines::{cut_return, is_comment, is_indented, lines_in};
 use crate::sections::{Section, section_of};
 use ip_defs::{Column, How, Listed, MpsError, Name, Parts, Row, Side};
 use ip_model::{IntModel, make, well_shaped};
@@ -105,23 +106,24 @@ fn row_of(alloc: Global, name: &str, row: &RowDraft) -> Result<Row, MpsError> {
 /// Goes through the lines up to ENDATA.
 fn draft_of(alloc: Global, text: &str) -> Result<Draft, MpsError> {
     let mut draft = Draft::new(alloc);
-    let mut line: u32 = 0;
-    for piece in text.split('\n') {
-        line = line.saturating_add(1);
-        let piece = without_return(piece);
-        let fields = fields_of(alloc, piece)?;
-        match kind_of(piece, fields.as_slice()) {
-            Kind::Nothing => {}
-            Kind::Data => draft.take_item(alloc, line, fields.as_slice())?,
-            Kind::Section => match fields.first() {
-                Some(word) => {
+    let mut number: u32 = 0;
+    let lines = lines_in(alloc, text)?;
+    for line in lines.as_slice() {
+        number = number.saturating_add(1);
+        let line = cut_return(line);
+        let fields = fields_of(alloc, line)?;
+        match fields.first() {
+            Some(word) if !is_comment(line) => {
+                if is_indented(line) {
+                    draft.take_item(alloc, number, fields.as_slice())?;
+                } else {
                     draft.take_section(word)?;
-                    if draft.section == Some(Section::End) {
-                        return Ok(draft);
-                    }
                 }
-                None => {}
-            },
+                if draft.section == Some(Section::End) {
+                    return Ok(draft);
+                }
+            }
+            _ => {}
         }
     }
     Err(MpsError::NotBuilt)

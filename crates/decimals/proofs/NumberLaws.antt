@@ -229,3 +229,31 @@ read_below text = by (is_number text) (is_infinity (without_sign text))
     by false u = tt
     by true true = tt
     by true false = number_below (is_minus text) (fraction_of (without_sign text)).0 (fraction_of (without_sign text)).1
+
+-- 0 has no decimals
+pub zero_reached : (k : ℕ) → (least_units 0 k ≡ 0) × (least_decimals 0 k ≡ 0)
+zero_reached zero = (units-none 0, refl)
+zero_reached (suc k) =
+    let less : suc k - 1 ≡ k = omega arith in
+    let drop = zero_dropped 0 (suc k) (omega arith) (omega arith) in
+    let before = zero_reached k in
+    (sym drop.0 ∙ ap (least_units 0) less ∙ before.0, sym drop.1 ∙ ap (least_decimals 0) less ∙ before.1)
+
+-- 0 with any sign and any decimals
+pub zero_fraction : (negative : Bool) (n k : ℕ) → n ≡ 0 → Dec (pos 0) 0 ≡ number_from negative n k
+zero_fraction negative n k e =
+    let nothing = zero_reached k in
+    let room = ten_positive (20 + k) in
+    let none = zero_reached 0 in
+    unsigned negative ∙ least_reached negative 0 k 0 0 room (none.0 ∙ sym nothing.0) (none.1 ∙ sym nothing.1) none.0 none.1 ∙ ap (λ (m : ℕ). number_from negative m k) (sym e)
+  where
+    unsigned : (b : Bool) → Dec (pos 0) 0 ≡ Dec (signed b 0) 0
+    unsigned true = refl
+    unsigned false = refl
+
+-- 0 times any power of ten
+pub zero_number : (negative : Bool) (n : ℕ) (power : ℤ) → n ≡ 0 → Dec (pos 0) 0 ≡ number_from negative (over_tens n power).0 (over_tens n power).1
+zero_number negative n (pos p) e =
+    let nothing : 0 * 10 ^ p ≡ 0 = omega arith in
+    zero_fraction negative (n * 10 ^ p) 0 (ap (λ (m : ℕ). m * 10 ^ p) e ∙ nothing)
+zero_number negative n (negsuc p) e = zero_fraction negative n (suc p) e

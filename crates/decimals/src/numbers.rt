@@ -29,16 +29,11 @@ fn signed(negative: bool, size: u128) -> i128
     }
 }
 
-/// The number `size * 10^power` with a sign.
+/// The number `size * 10^power` with a sign, of a size that is not 0.
 fn whole_number(negative: bool, size: u128, power: u32) -> Number
+    requires { 0 < size }
     ensures { result ≡ number_from_of negative (size * 10 ^ power) 0 }
 {
-    if size == 0 {
-        return Number::Dec {
-            units: 0,
-            decimals: 0,
-        };
-    }
     match 10_u128.checked_pow(power) {
         Some(tens) => match size.checked_mul(tens) {
             Some(all) => if all < LARGE {
@@ -128,6 +123,12 @@ fn number_from(negative: bool, size: u128, power: i128) -> Number
     requires power { unsigned_abs power < 2 ^ 30 }
     ensures { result ≡ number_from_of negative (over_tens size power).0 (over_tens size power).1 }
 {
+    if size == 0 {
+        return Number::Dec {
+            units: 0,
+            decimals: 0,
+        };
+    }
     let places = power.unsigned_abs() as u32;
     if power >= 0 {
         return whole_number(negative, size, places);

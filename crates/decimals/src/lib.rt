@@ -1,0 +1,14 @@
+//! The exact numbers of texts: how one is read, how it is counted in units, and how units are written.
+#![tactic(auto)]
+
+mod numbers;
+mod numerals;
+mod scales;
+#[cfg(test)]
+mod tests;
+mod texts;
+
+pub use ip_defs::{Memory, Number};
+pub use numbers::read_number;
+pub use scales::scaled;
+pub use texts::decimal_text;

@@ -1,0 +1,38 @@
+ghost use Rattle.std.specs.Prelude.{◌≡◌, ◌^◌, ◌<◌, ◌≤◌, ◌*ℤ◌, pos};
+ghost use Rattle.std.specs.Int.{w128};
+ghost use Rattle.std.specs.Int.RustNames.{FitsSigned};
+ghost use Rattle.ip_defs.specs.Numbers.{scaled_lem};
+ghost use Rattle.decimals.specs.Decimals.{IsBelowLarge};
+
+use ip_defs::Number;
+
+/// A product with a power of ten.
+fn times_tens(units: i128, power: u32) -> i128
+    requires power { power ≤ 9 }
+    requires fits { FitsSigned w128 (units *ℤ pos (10 ^ power)) }
+    ensures { result ≡ units *ℤ pos (10 ^ power) }
+{
+    units * i128::from(10_u64.pow(power))
+}
+
+/// The value of a number times `10^decimals`. None comes exactly where that is not whole or the number is Large.
+pub fn scaled(number: Number, decimals: u8) -> Option<i128>
+    requires decimals { decimals ≤ 9 }
+    requires below { IsBelowLarge number }
+    ensures { result ≡ scaled_lem number decimals }
+{
+    match number {
+        Number::Dec {
+            units,
+            decimals: written,
+        } => {
+            let wanted = u32::from(decimals);
+            if written <= wanted {
+                Some(times_tens(units, wanted - written))
+            } else {
+                None
+            }
+        }
+        Number::Large { .. } => None,
+    }
+}

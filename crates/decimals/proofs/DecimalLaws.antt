@@ -8,6 +8,7 @@ use Rattle.std.proofs.lemmas.Bool.{ne_eqb}
 use Rattle.ip_defs.specs.Lists.{least_from}
 use Rattle.ip_defs.specs.Numbers.{has_decimals, least_decimals}
 
+-- a power of ten is not 0
 pub ten_positive : (k : ℕ) → 0 < 10 ^ k
 ten_positive zero = omega arith
 ten_positive (suc k) = let e = pow-suc 10 k in let p = ten_positive k in omega arith
@@ -23,6 +24,7 @@ mod_scaled x m c p q =
     add_zero_right : (n : ℕ) → n + 0 ≡ n
     add_zero_right n = omega arith
 
+-- ten times y is 0 just where y is
 pub test_scaled : (y : ℕ) → (y * 10 == 0) ≡ (y == 0)
 test_scaled zero = refl
 test_scaled (suc y) = ne_eqb (suc y * 10) 0 (λ e. omega arith) ∙ sym (ne_eqb (suc y) 0 (λ e. omega arith))
@@ -34,6 +36,7 @@ has_decimals-ten m k d =
     let step = mod_scaled (m * 10 ^ d) (10 ^ k) 10 (ten_positive k) (omega arith) in
     ap (λ y. y % 10 ^ suc k == 0) order ∙ ap (λ y. (m * 10 ^ d * 10) % y == 0) (pow-suc 10 k) ∙ ap (λ y. y == 0) step ∙ test_scaled ((m * 10 ^ d) % 10 ^ k)
 
+-- the same test, the same least place
 pub least-same : (f g : ℕ → Bool) (i n : ℕ) → ((d : ℕ) → f d ≡ g d) → least_from f i n ≡ least_from g i n
 least-same f g i zero h = refl
 least-same f g i (suc n) h = ap (λ b. if b then i else least_from f (suc i) n) (h i) ∙ ap (λ y. if g i then i else y) (least-same f g (suc i) n h)
@@ -46,6 +49,7 @@ least-more g i (suc n) h =
     let rest = least-more g (suc i) n (ap g (sym e) ∙ h) in
     ap (λ y. if g i then i else y) rest
 
+-- k places are enough for n / 10^k
 pub passes_at_k : (m k : ℕ) → has_decimals m k (k + 0) ≡ true
 passes_at_k m k = let e : k + 0 ≡ k = omega arith in ap (λ d. (m * 10 ^ d) % 10 ^ k == 0) e ∙ ap (λ y. y == 0) (mul-mod_left m (10 ^ k))
 
@@ -53,8 +57,7 @@ passes_at_k m k = let e : k + 0 ≡ k = omega arith in ap (λ d. (m * 10 ^ d) % 
 pub least-drop : (m k : ℕ) → least_decimals (m * 10) (suc k) ≡ least_decimals m k
 least-drop m k = least-same (has_decimals (m * 10) (suc k)) (has_decimals m k) 0 (suc k) (has_decimals-ten m k) ∙ least-more (has_decimals m k) 0 k (passes_at_k m k)
 
--- where n does not end with a zero, no place before the last passes
-
+-- where no place passes before it, the last one is the least
 pub least-none : (g : ℕ → Bool) (i n : ℕ) → ((d : ℕ) → d < n → g (d + i) ≡ false) → least_from g i n ≡ n + i
 least-none g i zero h = omega arith
 least-none g i (suc n) h =
@@ -64,6 +67,7 @@ least-none g i (suc n) h =
     let sum : n + suc i ≡ suc n + i = omega arith in
     ap (λ b. if b then i else least_from g (suc i) n) here ∙ rest ∙ sum
 
+-- a number that does not end with a zero has a rest by each power of ten
 pub low_digit : (n j : ℕ) → (n % 10 ≡ 0 → ⊥) → 0 < n % 10 ^ suc j
 low_digit n j odd =
     let parts = mod-mul n (ten_positive j) (ten_above) in
@@ -78,6 +82,7 @@ low_digit n j odd =
     not_zero zero h = absurd (h refl)
     not_zero (suc y) h = omega arith
 
+-- such a number needs all its places
 pub not_before : (n k d : ℕ) → (n % 10 ≡ 0 → ⊥) → d < suc k → has_decimals n (suc k) d ≡ false
 not_before n k d odd inside =
     let more : suc k ≡ suc (k - d) + d = omega arith in
@@ -86,6 +91,7 @@ not_before n k d odd inside =
     let above = mul-pos (low_digit n (k - d) odd) (ten_positive d) in
     ap (λ y. (n * 10 ^ d) % y == 0) split ∙ ap (λ y. y == 0) step ∙ ne_eqb ((n % 10 ^ suc (k - d)) * 10 ^ d) 0 (λ e. omega arith)
 
+-- so none of its places is dropped
 pub least-keep : (n k : ℕ) → (n % 10 ≡ 0 → ⊥) → least_decimals n (suc k) ≡ suc k
 least-keep n k odd =
     let none = least-none (has_decimals n (suc k)) 0 (suc k) (λ d p. let e : d + 0 ≡ d = omega arith in ap (has_decimals n (suc k)) e ∙ not_before n k d odd p) in
@@ -107,5 +113,6 @@ units-drop m k =
 pub units-keep : (n k : ℕ) → (n % 10 ≡ 0 → ⊥) → least_units n (suc k) ≡ n
 units-keep n k odd = ap (λ y. n * 10 ^ y / 10 ^ suc k) (least-keep n k odd) ∙ mul-div_cancel n (ten_positive (suc k))
 
+-- without decimals the units are the number
 pub units-none : (n : ℕ) → least_units n 0 ≡ n
 units-none n = omega arith

@@ -1,5 +1,5 @@
--- Digits as numbers, one more at a time.
-use Rattle.std.specs.Prelude.{◌≡◌, ℕ, zero, suc, ◌+◌, ◌-◌, ◌*◌, ◌^◌, ◌<◌, ◌≤◌, Bool, true, false, ◌&&◌, ◌||◌, not, ◌==◌, ◌/◌, ◌%◌, if◌then◌else◌, nat_le, List, [], ◌∷◌, ◌++◌, length, take, drop, cond, ℤ, pos, negsuc, IfSome, ◌*ℤ◌, ◌≤ℤ◌, ◌<ℤ◌, decimal}
+-- Digits as numbers, one more at a time; the digits of a rest; and the number of a fraction in its least decimals.
+use Rattle.std.specs.Prelude.{◌≡◌, ℕ, zero, suc, ◌+◌, ◌-◌, ◌*◌, ◌^◌, ◌<◌, ◌≤◌, Bool, true, false, ◌&&◌, ◌||◌, not, ◌==◌, ◌/◌, ◌%◌, if◌then◌else◌, nat_le, List, [], ◌∷◌, ◌++◌, length, take, drop, cond, ℤ, pos, negsuc, IfSome, ◌*ℤ◌}
 use Rattle.std.specs.List.{list_all, list_any, before_first, after_first, position_or_len}
 use Rattle.std.specs.Int.RustNames.{unsigned_abs}
 use Rattle.std.proofs.Common.{refl, arith, ap, sym, ◌∙◌, get_or, add-one, append_assoc, leb-false}
@@ -7,13 +7,14 @@ use Rattle.std.proofs.Math.Nat.{pow-suc, mul_assoc, mul_comm, mul-le-mul_left, m
 use Rattle.std.proofs.lemmas.Nat.{div_below, pow-add}
 use Rattle.std.proofs.lemmas.Bool.{leb-true, eqb-true}
 use Rattle.std.proofs.lemmas.List.{take_more, length-take, length-drop}
-use Rattle.std.proofs.lemmas.Int.{ints, unsigned_abs-mul}
+use Rattle.std.proofs.lemmas.Int.{unsigned_abs-mul}
 use Rattle.decimals.proofs.DecimalLaws.{ten_positive, least_units, units-none, units-keep, units-drop, least-keep, least-drop}
 use Rattle.ip_defs.specs.Lists.{where_true}
-use Rattle.ip_defs.specs.Numbers.{is_number, is_infinity, is_minus, number_of, fraction_of, is_digit, is_point, is_exponent_mark, is_exponent, is_numeral, without_sign, whole_part, rest_part, exponent_part, value_from, places, signed, number_from, least_decimals, over_tens, decimal_text}
-use Rattle.decimals.specs.Decimals.{sign_text, rest_text, IsBelowLarge}
+use Rattle.ip_defs.specs.Numbers.{is_number, is_infinity, is_minus, number_of, fraction_of, is_digit, is_point, is_exponent_mark, is_exponent, is_numeral, without_sign, whole_part, rest_part, exponent_part, value_from, places, signed, number_from, least_decimals, over_tens}
+use Rattle.decimals.specs.Decimals.{IsBelowLarge}
 use Rattle.ip_defs.specs.declared.texts.Number.TheVariants.{Dec, Large}
 
+-- the two sides of a true `&&`
 pub both_true : (s t : Bool) → (s && t) ≡ true → (s ≡ true) × (t ≡ true)
 both_true true t e = (refl, e)
 both_true false t e = absurd cc
@@ -26,6 +27,7 @@ digit_at (d ∷ ds) zero e l =
     (leb-true 48 d here.0, leb-true d 57 here.1)
 digit_at (d ∷ ds) (suc i) e l = digit_at ds i (both_true (is_digit d) (list_all is_digit ds) e).1 (omega arith)
 
+-- digits after digits
 pub value_from-append : (n : ℕ) (xs ys : List ℕ) → value_from n (xs ++ ys) ≡ value_from (value_from n xs) ys
 value_from-append n [] ys = refl
 value_from-append n (x ∷ xs) ys = value_from-append (10 * n + (x - 48)) xs ys
@@ -55,11 +57,6 @@ places_step k rest some = by (rest == 0) refl
     by : (t : Bool) → (rest == 0) ≡ t → (if t then [] else (48 + rest / 10 ^ k) ∷ places k (rest % 10 ^ k)) ≡ (48 + rest / 10 ^ k) ∷ places k (rest % 10 ^ k)
     by true e = absurd (some (eqb-true rest 0 e))
     by false e = refl
-
--- nothing is left to write
-pub places_end : (k : ℕ) → places k 0 ≡ []
-places_end zero = refl
-places_end (suc k) = refl
 
 -- a digit is below ten
 pub digit_below : (k rest : ℕ) → rest < 10 ^ (k + 1) → rest / 10 ^ k < 10
@@ -146,33 +143,6 @@ scaled_size units written wanted h l most =
     let joined = ap (λ y. 10 ^ y) sum in
     let within = tens_rise (20 + wanted) 29 (omega arith) in
     omega arith
-
--- a power of ten that is not negative goes into the numerator
-pub over_whole : (n : ℕ) (z : ℤ) → pos 0 ≤ℤ z → over_tens n z ≡ (n * 10 ^ unsigned_abs z, 0)
-over_whole n (pos p) h = refl
-over_whole n (negsuc p) h = absurd (omega (arith, ints))
-
--- a negative one into the denominator
-pub over_fraction : (n : ℕ) (z : ℤ) → z <ℤ pos 0 → over_tens n z ≡ (n, unsigned_abs z)
-over_fraction n (pos p) h = absurd (omega (arith, ints))
-over_fraction n (negsuc p) h = refl
-
--- a fraction from 10^20 on
-pub large_fraction : (negative : Bool) (n k : ℕ) → nat_le (10 ^ (20 + k)) n ≡ true → number_from negative n k ≡ Large negative
-large_fraction negative n k e = ap (λ t. if t then Large negative else Dec (signed negative (least_units n k)) (least_decimals n k)) e
-
--- a decimal text by its three parts
-pub three_parts : (z : ℤ) (k : ℕ) → decimal_text z k ≡ sign_text z ++ decimal (unsigned_abs z / 10 ^ k) ++ rest_text k (unsigned_abs z % 10 ^ k)
-three_parts (pos n) k = refl
-three_parts (negsuc n) k = refl
-
--- a rest that is not 0 is written
-pub rest_written : (k rest : ℕ) → (rest ≡ 0 → ⊥) → rest_text k rest ≡ 46 ∷ places k rest
-rest_written k rest some = by (rest == 0) refl
-  where
-    by : (t : Bool) → (rest == 0) ≡ t → (if t then [] else 46 ∷ places k rest) ≡ 46 ∷ places k rest
-    by true e = absurd (some (eqb-true rest 0 e))
-    by false e = refl
 
 -- one more digit of a rest is written
 pub place_written : (all before now encoded : List ℕ) (left rest place whole below letter : ℕ) → all ≡ before ++ places left rest → (rest ≡ 0 → ⊥) → rest < 10 ^ left → place ≡ left - 1 → whole ≡ rest / 10 ^ place → below ≡ rest % 10 ^ place → letter ≡ 48 + whole → (letter < 128 → encoded ≡ letter ∷ []) → now ≡ before ++ encoded → (all ≡ now ++ places (left - 1) below) × (below < 10 ^ (left - 1))

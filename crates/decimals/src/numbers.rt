@@ -117,7 +117,7 @@ fn digits_of(body: &[u8]) -> u128
     value_from(value_from(0, whole_part(body)), rest_part(body))
 }
 
-/// The number `size * 10^power` with a sign.
+/// The number `size * 10^power` with a sign. A size of 0 has no decimals, whatever the power.
 fn number_from(negative: bool, size: u128, power: i128) -> Number
     requires size { size < 10 ^ 32 }
     requires power { unsigned_abs power < 2 ^ 30 }

@@ -15,7 +15,8 @@ fn times_tens(units: i128, power: u32) -> i128
     units * i128::from(10_u64.pow(power))
 }
 
-/// The value of a number times `10^decimals`. None comes exactly where that is not whole or the number is Large.
+/// The value of a number times `10^decimals`. None comes exactly where the number has more decimals than that, or is Large. What
+/// `read_number` gives is below 10^20 in size and has the least decimals, so None then means that the product is not whole.
 pub fn scaled(number: Number, decimals: u8) -> Option<i128>
     requires decimals { decimals ≤ 9 }
     requires below { IsBelowLarge number }

@@ -1,9 +1,11 @@
 ghost use Rattle.std.specs.Prelude.{◌≡◌, ◌≢◌, ◌++◌, IfOk, OnOk, Some, codes, decimal, flat_map, length, string_bytes, zip};
 ghost use Rattle.std.specs.Fmt.{signed_decimal};
 ghost use Rattle.std.specs.Option.{ForSome};
+ghost use Rattle.ip_defs.specs.Numbers.{decimal_text};
 ghost use Rattle.ip_defs.specs.Texts.{on_column, optimum_lines, refusal_text, refused_model, side_text, value_line, what_text};
 
-use ip_defs::{Column, Limit, MpsError, Point, Side, What};
+use decimals::decimal_text;
+use ip_defs::{Column, Limit, Memory, MpsError, Point, Side, What};
 use ip_model::{IntModel, cost};
 use std::alloc::{AllocError, Global};
 
@@ -55,40 +57,50 @@ fn push_values(
     Ok(())
 }
 
-/// The first line of an optimum.
-fn optimum_line(alloc: Global, cost: i128) -> Result<String, AllocError>
-    ensures { IfOk result (λ s. string_bytes s ≡ codes "optimum " ++ signed_decimal cost ++ codes "\n") }
+/// The first line of an optimum: its cost with the decimals of the costs.
+fn optimum_line(alloc: Global, cost: i128, decimals: u8) -> Result<String, Memory>
+    ensures { IfOk result (λ s. string_bytes s ≡ codes "optimum " ++ decimal_text cost decimals ++ codes "\n") }
 {
-    format!(in alloc; "optimum {cost}\n")
+    let amount = decimal_text(alloc, cost, decimals)?;
+    let mut line = String::from_str(alloc, "optimum ")?;
+    line.push_str(amount.as_str())?;
+    line.push_str("\n")?;
+    Ok(line)
 }
 
 /// The text of a point and its cost.
-fn optimum_text(alloc: Global, model: &IntModel, point: &Point) -> Result<String, AllocError>
-    requires size { length point.now ≡ length model.now.columns }
-    requires units { model.now.cost_decimals ≡ 0 }
+fn optimum_text(alloc: Global, model: &IntModel, point: &Point) -> Result<String, Memory>
+    requires { length point.now ≡ length model.now.columns }
     ensures { IfOk result (λ s. string_bytes s ≡ optimum_lines model.now (Some point.now)) }
 {
     let cost = cost(model, point);
-    let mut text = optimum_line(alloc, cost)?;
-    let columns = model.parts().columns.as_slice();
-    push_values(alloc, columns, point.as_slice(), &mut text)?;
+    let parts = model.parts();
+    let mut text = optimum_line(alloc, cost, parts.cost_decimals)?;
+    push_values(alloc, parts.columns.as_slice(), point.as_slice(), &mut text)?;
     Ok(text)
 }
 
-/// The text of a solved model whose costs are whole: `optimum V` and a `value` line for each column in order, or `empty`.
+/// The text of a solved model: `optimum V` and a `value` line for each column in order, or `empty`.
 pub fn solve_text(
     alloc: Global,
     model: &IntModel,
     outcome: &Option<Point>,
-) -> Result<String, AllocError>
-    requires size { ForSome outcome.now (λ x. length x ≡ length model.now.columns) }
-    requires units { model.now.cost_decimals ≡ 0 }
+) -> Result<String, Memory>
+    requires { ForSome outcome.now (λ x. length x ≡ length model.now.columns) }
     ensures { IfOk result (λ s. string_bytes s ≡ optimum_lines model.now outcome.now) }
 {
     match outcome {
         Some(point) => optimum_text(alloc, model, point),
-        None => String::from_str(alloc, "empty\n"),
+        None => empty_text(alloc),
     }
+}
+
+/// The text of emptiness.
+fn empty_text(alloc: Global) -> Result<String, Memory>
+    ensures { IfOk result (λ s. string_bytes s ≡ codes "empty\n") }
+{
+    let text = String::from_str(alloc, "empty\n")?;
+    Ok(text)
 }
 
 /// The line of a refused model text.

@@ -27,7 +27,6 @@ const PLAIN: How = How {
 
 /// The text of a solved model.
 fn solved_text(alloc: Global, model: &IntModel) -> Result<String, Memory>
-    requires { model.now.cost_decimals ≡ 0 }
     ensures limits { IsWithinLimits model.now }
     ensures text { IfOk result (λ s. (o : Option (List ℤ)) × Solves model.now o × (string_bytes s ≡ optimum_lines model.now o)) }
 {

@@ -1,0 +1,6 @@
+pub mod CertLaws
+pub mod EachLaws
+pub mod TreeExamples
+pub mod TreeLaws
+pub mod VerdictLaws
+pub mod WithinLaws

@@ -1,0 +1,17 @@
+//! Owned proof trees: what they claim, the bound that they prove, and what may be wrong with them.
+#![tactic(auto)]
+
+mod claims;
+mod faults;
+mod laws;
+mod trees;
+mod verdicts;
+
+pub use claims::{Claim, Proof};
+pub use faults::{Shape, ShapeWhat, TreeLimit};
+pub use ip_defs::{Bound, Breach, Cert, Point};
+pub use laws::{
+    limits_are_exact, misfits_are_true, proofs_are_true, trees_bound, verdicts_are_exact,
+};
+pub use trees::Tree;
+pub use verdicts::Verdict;

@@ -3,4 +3,5 @@ pub mod EachLaws
 pub mod TreeExamples
 pub mod TreeLaws
 pub mod VerdictLaws
+pub mod WalkLaws
 pub mod WithinLaws

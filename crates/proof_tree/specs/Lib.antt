@@ -1,3 +1,4 @@
+pub mod Room
 pub mod Trees
 pub mod Within
 pub mod Verdicts

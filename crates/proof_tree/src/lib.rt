@@ -6,6 +6,7 @@ mod faults;
 mod laws;
 mod trees;
 mod verdicts;
+mod walks;
 
 pub use claims::{Claim, Proof};
 pub use faults::{Shape, ShapeWhat, TreeLimit};
@@ -15,3 +16,4 @@ pub use laws::{
 };
 pub use trees::Tree;
 pub use verdicts::Verdict;
+pub use walks::tree_bound;

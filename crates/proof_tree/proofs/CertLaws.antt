@@ -1,5 +1,5 @@
 -- The test of a certificate answers true exactly where the certificate is within its limits.
-use Rattle.std.specs.Prelude.{◌≡◌, ◌≢◌, ℕ, zero, suc, ◌^◌, ◌<◌, ◌≤◌, ◌&&◌, not, nat_lt, List, [], ◌∷◌, length, Bool, true, false, ℤ, pos, negsuc, ◌≤ℤ◌}
+use Rattle.std.specs.Prelude.{IsTrue, ◌↔◌, ◌≡◌, ◌≢◌, ℕ, zero, suc, ◌^◌, ◌<◌, ◌≤◌, ◌&&◌, not, nat_lt, List, [], ◌∷◌, length, Bool, true, false, ℤ, pos, negsuc, ◌≤ℤ◌}
 use Rattle.std.specs.Int.RustNames.{unsigned_abs}
 use Rattle.std.specs.Int.Signed.{lt_z}
 use Rattle.std.specs.List.{list_all}
@@ -124,3 +124,12 @@ cert_exact rows c = (to, back)
         let o = ones_back rows c.y (λ i l. record { within = h.ordered.within i l; present = h.ordered.present i l; small = h.multipliers i l }) in
         join ((not (lt_z c.q (pos 0)) && not (lt_z (pos (2 ^ 36)) c.q)) && rise_from 0 c.y) (list_all (is_multiplier rows) c.y)
         (join (not (lt_z c.q (pos 0)) && not (lt_z (pos (2 ^ 36)) c.q)) (rise_from 0 c.y) (join (not (lt_z c.q (pos 0))) (not (lt_z (pos (2 ^ 36)) c.q)) a b) r) o
+
+-- a test that answers whether a certificate is within its limits is the definition's
+pub cert_test : (rows : ℕ) (c : Cert) (t : Bool) → (IsTrue t ↔ IsCert rows c) → is_cert rows c ≡ t
+cert_test rows c true h = (cert_exact rows c).1 (h.0 refl)
+cert_test rows c false h = by (is_cert rows c) refl
+  where
+    by : (s : Bool) → is_cert rows c ≡ s → s ≡ false
+    by false e = refl
+    by true e = let f : false ≡ true = h.1 ((cert_exact rows c).0 e) in absurd cc

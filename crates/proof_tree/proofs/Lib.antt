@@ -1,5 +1,6 @@
 pub mod CertLaws
 pub mod EachLaws
+pub mod NumberedLaws
 pub mod TreeExamples
 pub mod TreeLaws
 pub mod VerdictLaws

@@ -1,3 +1,4 @@
+pub mod Numbered
 pub mod Room
 pub mod Trees
 pub mod Within

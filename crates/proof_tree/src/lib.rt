@@ -6,6 +6,8 @@ mod faults;
 mod fits;
 mod laws;
 mod limits;
+#[cfg(test)]
+mod tests;
 mod trees;
 mod verdicts;
 mod walks;

@@ -1,0 +1,8 @@
+pub mod CertLaws
+pub mod EachLaws
+pub mod NumberedLaws
+pub mod TreeExamples
+pub mod TreeLaws
+pub mod VerdictLaws
+pub mod WalkLaws
+pub mod WithinLaws

@@ -1,0 +1,5 @@
+use Rattle.proof_tree.specs.Trees.{plain, depth}
+use Rattle.proof_tree.proofs.fits.+pass.Given as goal
+
+abbrev pub decreases-pass : goal.decreases-pass
+decreases-pass l = depth (plain l.tree.now)

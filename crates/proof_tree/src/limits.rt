@@ -1,0 +1,97 @@
+ghost use Rattle.std.specs.Prelude.{◌≡◌, None, Some};
+ghost use Rattle.proof_tree.specs.Numbered.{passed_over, top};
+ghost use Rattle.proof_tree.specs.Trees.{plain, end_node, split_node, nodes_from, own_limit, limit_at, tree_limit};
+ghost use Rattle.proof_tree.specs.Within.{IsTreeWithin};
+
+use crate::{Tree, TreeLimit};
+use ip_defs::Cert;
+use leaf_cert::cert_ok;
+
+/// The most splits above a node.
+const DEEPEST: u32 = 800;
+
+/// The most nodes of a tree.
+const MOST_NODES: u32 = 1_000_000;
+
+/// The greatest column number.
+const LAST_COLUMN: u32 = 4_095;
+
+/// The greatest size of the number of a split.
+const LARGEST_CUT: u64 = 1 << 24;
+
+/// For how many rows a certificate is tested.
+const MOST_ROWS: u32 = 1_024;
+
+/// The limit that a certificate passes.
+fn cert_limit(cert: &Cert, node: u32) -> Option<TreeLimit>
+    ensures { result ≡ own_limit node (end_node cert.now) }
+{
+    if cert_ok(cert, MOST_ROWS) {
+        None
+    } else {
+        Some(TreeLimit::Cert { node })
+    }
+}
+
+/// The limit that the numbers of a split pass.
+fn split_limit(col: u32, at: i64, node: u32) -> Option<TreeLimit>
+    ensures { result ≡ own_limit node (split_node col at) }
+{
+    if col <= LAST_COLUMN && at.unsigned_abs() <= LARGEST_CUT {
+        None
+    } else {
+        Some(TreeLimit::At { node })
+    }
+}
+
+/// The first limit that one node passes, by its depth and its number.
+fn node_limit(tree: &Tree, depth: u32, node: u32) -> Option<TreeLimit>
+    ensures { result ≡ limit_at node (Some (depth, top (plain tree.now))) }
+{
+    if depth > DEEPEST {
+        return Some(TreeLimit::Depth);
+    }
+    if node >= MOST_NODES {
+        return Some(TreeLimit::Nodes);
+    }
+    match tree {
+        Tree::Leaf(cert) => cert_limit(cert, node),
+        Tree::Split { col, at, .. } => split_limit(*col, *at, node),
+    }
+}
+
+/// The number after the nodes of a subtree, or the first limit that one of them passes. Goes no deeper than a limit allows.
+fn pass(tree: &Tree, depth: u32, node: u32) -> Result<u32, TreeLimit>
+    ensures { result ≡ passed_over limit_at node (nodes_from depth (plain tree.now)) }
+{
+    match node_limit(tree, depth, node) {
+        Some(limit) => return Err(limit),
+        None => {}
+    }
+    match tree {
+        Tree::Leaf(_) => Ok(node + 1),
+        Tree::Split { left, right, .. } => match pass(left, depth + 1, node + 1) {
+            Ok(next) => pass(right, depth + 1, next),
+            Err(limit) => Err(limit),
+        },
+    }
+}
+
+/// The first limit that a tree passes.
+fn first_limit(tree: &Tree) -> Option<TreeLimit>
+    ensures { result ≡ tree_limit (plain tree.now) }
+{
+    match pass(tree, 0, 0) {
+        Ok(_) => None,
+        Err(limit) => Some(limit),
+    }
+}
+
+/// The first limit that a tree passes, its nodes in preorder from 0, or none where the tree is within the limits. Of one node the
+/// depth is tested first, then the number of nodes, then its own numbers. Takes no memory.
+pub fn tree_limits(tree: &Tree) -> Option<TreeLimit>
+    ensures first { result ≡ tree_limit (plain tree.now) }
+    ensures within { result ≡ None → IsTreeWithin (plain tree.now) }
+{
+    first_limit(tree)
+}

@@ -1,0 +1,145 @@
+ghost use Rattle.std.specs.Prelude.{List, ℤ, ◌≡◌, ◌^◌, ◌<◌, ◌≤◌, length, slice_index_or, pos, ◌+ℤ◌, IsTrue, ◌↔◌, ◌≤ℤ◌, map};
+ghost use Rattle.std.specs.Int.{int_max};
+ghost use Rattle.std.specs.Int.RustNames.{unsigned_abs};
+ghost use Rattle.ip_defs.specs.Boxes.{below, above};
+ghost use Rattle.ip_defs.specs.Limits.{IsArea};
+ghost use Rattle.ip_defs.specs.Certificates.{IsAtMost};
+ghost use Rattle.ip_defs.specs.Program.{low_at, high_at, box_of, cost, IsFeasible};
+ghost use Rattle.leaf_cert.specs.Room.{FitsScratch, room_of};
+ghost use Rattle.proof_tree.specs.Room.{HasRoom};
+ghost use Rattle.proof_tree.specs.Trees.{plain, bound_min, bound_over, tree_bound as tree_bound_of, FitsColumns, FitsModel, FitsRows};
+ghost use Rattle.proof_tree.specs.Within.{AreNumbersWithin, IsTreeWithin};
+
+use crate::Tree;
+use ip_defs::{Area, Bound, Column};
+use ip_model::IntModel;
+use leaf_cert::{Scratch, leaf_bound};
+use std::alloc::Global;
+use std::mem;
+
+/// The lesser of two bounds.
+fn lesser(first: Bound, second: Bound) -> Bound
+    ensures { result ≡ bound_min first second }
+{
+    match (first, second) {
+        (Bound::At(v), Bound::At(w)) => Bound::At(v.min(w)),
+        (Bound::At(v), Bound::Infinite) => Bound::At(v),
+        (Bound::Infinite, w) => w,
+    }
+}
+
+/// Sets an area to the sides of columns.
+fn set_box(columns: &[Column], area: &mut Area)
+    requires { length area.old ≡ length columns.now }
+    ensures { area.new ≡ map (λ c. (c.lo, c.hi)) columns.now }
+{
+    for (j, column) in columns.iter().enumerate() {
+        area.set(j, (column.lo, column.hi));
+    }
+}
+
+/// Lowers the upper side of a column to a cut, and says whether the column still has a number between its sides.
+fn cut_below(area: &mut Area, j: usize, cut: i64) -> bool
+    requires { j < length area.old }
+    ensures cut { area.new ≡ below area.old j cut }
+    ensures open { IsTrue result ↔ low_at area.new j ≤ℤ high_at area.new j }
+{
+    let side = area.as_slice()[j];
+    let high = side.1.min(cut);
+    area.set(j, (side.0, high));
+    side.0 <= high
+}
+
+/// The greater of a lower side and the number after a cut.
+fn raised(low: i64, cut: i64) -> i64
+    requires { unsigned_abs cut ≤ 2 ^ 24 }
+    ensures { result ≡ int_max low (cut +ℤ pos 1) }
+{
+    low.max(cut + 1)
+}
+
+/// Raises the lower side of a column to the number after a cut, and says whether the column still has a number between its sides.
+fn cut_above(area: &mut Area, j: usize, cut: i64) -> bool
+    requires within { j < length area.old }
+    requires small { unsigned_abs cut ≤ 2 ^ 24 }
+    ensures cut { area.new ≡ above area.old j cut }
+    ensures open { IsTrue result ↔ low_at area.new j ≤ℤ high_at area.new j }
+{
+    let side = area.as_slice()[j];
+    let low = raised(side.0, cut);
+    area.set(j, (low, side.1));
+    low <= side.1
+}
+
+/// The bound of a subtree over an area, which is changed on the way and is as it was in the end. A half without a point is infinite,
+/// whatever its leaves are, so the walk leaves it out.
+fn walk(model: &IntModel, tree: &Tree, area: &mut Area, scratch: &mut Scratch) -> Bound
+    requires numbers { AreNumbersWithin (plain tree.now) }
+    requires columns { FitsColumns (length model.now.columns) (plain tree.now) }
+    requires rows { FitsRows (length model.now.rows) (plain tree.now) }
+    requires area { IsArea (length model.now.columns) area.old }
+    requires room { FitsScratch model.now scratch.old }
+    ensures bound { result ≡ bound_over model.now (plain tree.now) area.old }
+    ensures restored { area.new ≡ area.old }
+    ensures room { room_of scratch.new ≡ room_of scratch.old }
+{
+    match tree {
+        Tree::Leaf(cert) => leaf_bound(model, cert, area, scratch),
+        Tree::Split {
+            col,
+            at,
+            left,
+            right,
+        } => {
+            let j = *col as usize;
+            let side = area.as_slice()[j];
+            let below = if cut_below(area, j, *at) {
+                walk(model, left, area, scratch)
+            } else {
+                Bound::Infinite
+            };
+            area.set(j, side);
+            let above = if cut_above(area, j, *at) {
+                walk(model, right, area, scratch)
+            } else {
+                Bound::Infinite
+            };
+            area.set(j, side);
+            lesser(below, above)
+        }
+    }
+}
+
+/// The bound of a tree by the walk from the box of the model, in an area that the walk changes.
+fn bound_in(model: &IntModel, tree: &Tree, area: &mut Area, scratch: &mut Scratch) -> Bound
+    requires limits { IsTreeWithin (plain tree.now) }
+    requires fits { FitsModel model.now (plain tree.now) }
+    requires area { length area.old ≡ length model.now.columns }
+    requires room { FitsScratch model.now scratch.old }
+    ensures bound { result ≡ tree_bound_of model.now (plain tree.now) }
+    ensures area { area.new ≡ box_of model.now }
+    ensures room { room_of scratch.new ≡ room_of scratch.old }
+{
+    set_box(model.parts().columns.as_slice(), area);
+    walk(model, tree, area, scratch)
+}
+
+/// The bound of a tree: the least bound of its leaves, each over the model's box cut by the splits above it. Each feasible point of the
+/// model costs at least it, and where it is infinite there is no such point, whatever made the tree and whatever model it was made for.
+///
+/// The scratch may come from any model with as many columns: its area is set to the model's box first, and is that box again in the
+/// end. Takes no memory; the allocator stands in for the area while the walk cuts it. The walk is a recursion as deep as the tree.
+pub fn tree_bound(alloc: Global, model: &IntModel, tree: &Tree, scratch: &mut Scratch) -> Bound
+    requires limits { IsTreeWithin (plain tree.now) }
+    requires fits { FitsModel model.now (plain tree.now) }
+    requires room { HasRoom (length model.now.columns) scratch.old }
+    ensures bound { result ≡ tree_bound_of model.now (plain tree.now) }
+    ensures holds { (x : List ℤ) → IsFeasible model.now x → IsAtMost result (cost model.now x) }
+    ensures area { scratch.new.area ≡ box_of model.now }
+    ensures room { HasRoom (length model.now.columns) scratch.new }
+{
+    let mut area = mem::replace(&mut scratch.area, Area::from_vec(Vec::new(alloc)));
+    let bound = bound_in(model, tree, &mut area, scratch);
+    scratch.area = area;
+    bound
+}

@@ -1,0 +1,5 @@
+pub mod OpenTrees
+pub mod Splits
+pub mod Outcomes
+pub mod Sizes
+pub mod Search

@@ -4,3 +4,6 @@ pub mod TreeSizeLaws
 pub mod EndLaws
 pub mod FinishLaws
 pub mod SearchLaws
+pub mod HalvingLaws
+pub mod LeafLaws
+pub mod RowLaws

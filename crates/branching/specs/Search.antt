@@ -1,5 +1,5 @@
 -- What a depth-first search says of a node that it visits, and of the subtree that it has grown over one box.
-use Rattle.std.specs.Prelude.{◌≡◌, ℕ, ◌+◌, ◌^◌, ◌<◌, ◌≤◌, List, length, slice_get, Option, Some, None, option_map, ℤ, ◌≤ℤ◌, ◌<ℤ◌}
+use Rattle.std.specs.Prelude.{◌≡◌, ℕ, ◌+◌, ◌^◌, ◌<◌, ◌≤◌, List, [], ◌∷◌, length, map, slice_get, Option, Some, None, option_map, ℤ, pos, ◌≤ℤ◌, ◌<ℤ◌}
 use Rattle.std.specs.Int.RustNames.{unsigned_abs}
 use Rattle.ip_defs.specs.declared.certificates.Bound.{Bound}
 use Rattle.ip_defs.specs.declared.certificates.Bound.TheVariants.{At, Infinite}
@@ -75,9 +75,17 @@ pub record IsSearchArea (m : Parts) (b : List (ℤ × ℤ)) : Type 0 where
 abbrev pub IsSingle : List (ℤ × ℤ) → Type 0
 IsSingle b = (j : ℕ) → j < length b → high_at b j ≤ℤ low_at b j
 
+-- the point at the lower sides of a box
+abbrev pub lowest : List (ℤ × ℤ) → List ℤ
+lowest b = map (λ s. s.0) b
+
 -- the first row that a point breaks
 abbrev pub BreaksRow : Parts → List ℤ → ℕ → Type 0
 BreaksRow m x i = row_breach x i (slice_get m.rows i) ≡ Some (Broken.Row i)
+
+-- the ray of one row
+abbrev pub ray_on : ℕ → ℤ → Cert
+ray_on row multiplier = record { q = pos 0; y = (row, multiplier) ∷ [] }
 
 -- ---- nodes
 

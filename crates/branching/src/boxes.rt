@@ -1,14 +1,34 @@
-ghost use Rattle.std.specs.Prelude.{◌≡◌, ◌<◌, ◌≤◌, ◌^◌, ◌-ℤ◌, ◌+ℤ◌, ◌<ℤ◌, IfOk, IfSome, IfNone, length, map, pos};
+ghost use Rattle.std.specs.Prelude.{◌≡◌, ◌<◌, ◌≤◌, ◌^◌, ◌-ℤ◌, ◌+ℤ◌, ◌<ℤ◌, IfOk, IfSome, IfNone, OnOk, length, map, pos};
 ghost use Rattle.std.specs.Int.{int_max};
 ghost use Rattle.std.specs.Int.RustNames.{unsigned_abs};
 ghost use Rattle.ip_defs.specs.Boxes.{above, below};
-ghost use Rattle.ip_defs.specs.Limits.{IsArea};
-ghost use Rattle.ip_defs.specs.Program.{high_at, low_at};
-ghost use Rattle.branching.specs.Search.{IsSingle};
+ghost use Rattle.ip_defs.specs.Limits.{IsArea, IsWithinLimits};
+ghost use Rattle.ip_defs.specs.Program.{box_of as box_of_parts, high_at, low_at};
+ghost use Rattle.branching.specs.Search.{IsSearchArea, IsSingle, lowest};
 ghost use Rattle.branching.specs.Splits.{IsWidest, middle as middle_of};
 
-use ip_defs::{Area, Point};
+use ip_defs::{Area, Column, Point};
+use ip_model::IntModel;
 use std::alloc::{AllocError, Global};
+
+/// The two sides of each column.
+fn sides_of(alloc: Global, columns: &[Column]) -> Result<Vec<(i64, i64)>, AllocError>
+    ensures { IfOk result (λ v. v.items ≡ map (λ c. (c.lo, c.hi)) columns.now) }
+{
+    columns
+        .iter()
+        .map(|column| (column.lo, column.hi))
+        .collect(alloc)
+}
+
+/// The box of a model.
+pub fn box_of(alloc: Global, model: &IntModel) -> Result<Area, AllocError>
+    ensures sides { IfOk result (λ b. b ≡ box_of_parts model.now) }
+    ensures area { IfOk result (IsSearchArea model.now) }
+    ensures limits { OnOk result (IsWithinLimits model.now) }
+{
+    Ok(Area::from_vec(sides_of(alloc, model.parts().columns.as_slice())?))
+}
 
 /// How many numbers a column has above its lower side.
 fn width_of(low: i64, high: i64) -> i64
@@ -50,14 +70,14 @@ pub fn middle(low: i64, high: i64) -> i64
 
 /// The lower sides of a box.
 fn lower_sides(alloc: Global, area: &[(i64, i64)]) -> Result<Vec<i64>, AllocError>
-    ensures { IfOk result (λ v. v.items ≡ map (λ s. s.0) area.now) }
+    ensures { IfOk result (λ v. v.items ≡ lowest area.now) }
 {
     area.iter().map(|side| side.0).collect(alloc)
 }
 
 /// The point at the lower sides of a box: its one point, where it has one.
 pub fn lowest_point(alloc: Global, area: &Area) -> Result<Point, AllocError>
-    ensures { IfOk result (λ p. p ≡ map (λ s. s.0) area.now) }
+    ensures { IfOk result (λ p. p ≡ lowest area.now) }
 {
     Ok(Point::from_vec(lower_sides(alloc, area.as_slice())?))
 }

@@ -1,11 +1,11 @@
-ghost use Rattle.std.specs.Prelude.{◌≡◌, ◌∷◌, [], IfOk, IfNone, IfSome, MatchBool, length, map, pos};
+ghost use Rattle.std.specs.Prelude.{◌≡◌, IfOk, IfNone, IfSome, MatchBool, length};
 ghost use Rattle.ip_defs.specs.Boxes.{IsOpen};
 ghost use Rattle.ip_defs.specs.Certificates.{box_sum, leaf_bound as leaf_bound_of};
-ghost use Rattle.ip_defs.specs.Limits.{IsArea, IsCert};
+ghost use Rattle.ip_defs.specs.Limits.{IsArea, IsCert, IsWithinLimits};
 ghost use Rattle.ip_defs.specs.Program.{box_of, IsFeasible, IsIn};
 ghost use Rattle.leaf_cert.specs.Room.{FitsScratch, room_of};
 ghost use Rattle.branching.specs.OpenTrees.{plain_cert as plain_cert_of};
-ghost use Rattle.branching.specs.Search.{BreaksRow, Closes, Improves, IsBelow, IsEnd, IsSearchArea, IsSingle, IsSound};
+ghost use Rattle.branching.specs.Search.{BreaksRow, Closes, Improves, IsBelow, IsEnd, IsSearchArea, IsSingle, IsSound, lowest, ray_on};
 
 use crate::boxes::lowest_point;
 use ip_defs::{Area, Bound, Breach, Cert, Memory, Multipliers, Point};
@@ -39,7 +39,7 @@ pub fn is_closed(found: &Found, bound: Bound) -> bool
 
 /// The ray of one row.
 fn ray(alloc: Global, row: u32, multiplier: i64) -> Result<Cert, AllocError>
-    ensures { IfOk result (λ c. (c.q ≡ pos 0) × (c.y ≡ (row, multiplier) ∷ [])) }
+    ensures { IfOk result (λ c. c ≡ ray_on row multiplier) }
 {
     Ok(Cert {
         q: 0,
@@ -68,9 +68,11 @@ fn ray_of(
     row: u32,
     scratch: &mut Scratch,
 ) -> Result<Cert, Memory>
+    requires limits { IsWithinLimits model.now }
     requires area { IsArea (length model.now.columns) area.now }
+    requires open { IsOpen area.now }
     requires single { IsSingle area.now }
-    requires broken { BreaksRow model.now (map (λ s. s.0) area.now) row }
+    requires broken { BreaksRow model.now (lowest area.now) row }
     requires room { FitsScratch model.now scratch.old }
     ensures ray { IfOk result (IsCert 1024) }
     ensures infinite { IfOk result (λ c. leaf_bound_of model.now area.now c ≡ Bound.Infinite) }
@@ -78,10 +80,12 @@ fn ray_of(
 {
     let mut ray = ray(alloc, row, 1)?;
     match leaf_bound(model, &ray, area, scratch) {
-        Bound::Infinite => {}
-        Bound::At(_) => ray.y.set(0, (row, -1)),
+        Bound::Infinite => Ok(ray),
+        Bound::At(_) => {
+            ray.y.set(0, (row, -1));
+            Ok(ray)
+        }
     }
-    Ok(ray)
 }
 
 /// Closes a box of one point, whose sum is below the cost of what was found: keeps the point where it is feasible, else takes a ray.
@@ -93,6 +97,7 @@ pub fn end_at_point(
     found: &mut Found,
     scratch: &mut Scratch,
 ) -> Result<Cert, Memory>
+    requires limits { IsWithinLimits model.now }
     requires area { IsSearchArea model.now area.now }
     requires open { IsOpen area.now }
     requires single { IsSingle area.now }

@@ -1,6 +1,6 @@
 ghost use Rattle.std.specs.Prelude.{◌≡◌, ◌+◌, ◌<◌, ◌≤◌, IfNone, IfOk, IfSome, length};
 ghost use Rattle.ip_defs.specs.Boxes.{IsOpen};
-ghost use Rattle.ip_defs.specs.Limits.{IsArea};
+ghost use Rattle.ip_defs.specs.Limits.{IsArea, IsWithinLimits};
 ghost use Rattle.ip_defs.specs.Program.{high_at, low_at};
 ghost use Rattle.std.specs.Prelude.{◌<ℤ◌};
 ghost use Rattle.leaf_cert.specs.Room.{FitsScratch, room_of};
@@ -86,6 +86,7 @@ pub fn visit_node(
     depth: u32,
     search: &mut Progress,
 ) -> Result<Visit, Memory>
+    requires limits { IsWithinLimits model.now }
     requires area { IsSearchArea model.now area.now }
     requires depth { depth ≤ limits.depth }
     requires nodes { search.old.nodes ≤ limits.nodes }

@@ -1,5 +1,6 @@
 ghost use Rattle.std.specs.Prelude.{◌≡◌, ◌≤◌, IfOk, OnOk, option_map};
-ghost use Rattle.ip_defs.specs.Program.{box_of};
+ghost use Rattle.ip_defs.specs.Program.{box_of as box_of_parts};
+ghost use Rattle.ip_defs.specs.Limits.{IsWithinLimits};
 ghost use Rattle.ip_model.specs.Sizes.{allowance};
 ghost use Rattle.leaf_cert.specs.Room.{FitsScratch};
 ghost use Rattle.branching.specs.OpenTrees.{IsDone, parted, plain_open};
@@ -9,14 +10,13 @@ ghost use Rattle.branching.specs.Sizes.{AreAmple, IsAnswer};
 
 use crate::finish::finish;
 use crate::nodes::{Progress, Visit, visit_node};
-use crate::boxes::{cut_above, cut_below};
+use crate::boxes::{box_of, cut_above, cut_below};
 use crate::{BudgetWhat, Limits, OpenTree, Outcome, Why, Whys};
 use ip_defs::{Area, Memory, Point};
 use ip_model::IntModel;
 use leaf_cert::scratch;
 use proof_tree::{Claim, Proof};
 use std::alloc::Global;
-use std::mem;
 
 /// A subtree as far as it was grown, and the limit that stopped the search in it.
 #[derive(Debug, Drop)]
@@ -47,6 +47,7 @@ fn grow(
     depth: u32,
     search: &mut Progress,
 ) -> Result<Grown, Memory>
+    requires limits { IsWithinLimits model.now }
     requires area { IsSearchArea model.now area.old }
     requires depth { depth ≤ limits.depth }
     requires nodes { search.old.nodes ≤ limits.nodes }
@@ -117,12 +118,11 @@ fn search_box(alloc: Global, model: &IntModel, limits: Limits) -> Result<Outcome
     requires depth { limits.depth ≤ 800 }
     ensures { IfOk result (IsRightOutcome model.now limits) }
 {
-    let mut room = scratch(alloc, model)?;
-    let mut area = mem::replace(&mut room.area, Area::from_vec(Vec::new(alloc)));
+    let mut area = box_of(alloc, model)?;
     let mut search = Progress {
         found: None,
         nodes: 1,
-        scratch: room,
+        scratch: scratch(alloc, model)?,
     };
     let grown = grow(alloc, model, limits, &mut area, 0, &mut search)?;
     let best = search.found.map(|best| best.0);

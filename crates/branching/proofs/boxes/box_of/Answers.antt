@@ -1,0 +1,9 @@
+use Rattle.std.proofs.Common.{◌≡◌, ◌∙◌, length, subst, arith}
+use Rattle.std.proofs.lemmas.Int.{ints}
+use Rattle.ip_defs.proofs.BoxLaws.{box_within}
+use Rattle.ip_defs.specs.Program.{box_of}
+use Rattle.branching.proofs.LeafLaws.{whole_area}
+use Rattle.branching.proofs.boxes.box_of.Goals as goal
+
+pub returns-clause-area : goal.returns-clause-area
+returns-clause-area c = rw (c.from_vec.ensures, c.in_ok-sides_of.ensures, c.as_slice.ensures, c.parts.ensures.parts) (whole_area c.args.model.now c.parts.ensures.limits)

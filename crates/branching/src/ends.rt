@@ -5,7 +5,7 @@ ghost use Rattle.ip_defs.specs.Limits.{IsArea, IsCert, IsWithinLimits};
 ghost use Rattle.ip_defs.specs.Program.{box_of, IsFeasible, IsIn};
 ghost use Rattle.leaf_cert.specs.Room.{FitsScratch, room_of};
 ghost use Rattle.branching.specs.OpenTrees.{plain_cert as plain_cert_of};
-ghost use Rattle.branching.specs.Search.{BreaksRow, Closes, Improves, IsBelow, IsEnd, IsSearchArea, IsSingle, IsSound, lowest, ray_on};
+ghost use Rattle.branching.specs.Search.{BreaksRow, Closes, Improves, IsBelow, IsEnd, IsSearchArea, IsSingle, IsSound, lowest, point_of, ray_on};
 
 use crate::boxes::lowest_point;
 use ip_defs::{Area, Bound, Breach, Cert, Memory, Multipliers, Point};
@@ -15,6 +15,13 @@ use std::alloc::{AllocError, Global};
 
 /// A point and what it costs.
 pub type Found = Option<(Point, i128)>;
+
+/// The point that was found, without its cost.
+pub fn best_point(found: Found) -> Option<Point>
+    ensures { result ≡ point_of found }
+{
+    found.map(|best| best.0)
+}
 
 /// The certificate without multipliers, whose bound is the sum of a box.
 pub fn plain_cert(alloc: Global) -> Cert

@@ -8,6 +8,7 @@ ghost use Rattle.branching.specs.Outcomes.{IsRightOutcome, IsTrueOutcome};
 ghost use Rattle.branching.specs.Search.{IsAnswerOf, IsGrown, IsSearchArea, IsSound};
 ghost use Rattle.branching.specs.Sizes.{AreAmple, IsAnswer};
 
+use crate::ends::best_point;
 use crate::finish::finish;
 use crate::nodes::{Progress, Visit, visit_node};
 use crate::boxes::{box_of, cut_above, cut_below};
@@ -125,7 +126,7 @@ fn search_box(alloc: Global, model: &IntModel, limits: Limits) -> Result<Outcome
         scratch: scratch(alloc, model)?,
     };
     let grown = grow(alloc, model, limits, &mut area, 0, &mut search)?;
-    let best = search.found.map(|best| best.0);
+    let best = best_point(search.found);
     match grown.stop {
         None => answer(alloc, grown.tree, best),
         Some(what) => Ok(Outcome::Budget {

@@ -1,9 +1,24 @@
-use Rattle.std.proofs.Common.{rules}
+use Rattle.std.proofs.Common.{◌≡◌, ◌∙◌, ap, sym}
+use Rattle.std.proofs.lemmas.Result.{IfOk-weaker}
+use Rattle.branching.specs.Outcomes.{IsRightOutcome}
+use Rattle.branching.specs.OpenTrees.{plain_open}
+use Rattle.branching.specs.Search.{IsAnswerOf, point_of}
 use Rattle.branching.proofs.SearchLaws.{end_is_right, stop_is_right}
 use Rattle.branching.proofs.search.search_box.Goals as goal
 
 pub returns-in-None : goal.returns-in-None
-returns-in-None c = ?
+returns-in-None c =
+    let m = c.args.model.now in
+    let l = c.args.limits in
+    let grown = rw (c.in_ok-area.ensures.sides, c.in-None.is) at c.in_ok-grown.ensures.grown in
+    let made = rw c.best_point-best.ensures at c.answer.ensures in
+    let t = plain_open c.in_ok-grown.grown.tree in
+    let found = c.grow.new.search.found in
+    IfOk-weaker c.answer.result (IsAnswerOf t (point_of found)) (IsRightOutcome m l) (λ o. end_is_right m l t c.grow.new.search.nodes found o c.requires.most c.requires.depth grown) made
 
 pub returns : goal.returns
-returns c = ?
+returns c =
+    let m = c.args.model.now in
+    let l = c.args.limits in
+    let grown = rw (c.in_ok-area.ensures.sides, c.in-Some.is) at c.in_ok-grown.ensures.grown in
+    rw c.best_point-best.ensures (stop_is_right m l (plain_open c.in_ok-grown.grown.tree) c.grow.new.search.nodes c.grow.new.search.found c.in-Some.what grown)

@@ -33,17 +33,17 @@ module _ (b : List (ℤ × ℤ)) (j : ℕ) (z : ℤ) (p : IsProper (split_at b j
 
   low_half : low_at b j ≤ℤ int_min (high_at b j) z
   low_half =
-    let l : j < length b = p.col in
-    let is = get_or-set_at b j j lower (pos 0, pos 0) refl l in
-    let l' : j < length (set b j lower) = omega (arith, l, length-set b j lower) in
-    subst (λ (q : ℤ × ℤ). q.0 ≤ℤ q.1) is (p.left j l')
+      let l : j < length b = p.col in
+      let is = get_or-set_at b j j lower (pos 0, pos 0) refl l in
+      let l' : j < length (set b j lower) = omega (arith, l, length-set b j lower) in
+      subst (λ (q : ℤ × ℤ). q.0 ≤ℤ q.1) is (p.left j l')
 
   high_half : int_max (low_at b j) (z +ℤ pos 1) ≤ℤ high_at b j
   high_half =
-    let l : j < length b = p.col in
-    let is = get_or-set_at b j j upper (pos 0, pos 0) refl l in
-    let l' : j < length (set b j upper) = omega (arith, l, length-set b j upper) in
-    subst (λ (q : ℤ × ℤ). q.0 ≤ℤ q.1) is (p.right j l')
+      let l : j < length b = p.col in
+      let is = get_or-set_at b j j upper (pos 0, pos 0) refl l in
+      let l' : j < length (set b j upper) = omega (arith, l, length-set b j upper) in
+      subst (λ (q : ℤ × ℤ). q.0 ≤ℤ q.1) is (p.right j l')
 
   pub cut_low : low_at b j ≤ℤ z
   cut_low = let h = low_half in omega (arith, ints, clamps)

@@ -1,5 +1,5 @@
 -- A grown tree without open nodes is a proof, and what is closed stays closed.
-use Rattle.std.specs.Prelude.{◌≡◌, ℕ, suc, ◌+◌, ◌^◌, ◌<◌, ◌≤◌, ℤ, ◌≤ℤ◌, List, [], ◌∷◌, ◌++◌, length, Option, Some, None}
+use Rattle.std.specs.Prelude.{◌≡◌, ℕ, suc, ◌+◌, ◌≤◌, ℤ, ◌≤ℤ◌, List, [], ◌∷◌, length, Option, Some, None}
 use Rattle.std.proofs.Common.{refl, arith, ap, sym, ◌∙◌, subst}
 use Rattle.std.proofs.lemmas.Int.{ints, clamps}
 use Rattle.std.proofs.lemmas.List.{length-append}
@@ -8,7 +8,7 @@ use Rattle.ip_defs.specs.declared.certificates.Bound.TheVariants.{At, Infinite}
 use Rattle.ip_defs.specs.declared.programs.Parts.{Parts}
 use Rattle.ip_defs.specs.Boxes.{below, above}
 use Rattle.ip_defs.specs.Certificates.{leaf_bound}
-use Rattle.ip_defs.specs.Program.{cost, box_of}
+use Rattle.ip_defs.specs.Program.{cost}
 use Rattle.proof_tree.proofs.EachLaws.{Each, each_left, each_right}
 use Rattle.proof_tree.proofs.TreeLaws.{bound_split, bound_min-infinite}
 use Rattle.proof_tree.specs.Trees.{nodes_from, depth, bound_min, bound_over}

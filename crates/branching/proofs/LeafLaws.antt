@@ -1,20 +1,19 @@
 -- What closes a box: its sum, its one point, or a ray on a row that its one point breaks.
-use Rattle.std.specs.Prelude.{◌≡◌, ℕ, zero, suc, ◌<◌, ◌≤◌, ◌||◌, Bool, true, false, if◌then◌else◌, List, [], ◌∷◌, length, map, slice_get, Option, Some, None, option_map, ℤ, pos, negsuc, ◌+ℤ◌, ◌-ℤ◌, ◌*ℤ◌, ◌≤ℤ◌, ◌<ℤ◌}
+use Rattle.std.specs.Prelude.{◌≡◌, ℕ, ◌<◌, Bool, true, false, if◌then◌else◌, List, [], ◌∷◌, length, slice_get, Option, Some, None, option_map, ℤ, pos, negsuc, ◌+ℤ◌, ◌-ℤ◌, ◌*ℤ◌, ◌≤ℤ◌, ◌<ℤ◌}
 use Rattle.std.specs.Int.{int_min}
 use Rattle.std.specs.Int.Signed.{lt_z}
 use Rattle.std.specs.List.{list_any}
-use Rattle.std.proofs.Common.{arith, refl, ap, sym, ◌∙◌, subst, ◌⊎◌, inl, inr}
+use Rattle.std.proofs.Common.{arith, refl, ap, sym, ◌∙◌, subst}
 use Rattle.std.proofs.lemmas.Int.{ints, clamps}
 use Rattle.std.proofs.lemmas.List.{length-map, get_or-map}
 use Rattle.std.proofs.lemmas.List.Elements.{All-from_get_or}
 use Rattle.std.proofs.lemmas.List.Folds.{list_any_none}
-use Rattle.ring_laws.proofs.Normal.{num, var, ◌⊕◌, ◌⊖◌, ◌⊗◌}
+use Rattle.ring_laws.proofs.Normal.{num, ◌⊕◌, ◌⊖◌, ◌⊗◌}
 use Rattle.ring_laws.proofs.Named.{ring3, ring4}
 use Rattle.ring_laws.proofs.Rings.{whole}
 use Rattle.ip_defs.specs.declared.certificates.Bound.{Bound}
 use Rattle.ip_defs.specs.declared.certificates.Bound.TheVariants.{At, Infinite}
 use Rattle.ip_defs.specs.declared.certificates.Cert.{Cert}
-use Rattle.ip_defs.specs.declared.programs.Column.{Column}
 use Rattle.ip_defs.specs.declared.programs.Parts.{Parts}
 use Rattle.ip_defs.specs.declared.programs.Row.{Row}
 use Rattle.ip_defs.specs.Boxes.{IsOpen}
@@ -81,21 +80,21 @@ module _ (b : List (ℤ × ℤ)) (single : IsSingle b) (open' : IsOpen b) where
   -- each end of a column is its number there
   ends_meet : (d : ℤ) (j : ℕ) → j < length b → int_min (d *ℤ low_at b j) (d *ℤ high_at b j) ≡ d *ℤ at (lowest b) j
   ends_meet d j l =
-    let low = single j l in
-    let high = open' j l in
-    let same : high_at b j ≡ low_at b j = omega (arith, ints) in
-    let is = ap (λ z. d *ℤ z) same in
-    let there = ap (λ z. d *ℤ z) (point_at j l) in
-    omega (arith, ints, clamps)
+      let low = single j l in
+      let high = open' j l in
+      let same : high_at b j ≡ low_at b j = omega (arith, ints) in
+      let is = ap (λ z. d *ℤ z) same in
+      let there = ap (λ z. d *ℤ z) (point_at j l) in
+      omega (arith, ints, clamps)
 
   -- its cost is the sum of the box
   pub point_sum : (m : Parts) → box_sum m b ≡ cost m (lowest b)
   point_sum m =
-    let each : (j : ℕ) → j < length b → int_min (reduced m (pos 1) [] j *ℤ low_at b j) (reduced m (pos 1) [] j *ℤ high_at b j) ≡ at (costs_of m) j *ℤ at (lowest b) j = λ j l.
-    ends_meet (reduced m (pos 1) [] j) j l ∙ ring2' (at (costs_of m) j) (at (lowest b) j) in
-    let same = sum_same (λ j. int_min (reduced m (pos 1) [] j *ℤ low_at b j) (reduced m (pos 1) [] j *ℤ high_at b j)) (λ j. at (costs_of m) j *ℤ at (lowest b) j) (length b) each in
-    let sized = ap (sum_below (λ j. at (costs_of m) j *ℤ at (lowest b) j)) point_size in
-    omega (arith, ints)
+      let each : (j : ℕ) → j < length b → int_min (reduced m (pos 1) [] j *ℤ low_at b j) (reduced m (pos 1) [] j *ℤ high_at b j) ≡ at (costs_of m) j *ℤ at (lowest b) j = λ j l.
+      ends_meet (reduced m (pos 1) [] j) j l ∙ ring2' (at (costs_of m) j) (at (lowest b) j) in
+      let same = sum_same (λ j. int_min (reduced m (pos 1) [] j *ℤ low_at b j) (reduced m (pos 1) [] j *ℤ high_at b j)) (λ j. at (costs_of m) j *ℤ at (lowest b) j) (length b) each in
+      let sized = ap (sum_below (λ j. at (costs_of m) j *ℤ at (lowest b) j)) point_size in
+      omega (arith, ints)
     where
       ring2' : (c x : ℤ) → (pos 1 *ℤ c -ℤ pos 0) *ℤ x ≡ c *ℤ x
       ring2' c x = ring3 whole (λ c x z. (num (pos 1) ⊗ c ⊖ num (pos 0)) ⊗ x) (λ c x z. c ⊗ x) refl c x (pos 0)
@@ -103,13 +102,13 @@ module _ (b : List (ℤ × ℤ)) (single : IsSingle b) (open' : IsOpen b) where
   -- ---- rays
   ray_part : (m : Parts) (i : ℕ) (r : Row) (k : ℤ) → slice_get m.rows i ≡ Some r → column_part m b (pos 0) ((i, k) ∷ []) ≡ (pos 0 -ℤ k) *ℤ row_sum r.coefs (lowest b)
   ray_part m i r k is =
-    let y : List (ℕ × ℤ) = (i, k) ∷ [] in
-    let each : (j : ℕ) → j < length b → int_min (reduced m (pos 0) y j *ℤ low_at b j) (reduced m (pos 0) y j *ℤ high_at b j) ≡ (pos 0 -ℤ k) *ℤ (coefficient r.coefs j *ℤ at (lowest b) j) = λ j l.
-    ends_meet (reduced m (pos 0) y j) j l ∙ turned (at (costs_of m) j) (entry m.rows i j) (at (lowest b) j) ∙ ap (λ (o : Option Row). (pos 0 -ℤ k) *ℤ (coefficient (coefs_of o) j *ℤ at (lowest b) j)) is in
-    let same = sum_same (λ j. int_min (reduced m (pos 0) y j *ℤ low_at b j) (reduced m (pos 0) y j *ℤ high_at b j)) (λ j. (pos 0 -ℤ k) *ℤ (coefficient r.coefs j *ℤ at (lowest b) j)) (length b) each in
-    let scaled = sum_scale (pos 0 -ℤ k) (λ j. coefficient r.coefs j *ℤ at (lowest b) j) (length b) in
-    let sized = ap (λ n. (pos 0 -ℤ k) *ℤ sum_below (λ j. coefficient r.coefs j *ℤ at (lowest b) j) n) point_size in
-    same ∙ scaled ∙ sym sized
+      let y : List (ℕ × ℤ) = (i, k) ∷ [] in
+      let each : (j : ℕ) → j < length b → int_min (reduced m (pos 0) y j *ℤ low_at b j) (reduced m (pos 0) y j *ℤ high_at b j) ≡ (pos 0 -ℤ k) *ℤ (coefficient r.coefs j *ℤ at (lowest b) j) = λ j l.
+      ends_meet (reduced m (pos 0) y j) j l ∙ turned (at (costs_of m) j) (entry m.rows i j) (at (lowest b) j) ∙ ap (λ (o : Option Row). (pos 0 -ℤ k) *ℤ (coefficient (coefs_of o) j *ℤ at (lowest b) j)) is in
+      let same = sum_same (λ j. int_min (reduced m (pos 0) y j *ℤ low_at b j) (reduced m (pos 0) y j *ℤ high_at b j)) (λ j. (pos 0 -ℤ k) *ℤ (coefficient r.coefs j *ℤ at (lowest b) j)) (length b) each in
+      let scaled = sum_scale (pos 0 -ℤ k) (λ j. coefficient r.coefs j *ℤ at (lowest b) j) (length b) in
+      let sized = ap (λ n. (pos 0 -ℤ k) *ℤ sum_below (λ j. coefficient r.coefs j *ℤ at (lowest b) j) n) point_size in
+      same ∙ scaled ∙ sym sized
     where
       turned : (c e x : ℤ) → (pos 0 *ℤ c -ℤ (k *ℤ e +ℤ pos 0)) *ℤ x ≡ (pos 0 -ℤ k) *ℤ (e *ℤ x)
       turned c e x = ring4 whole (λ k c e x. (num (pos 0) ⊗ c ⊖ (k ⊗ e ⊕ num (pos 0))) ⊗ x) (λ k c e x. (num (pos 0) ⊖ k) ⊗ (e ⊗ x)) refl k c e x
@@ -117,16 +116,16 @@ module _ (b : List (ℤ × ℤ)) (single : IsSingle b) (open' : IsOpen b) where
   -- a ray on a row is infinite, where the multiplier pays more than the row's value
   pub ray_infinite : (m : Parts) (i : ℕ) (r : Row) (k side : ℤ) → slice_get m.rows i ≡ Some r → side_for k r ≡ Some side → (k *ℤ row_sum r.coefs (lowest b)) <ℤ (k *ℤ side) → leaf_bound m b (ray_on i k) ≡ Infinite
   ray_infinite m i r k side is side_is more =
-    let y : List (ℕ × ℤ) = (i, k) ∷ [] in
-    let part = ray_part m i r k is in
-    let turned = ring3 whole (λ k v z. (num (pos 0) ⊖ k) ⊗ v) (λ k v z. num (pos 0) ⊖ k ⊗ v) refl k (row_sum r.coefs (lowest b)) (pos 0) in
-    let g = (k *ℤ side +ℤ pos 0) +ℤ (pos 0 *ℤ m.constant) +ℤ column_part m b (pos 0) y in
-    let positive : lt_z (pos 0) g ≡ true = less_is (pos 0) g (omega (arith, ints)) in
-    let paid : pay m.rows y ≡ Some (k *ℤ side +ℤ pos 0) = rw (is, side_is) refl in
-    let dual : dual_value m b (pos 0) y ≡ Some g = ap (option_map (λ p. p +ℤ (pos 0 *ℤ m.constant) +ℤ column_part m b (pos 0) y)) paid in
-    let by_ray : bound_by (pos 0) (box_sum m b) (Some g) ≡ Infinite = ap (λ t. if t then Infinite else At (box_sum m b)) positive in
-    let found : leaf_bound m b (ray_on i k) ≡ bound_by (pos 0) (box_sum m b) (dual_value m b (pos 0) y) = ap (λ t. if t then Infinite else bound_by (pos 0) (box_sum m b) (dual_value m b (pos 0) y)) (open_none b open') in
-    found ∙ ap (bound_by (pos 0) (box_sum m b)) dual ∙ by_ray
+      let y : List (ℕ × ℤ) = (i, k) ∷ [] in
+      let part = ray_part m i r k is in
+      let turned = ring3 whole (λ k v z. (num (pos 0) ⊖ k) ⊗ v) (λ k v z. num (pos 0) ⊖ k ⊗ v) refl k (row_sum r.coefs (lowest b)) (pos 0) in
+      let g = (k *ℤ side +ℤ pos 0) +ℤ (pos 0 *ℤ m.constant) +ℤ column_part m b (pos 0) y in
+      let positive : lt_z (pos 0) g ≡ true = less_is (pos 0) g (omega (arith, ints)) in
+      let paid : pay m.rows y ≡ Some (k *ℤ side +ℤ pos 0) = rw (is, side_is) refl in
+      let dual : dual_value m b (pos 0) y ≡ Some g = ap (option_map (λ p. p +ℤ (pos 0 *ℤ m.constant) +ℤ column_part m b (pos 0) y)) paid in
+      let by_ray : bound_by (pos 0) (box_sum m b) (Some g) ≡ Infinite = ap (λ t. if t then Infinite else At (box_sum m b)) positive in
+      let found : leaf_bound m b (ray_on i k) ≡ bound_by (pos 0) (box_sum m b) (dual_value m b (pos 0) y) = ap (λ t. if t then Infinite else bound_by (pos 0) (box_sum m b) (dual_value m b (pos 0) y)) (open_none b open') in
+      found ∙ ap (bound_by (pos 0) (box_sum m b)) dual ∙ by_ray
 
 -- the certificate without multipliers is within the limits
 plain_cert_ok : IsCert 1024 plain_cert
@@ -154,16 +153,16 @@ module _ (m : Parts) (b : List (ℤ × ℤ)) (p : List ℤ) (w : ℤ) (single : 
   point_end c plain = record {
     cert = subst (IsCert 1024) (sym plain) plain_cert_ok;
     closed =
-      let sum = point_sum b single open' m in
-      let same = ap (cost m) is in
-      let least : IsAtLeast (At (box_sum m b)) (cost m p) = omega (arith, ints) in
-      subst (λ (v : Bound). IsAtLeast v (cost m p)) (sym (ap (leaf_bound m b) plain ∙ plain_bound m b (open_none b open'))) least;
+        let sum = point_sum b single open' m in
+        let same = ap (cost m) is in
+        let least : IsAtLeast (At (box_sum m b)) (cost m p) = omega (arith, ints) in
+        subst (λ (v : Bound). IsAtLeast v (cost m p)) (sym (ap (leaf_bound m b) plain ∙ plain_bound m b (open_none b open'))) least;
   }
 
   -- and it costs less than what was found
   pub point_improves : (found : Found) → IsBelow (At (box_sum m b)) found → cost m p ≡ w → Improves found (Some (p, w))
   point_improves None below price = tt
   point_improves (Some q) below price =
-    let sum = point_sum b single open' m in
-    let same = ap (cost m) is in
-    omega (arith, ints)
+      let sum = point_sum b single open' m in
+      let same = ap (cost m) is in
+      omega (arith, ints)

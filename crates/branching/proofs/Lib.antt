@@ -1,3 +1,4 @@
+pub mod OutcomeExamples
 pub mod OutcomeLaws
 pub mod BoxSizeLaws
 pub mod TreeSizeLaws

@@ -1,14 +1,12 @@
 -- A row that a point breaks: the first one, and the ray that shows a box of this one point empty.
-use Rattle.std.specs.Prelude.{◌≡◌, ◌≢◌, ℕ, zero, suc, ◌^◌, ◌<◌, ◌≤◌, ◌||◌, Bool, true, false, if◌then◌else◌, List, [], ◌∷◌, length, slice_get, Option, Some, None, ℤ, pos, negsuc, ◌*ℤ◌, ◌≤ℤ◌, ◌<ℤ◌}
+use Rattle.std.specs.Prelude.{◌≡◌, ◌≢◌, ℕ, zero, suc, ◌^◌, ◌<◌, ◌≤◌, ◌||◌, Bool, true, false, if◌then◌else◌, List, [], ◌∷◌, length, slice_get, Option, Some, None, ℤ, pos, negsuc, ◌≤ℤ◌, ◌<ℤ◌}
 use Rattle.std.specs.Int.RustNames.{unsigned_abs}
 use Rattle.std.specs.Int.Signed.{lt_z}
-use Rattle.std.proofs.Common.{arith, refl, sym, ◌∙◌, ap, subst, ◌⊎◌, inl, inr}
+use Rattle.std.proofs.Common.{arith, refl, ◌∙◌, ap, ◌⊎◌, inl, inr}
 use Rattle.std.proofs.lemmas.Int.{ints}
 use Rattle.std.proofs.lemmas.List.{length-map}
 use Rattle.std.proofs.lemmas.Option.{slice_get_within}
-use Rattle.ip_defs.specs.declared.certificates.Bound.{Bound}
 use Rattle.ip_defs.specs.declared.certificates.Bound.TheVariants.{At, Infinite}
-use Rattle.ip_defs.specs.declared.certificates.Cert.{Cert}
 use Rattle.ip_defs.specs.declared.programs.Breach.{Breach}
 use Rattle.ip_defs.specs.declared.programs.Breach.TheVariants as Broken
 use Rattle.ip_defs.specs.declared.programs.Column.{Column}

@@ -1,8 +1,8 @@
 -- Halves of a search make the whole, and the whole is a right outcome.
-use Rattle.std.specs.Prelude.{◌≡◌, ℕ, suc, ◌+◌, ◌≤◌, ◌<◌, ◌==◌, Bool, true, false, ℤ, pos, ◌+ℤ◌, ◌≤ℤ◌, List, [], ◌∷◌, ◌++◌, length, Option, Some, None, IfSome, IsSome}
+use Rattle.std.specs.Prelude.{◌≡◌, ℕ, suc, ◌+◌, ◌≤◌, ◌<◌, ◌==◌, Bool, true, false, ℤ, pos, ◌+ℤ◌, ◌≤ℤ◌, List, [], ◌∷◌, length, Option, Some, None, IfSome, IsSome}
 use Rattle.std.specs.Int.{int_min, int_max}
 use Rattle.std.specs.Option.{is_some}
-use Rattle.std.proofs.Common.{refl, arith, inl, inr, subst, sym, ap, ◌∙◌, set, length-set}
+use Rattle.std.proofs.Common.{refl, arith, inl, inr, subst, sym, ap, set, length-set}
 use Rattle.std.proofs.lemmas.Bool.{eqb-true, eqb-false}
 use Rattle.std.proofs.lemmas.Grind.{get_or-set_at}
 use Rattle.std.proofs.lemmas.Int.{ints, clamps}
@@ -10,7 +10,7 @@ use Rattle.std.proofs.lemmas.List.{get_or-set_other}
 use Rattle.std.proofs.lemmas.List.{length-append}
 use Rattle.ip_defs.specs.declared.programs.Parts.{Parts}
 use Rattle.ip_defs.specs.Boxes.{below, above}
-use Rattle.ip_defs.specs.Program.{box_of, cost, high_at, low_at, IsFeasible}
+use Rattle.ip_defs.specs.Program.{box_of, high_at, low_at, IsFeasible}
 use Rattle.ip_defs.proofs.BoxLaws.{below_area, above_area}
 use Rattle.proof_tree.proofs.EachLaws.{Each, each_join}
 use Rattle.proof_tree.proofs.WithinLaws.{limits_are_exact}
@@ -79,18 +79,20 @@ none_stuck D d b (parted col cut why left right) done = ((λ s. absurd s.0), eac
 pub halves_end : (l : Limits) (d : ℕ) (b : List (ℤ × ℤ)) (col : ℕ) (cut : ℤ) (why : Why) (left right : PlainOpen) (after : ℕ) (stop : Option BudgetWhat) → IsDone left → EndsBy l after right (places_from (suc d) (above b col cut) right) stop → EndsBy l after (parted col cut why left right) (places_from d b (parted col cut why left right)) stop
 halves_end l d b col cut why left right after None done e = (done, e)
 halves_end l d b col cut why left right after (Some Depth) done e = inr (some_right _ (places_from (suc d) (below b col cut) left) (places_from (suc d) (above b col cut) right) e)
-halves_end l d b col cut why left right after (Some Nodes) done e =
-    (inr (some_right _ (places_from (suc d) (below b col cut) left) (places_from (suc d) (above b col cut) right) e.0),
-     ((λ s. absurd s.0), each_join _ (places_from (suc d) (below b col cut) left) (places_from (suc d) (above b col cut) right) (none_stuck l.depth (suc d) (below b col cut) left done) e.1),
-     e.2)
+halves_end l d b col cut why left right after (Some Nodes) done e = (
+  inr (some_right _ (places_from (suc d) (below b col cut) left) (places_from (suc d) (above b col cut) right) e.0),
+  ((λ s. absurd s.0), each_join _ (places_from (suc d) (below b col cut) left) (places_from (suc d) (above b col cut) right) (none_stuck l.depth (suc d) (below b col cut) left done) e.1),
+  e.2,
+)
 
 -- a search that stopped in the first half leaves the second one pending
 pub first_half_ends : (l : Limits) (d : ℕ) (b : List (ℤ × ℤ)) (col : ℕ) (cut : ℤ) (why : Why) (left : PlainOpen) (after : ℕ) (what : BudgetWhat) → EndsBy l after left (places_from (suc d) (below b col cut) left) (Some what) → EndsBy l after (parted col cut why left pending) (places_from d b (parted col cut why left pending)) (Some what)
 first_half_ends l d b col cut why left after Depth e = inr (some_left _ (places_from (suc d) (below b col cut) left) (places_from (suc d) (above b col cut) pending) e)
-first_half_ends l d b col cut why left after Nodes e =
-    (inr (some_left _ (places_from (suc d) (below b col cut) left) (places_from (suc d) (above b col cut) pending) e.0),
-     ((λ s. absurd s.0), each_join _ (places_from (suc d) (below b col cut) left) (places_from (suc d) (above b col cut) pending) e.1 ((λ s. absurd s.0), tt)),
-     e.2)
+first_half_ends l d b col cut why left after Nodes e = (
+  inr (some_left _ (places_from (suc d) (below b col cut) left) (places_from (suc d) (above b col cut) pending) e.0),
+  ((λ s. absurd s.0), each_join _ (places_from (suc d) (below b col cut) left) (places_from (suc d) (above b col cut) pending) e.1 ((λ s. absurd s.0), tt)),
+  e.2,
+)
 
 -- ---- the box of a half
 

@@ -20,7 +20,7 @@ use Rattle.branching.specs.declared.budgets.Limits.{Limits}
 use Rattle.branching.specs.declared.budgets.BudgetWhat.{BudgetWhat}
 use Rattle.branching.specs.declared.budgets.BudgetWhat.TheVariants.{Nodes, Depth}
 use Rattle.branching.specs.declared.outcomes.Outcome.{Outcome}
-use Rattle.branching.specs.declared.outcomes.Outcome.TheVariants.{Best, Empty, Budget}
+use Rattle.branching.specs.declared.outcomes.Outcome.TheVariants.{Best, Empty}
 use Rattle.branching.specs.declared.reasons.Why.{Why}
 use Rattle.branching.specs.declared.reasons.Why.TheVariants.{Stopped}
 use Rattle.branching.specs.declared.nodes.Visit.{Visit}

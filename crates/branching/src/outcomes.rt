@@ -6,9 +6,15 @@ use proof_tree::Proof;
 #[derive(Debug, Drop)]
 pub enum Outcome {
     /// The claimed point is feasible and none costs less. The reasons are those of the proof's splits, in preorder.
-    Best { proof: Proof, reasons: Whys },
+    Best {
+        proof: Proof,
+        reasons: Whys,
+    },
     /// No point is feasible. The reasons are those of the proof's splits, in preorder.
-    Empty { proof: Proof, reasons: Whys },
+    Empty {
+        proof: Proof,
+        reasons: Whys,
+    },
     /// The search stopped at a limit, with the tree that it has grown and the best point that it has found.
     Budget {
         what: BudgetWhat,

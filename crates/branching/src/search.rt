@@ -8,10 +8,10 @@ ghost use Rattle.branching.specs.Outcomes.{IsRightOutcome, IsTrueOutcome};
 ghost use Rattle.branching.specs.Search.{IsAnswerOf, IsGrown, IsSearchArea, IsSound};
 ghost use Rattle.branching.specs.Sizes.{AreAmple, IsAnswer};
 
+use crate::boxes::{box_of, cut_above, cut_below};
 use crate::ends::best_point;
 use crate::finish::finish;
 use crate::nodes::{Progress, Visit, visit_node};
-use crate::boxes::{box_of, cut_above, cut_below};
 use crate::{BudgetWhat, Limits, OpenTree, Outcome, Why, Whys};
 use ip_defs::{Area, Memory, Point};
 use ip_model::IntModel;
@@ -27,7 +27,13 @@ struct Grown {
 }
 
 /// A halved node with its two sides.
-fn split(alloc: Global, col: u32, at: i64, left: OpenTree, right: OpenTree) -> Result<OpenTree, Memory>
+fn split(
+    alloc: Global,
+    col: u32,
+    at: i64,
+    left: OpenTree,
+    right: OpenTree,
+) -> Result<OpenTree, Memory>
     ensures { IfOk result (λ t. plain_open t ≡ parted col at Why.Stopped (plain_open left) (plain_open right)) }
 {
     Ok(OpenTree::Split {
@@ -102,11 +108,17 @@ fn answer(alloc: Global, tree: OpenTree, best: Option<Point>) -> Result<Outcome,
     let tree = finish(alloc, tree, &mut reasons)?;
     match best {
         Some(point) => {
-            let proof = Proof { claim: Claim::Best(point), tree };
+            let proof = Proof {
+                claim: Claim::Best(point),
+                tree,
+            };
             Ok(Outcome::Best { proof, reasons })
         }
         None => {
-            let proof = Proof { claim: Claim::Empty, tree };
+            let proof = Proof {
+                claim: Claim::Empty,
+                tree,
+            };
             Ok(Outcome::Empty { proof, reasons })
         }
     }

@@ -1,6 +1,6 @@
 //! The outcomes of small models, with ample limits and with limits that stop the search.
 
-use crate::{BudgetWhat, Claim, Limits, OpenTree, Outcome, Proof, Tree, solve};
+use crate::{BudgetWhat, Claim, Limits, OpenTree, Outcome, Point, Proof, Tree, solve};
 use ip_defs::{Bound, Coefs, Column, ColumnList, Memory, Name, Parts, Row, RowList};
 use ip_model::{IntModel, allowance, make, well_shaped};
 use leaf_cert::scratch;
@@ -17,7 +17,12 @@ fn column(alloc: Global, cost: i64, lo: i64, hi: i64) -> Column {
     }
 }
 
-fn row(alloc: Global, coefs: &[(u32, i64)], low: Option<i64>, high: Option<i64>) -> Result<Row, Memory> {
+fn row(
+    alloc: Global,
+    coefs: &[(u32, i64)],
+    low: Option<i64>,
+    high: Option<i64>,
+) -> Result<Row, Memory> {
     Ok(Row {
         name: Name::new(String::new(alloc)),
         decimals: 0,
@@ -44,11 +49,15 @@ fn model(alloc: Global, columns: Vec<Column>, rows: Vec<Row>) -> Result<IntModel
 
 /// Least -5a - 4b - 3c with three rows; its least point is (2, 0, 1).
 fn three_rows(alloc: Global) -> Result<IntModel, Fail> {
-    let columns = vec![in alloc; column(alloc, -5, 0, 10), column(alloc, -4, 0, 10), column(alloc, -3, 0, 10)]?;
+    let columns = vec![in alloc;
+        column(alloc, -5, 0, 10),
+        column(alloc, -4, 0, 10),
+        column(alloc, -3, 0, 10),
+    ]?;
     let rows = vec![in alloc;
         row(alloc, &[(0, 2), (1, 3), (2, 1)], None, Some(5))?,
         row(alloc, &[(0, 4), (1, 1), (2, 2)], None, Some(11))?,
-        row(alloc, &[(0, 3), (1, 4), (2, 2)], None, Some(8))?
+        row(alloc, &[(0, 3), (1, 4), (2, 2)], None, Some(8))?,
     ]?;
     model(alloc, columns, rows)
 }
@@ -74,7 +83,11 @@ fn no_rows(alloc: Global) -> Result<IntModel, Fail> {
 
 /// One column from 5 to 3.
 fn empty_column(alloc: Global) -> Result<IntModel, Fail> {
-    model(alloc, vec![in alloc; column(alloc, 1, 5, 3)]?, Vec::new(alloc))
+    model(
+        alloc,
+        vec![in alloc; column(alloc, 1, 5, 3)]?,
+        Vec::new(alloc),
+    )
 }
 
 /// Least -x - y with x + y at most -1, both from 0 to 1.
@@ -189,8 +202,34 @@ fn no_points(rt: HostRuntime) -> Result<(), Fail> {
     Ok(())
 }
 
+/// The limit at which a search stopped, how many nodes it has grown, and the best point.
+struct Stop {
+    what: BudgetWhat,
+    nodes: u32,
+    best: Option<Point>,
+}
+
+/// The stop of a search.
+fn stopped_search(alloc: Global, model: &IntModel, nodes: u32, depth: u32) -> Result<Stop, Fail> {
+    match outcome(alloc, model, nodes, depth)? {
+        Outcome::Budget { what, grown, best } => Ok(Stop {
+            what,
+            nodes: open_nodes(&grown),
+            best,
+        }),
+        Outcome::Best {
+            proof: _proof,
+            reasons: _reasons,
+        } => Err("the search stops".into()),
+        Outcome::Empty {
+            proof: _proof,
+            reasons: _reasons,
+        } => Err("the search stops".into()),
+    }
+}
+
 #[test]
-fn stops(rt: HostRuntime) -> Result<(), Fail> {
+fn stops_at_limits(rt: HostRuntime) -> Result<(), Fail> {
     let alloc = rt.alloc();
     let model = odd(alloc, 1000)?;
     for (limit, depth, what, nodes) in [
@@ -200,14 +239,14 @@ fn stops(rt: HostRuntime) -> Result<(), Fail> {
         (1, 0, BudgetWhat::Depth, 1),
         (50, 3, BudgetWhat::Depth, 7),
     ] {
-        match outcome(alloc, &model, limit, depth)? {
-            Outcome::Budget { what: stopped, grown, best } => {
-                assert_eq!(rt; stopped, what, "at {limit} and {depth}");
-                assert_eq!(rt; open_nodes(&grown), nodes, "at {limit} and {depth}");
-                assert!(rt; best.is_none(), "at {limit} and {depth}");
-            }
-            _ => assert!(rt; false, "the search stops at {limit} and {depth}"),
-        }
+        let Stop {
+            what: stopped,
+            nodes: grown,
+            best,
+        } = stopped_search(alloc, &model, limit, depth)?;
+        assert_eq!(rt; stopped, what, "at {limit} and {depth}");
+        assert_eq!(rt; grown, nodes, "at {limit} and {depth}");
+        assert!(rt; best.is_none(), "at {limit} and {depth}");
     }
     Ok(())
 }
@@ -217,13 +256,12 @@ fn stops(rt: HostRuntime) -> Result<(), Fail> {
 fn best_of_a_stop(rt: HostRuntime) -> Result<(), Fail> {
     let alloc = rt.alloc();
     let model = half(alloc)?;
-    match outcome(alloc, &model, 10, 800)? {
-        Outcome::Budget { what, grown, best: Some(point) } => {
-            assert_eq!(rt; what, BudgetWhat::Nodes);
-            assert_eq!(rt; open_nodes(&grown), 9);
-            assert_eq!(rt; point.as_slice(), [1].as_slice());
-        }
-        _ => assert!(rt; false, "the search stops with a point"),
+    let Stop { what, nodes, best } = stopped_search(alloc, &model, 10, 800)?;
+    assert_eq!(rt; what, BudgetWhat::Nodes);
+    assert_eq!(rt; nodes, 9);
+    match best {
+        Some(point) => assert_eq!(rt; point.as_slice(), [1].as_slice()),
+        None => assert!(rt; false, "a point was found"),
     }
     Ok(())
 }

@@ -1,7 +1,3 @@
-use Rattle.std.proofs.Common.{◌≡◌, ◌∙◌, length, subst, arith}
-use Rattle.std.proofs.lemmas.Int.{ints}
-use Rattle.ip_defs.proofs.BoxLaws.{box_within}
-use Rattle.ip_defs.specs.Program.{box_of}
 use Rattle.branching.proofs.LeafLaws.{whole_area}
 use Rattle.branching.proofs.boxes.box_of.Goals as goal
 

@@ -1,5 +1,4 @@
-use Rattle.std.proofs.Common.{◌≡◌, ◌∙◌, ap, sym, subst}
-use Rattle.std.specs.Prelude.{Some}
+use Rattle.std.proofs.Common.{◌≡◌, ◌∙◌, sym, subst}
 use Rattle.branching.specs.Search.{BreaksRow}
 use Rattle.branching.proofs.RowLaws.{breach_in}
 use Rattle.branching.proofs.ends.broken_row.Goals as goal

@@ -1,8 +1,8 @@
-use Rattle.std.proofs.Common.{rules, ◌≡◌, ◌∙◌, ◌<◌, ap, sym, arith}
+use Rattle.std.proofs.Common.{◌∙◌, ap, sym, arith}
 use Rattle.std.specs.Prelude.{pos, negsuc}
 use Rattle.std.proofs.lemmas.Int.{ints}
 use Rattle.ip_defs.specs.Certificates.{leaf_bound}
-use Rattle.branching.specs.Search.{lowest, ray_on}
+use Rattle.branching.specs.Search.{lowest}
 use Rattle.branching.proofs.RowLaws.{other_ray, ray_cert, broken_within}
 use Rattle.branching.proofs.ends.ray_of.Goals as goal
 

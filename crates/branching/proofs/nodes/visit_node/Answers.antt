@@ -1,4 +1,4 @@
-use Rattle.std.proofs.Common.{◌≡◌, ◌∙◌, ap, sym}
+use Rattle.std.proofs.Common.{◌∙◌, ap}
 use Rattle.ip_defs.specs.Certificates.{leaf_bound}
 use Rattle.branching.proofs.LeafLaws.{not_closed}
 use Rattle.branching.proofs.nodes.visit_node.Goals as goal

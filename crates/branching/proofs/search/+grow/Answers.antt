@@ -1,11 +1,9 @@
-use Rattle.std.proofs.Common.{rules, arith, ◌≡◌, ◌∙◌, ◌<◌, ◌≤◌, ◌+◌, ◌-◌, ap, sym, subst, to_z, of_z, length, None}
+use Rattle.std.proofs.Common.{rules, arith, ◌≡◌, ◌∙◌, ◌<◌, ◌+◌, ◌-◌, sym, to_z, of_z}
 use Rattle.std.specs.Int.{w64}
-use Rattle.std.proofs.lemmas.Int.{ints}
 use Rattle.ip_defs.specs.Boxes.{below, above}
-use Rattle.ip_defs.specs.Program.{low_at, high_at}
 use Rattle.proof_tree.proofs.WalkLaws.{put_back}
 use Rattle.branching.specs.declared.nodes.Visit.TheVariants.{Open}
-use Rattle.branching.specs.Search.{IsGrown, IsSplit, IsSearchArea, IsVisited}
+use Rattle.branching.specs.Search.{IsVisited}
 use Rattle.branching.specs.OpenTrees.{plain_open}
 use Rattle.branching.proofs.SearchLaws.{below_search, above_search, grown_from, halves_grown, first_grown, no_stop}
 use Rattle.branching.proofs.search.+grow.Goals as goal

@@ -1,4 +1,3 @@
-use Rattle.std.proofs.Common.{◌≡◌, ◌∙◌, ap, sym}
 use Rattle.std.proofs.lemmas.Result.{IfOk-weaker}
 use Rattle.branching.specs.Outcomes.{IsRightOutcome}
 use Rattle.branching.specs.OpenTrees.{plain_open}

@@ -1,6 +1,7 @@
 pub mod OutcomeExamples
 pub mod OutcomeLaws
 pub mod BoxSizeLaws
+pub mod CountLaws
 pub mod TreeSizeLaws
 pub mod EndLaws
 pub mod FinishLaws

@@ -3,3 +3,4 @@ pub mod Splits
 pub mod Outcomes
 pub mod Sizes
 pub mod Search
+pub mod Counts

@@ -3,6 +3,7 @@
 
 mod boxes;
 mod budgets;
+mod counts;
 mod ends;
 mod finish;
 mod laws;
@@ -15,6 +16,7 @@ mod search;
 mod tests;
 
 pub use budgets::{BudgetWhat, Limits};
+pub use counts::{node_count, skipped_count};
 pub use laws::{outcomes_are_true, searches_end, trees_are_small};
 pub use open_trees::OpenTree;
 pub use outcomes::Outcome;

@@ -3,6 +3,7 @@ ghost use Rattle.ip_defs.specs.Program.{box_of as box_of_parts};
 ghost use Rattle.ip_defs.specs.Limits.{IsWithinLimits};
 ghost use Rattle.ip_model.specs.Sizes.{allowance};
 ghost use Rattle.leaf_cert.specs.Room.{FitsScratch};
+ghost use Rattle.branching.specs.Counts.{AreCountsWithin};
 ghost use Rattle.branching.specs.OpenTrees.{IsDone, parted, plain_open};
 ghost use Rattle.branching.specs.Outcomes.{IsRightOutcome, IsTrueOutcome};
 ghost use Rattle.branching.specs.Search.{IsAnswerOf, IsGrown, IsSearchArea, IsSound};
@@ -165,6 +166,7 @@ pub fn solve(alloc: Global, model: &IntModel, limits: Limits) -> Result<Outcome,
     ensures right { IfOk result (IsRightOutcome model.now limits) }
     ensures holds { IfOk result (IsTrueOutcome model.now) }
     ensures ends { IfOk result (λ o. AreAmple model.now limits → IsAnswer o) }
+    ensures counts { IfOk result (AreCountsWithin limits) }
 {
     search_box(alloc, model, limits)
 }

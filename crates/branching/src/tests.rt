@@ -1,6 +1,6 @@
 //! The outcomes of small models, with ample limits and with limits that stop the search.
 
-use crate::{BudgetWhat, Claim, Limits, OpenTree, Outcome, Point, Proof, Tree, solve};
+use crate::{BudgetWhat, Claim, Limits, Outcome, Point, Proof, node_count, skipped_count, solve};
 use ip_defs::{Bound, Coefs, Column, ColumnList, Memory, Name, Parts, Row, RowList};
 use ip_model::{IntModel, allowance, make, well_shaped};
 use leaf_cert::scratch;
@@ -97,30 +97,27 @@ fn negative_sum(alloc: Global) -> Result<IntModel, Fail> {
     model(alloc, columns, rows)
 }
 
-fn tree_nodes(tree: &Tree) -> u32 {
-    match tree {
-        Tree::Leaf(_) => 1,
-        Tree::Split { left, right, .. } => tree_nodes(left)
-            .saturating_add(tree_nodes(right))
-            .saturating_add(1),
-    }
-}
-
-fn open_nodes(tree: &OpenTree) -> u32 {
-    match tree {
-        OpenTree::Split { left, right, .. } => open_nodes(left)
-            .saturating_add(open_nodes(right))
-            .saturating_add(1),
-        _ => 1,
-    }
+/// An outcome with how many nodes and skipped splits its tree has.
+#[derive(Drop)]
+struct Counted {
+    outcome: Outcome,
+    nodes: u32,
+    skipped: u32,
 }
 
 /// The outcome of a search, where the limits are allowed.
-fn outcome(alloc: Global, model: &IntModel, nodes: u32, depth: u32) -> Result<Outcome, Fail> {
+fn search(alloc: Global, model: &IntModel, nodes: u32, depth: u32) -> Result<Counted, Fail> {
     if nodes < 1 || nodes > allowance(model, 1_000_000) || depth > 800 {
         return Err("the limits are allowed".into());
     }
-    Ok(solve(alloc, model, Limits { nodes, depth })?)
+    let outcome = solve(alloc, model, Limits { nodes, depth })?;
+    let nodes = node_count(&outcome);
+    let skipped = skipped_count(&outcome);
+    Ok(Counted {
+        outcome,
+        nodes,
+        skipped,
+    })
 }
 
 /// The bound of the tree of a proof that is within the limits and fits.
@@ -136,29 +133,35 @@ fn proved_bound(alloc: Global, model: &IntModel, proof: &Proof) -> Result<Bound,
     Ok(tree_bound(alloc, model, &proof.tree, &mut scratch))
 }
 
-/// A proof with the bound of its tree, how many nodes it has, and how many reasons came with it.
+/// A claim with the bound of its tree, how many nodes and skipped splits that has, and how many reasons came with it.
 #[derive(Drop)]
 struct Checked {
     claim: Claim,
     bound: Bound,
     nodes: u32,
+    skipped: u32,
     reasons: usize,
 }
 
 /// The proof of a search with ample limits, checked.
 fn check_search(alloc: Global, model: &IntModel) -> Result<Checked, Fail> {
-    let (proof, reasons) = match outcome(alloc, model, 100_000, 800)? {
+    let Counted {
+        outcome,
+        nodes,
+        skipped,
+    } = search(alloc, model, 100_000, 800)?;
+    let (proof, reasons) = match outcome {
         Outcome::Best { proof, reasons } => (proof, reasons),
         Outcome::Empty { proof, reasons } => (proof, reasons),
         Outcome::Budget { .. } => return Err("the search ends".into()),
     };
     let bound = proved_bound(alloc, model, &proof)?;
-    let nodes = tree_nodes(&proof.tree);
     let Proof { claim, tree: _ } = proof;
     Ok(Checked {
         claim,
         bound,
         nodes,
+        skipped,
         reasons: reasons.as_slice().len(),
     })
 }
@@ -166,16 +169,17 @@ fn check_search(alloc: Global, model: &IntModel) -> Result<Checked, Fail> {
 #[test]
 fn least_points(rt: HostRuntime) -> Result<(), Fail> {
     let alloc = rt.alloc();
-    let table: [(IntModel, &[i64], i128, u32, usize); 3] = [
+    let table: [(IntModel, &[i64], i128, u32, u32); 3] = [
         (half(alloc)?, &[1], -1, 11, 5),
         (no_rows(alloc)?, &[0, 4], -4, 21, 10),
         (three_rows(alloc)?, &[2, 0, 1], -13, 2657, 1328),
     ];
-    for (model, point, value, nodes, reasons) in table {
+    for (model, point, value, nodes, skipped) in table {
         let got = check_search(alloc, &model)?;
         assert_eq!(rt; got.bound, Bound::At(value));
         assert_eq!(rt; got.nodes, nodes, "at {value}");
-        assert_eq!(rt; got.reasons, reasons, "at {value}");
+        assert_eq!(rt; got.skipped, skipped, "at {value}");
+        assert_eq!(rt; got.reasons, skipped as usize, "at {value}");
         match got.claim {
             Claim::Best(found) => assert_eq!(rt; found.as_slice(), point, "at {value}"),
             Claim::Empty => assert!(rt; false, "a point is claimed at {value}"),
@@ -187,34 +191,46 @@ fn least_points(rt: HostRuntime) -> Result<(), Fail> {
 #[test]
 fn no_points(rt: HostRuntime) -> Result<(), Fail> {
     let alloc = rt.alloc();
-    let table: [(IntModel, u32, usize); 3] = [
+    let table: [(IntModel, u32, u32); 3] = [
         (odd(alloc, 1)?, 7, 3),
         (empty_column(alloc)?, 1, 0),
         (negative_sum(alloc)?, 7, 3),
     ];
-    for (model, nodes, reasons) in table {
+    for (model, nodes, skipped) in table {
         let got = check_search(alloc, &model)?;
         assert_eq!(rt; got.bound, Bound::Infinite);
         assert_eq!(rt; got.nodes, nodes);
-        assert_eq!(rt; got.reasons, reasons);
+        assert_eq!(rt; got.skipped, skipped);
+        assert_eq!(rt; got.reasons, skipped as usize);
         assert!(rt; matches!(&got.claim, Claim::Empty), "no point is claimed");
     }
     Ok(())
 }
 
-/// The limit at which a search stopped, how many nodes it has grown, and the best point.
+/// The limit at which a search stopped, how many nodes and skipped splits it has grown, and the best point.
 struct Stop {
     what: BudgetWhat,
     nodes: u32,
+    skipped: u32,
     best: Option<Point>,
 }
 
 /// The stop of a search.
 fn stopped_search(alloc: Global, model: &IntModel, nodes: u32, depth: u32) -> Result<Stop, Fail> {
-    match outcome(alloc, model, nodes, depth)? {
-        Outcome::Budget { what, grown, best } => Ok(Stop {
+    let Counted {
+        outcome,
+        nodes,
+        skipped,
+    } = search(alloc, model, nodes, depth)?;
+    match outcome {
+        Outcome::Budget {
             what,
-            nodes: open_nodes(&grown),
+            grown: _grown,
+            best,
+        } => Ok(Stop {
+            what,
+            nodes,
+            skipped,
             best,
         }),
         Outcome::Best {
@@ -232,20 +248,22 @@ fn stopped_search(alloc: Global, model: &IntModel, nodes: u32, depth: u32) -> Re
 fn stops_at_limits(rt: HostRuntime) -> Result<(), Fail> {
     let alloc = rt.alloc();
     let model = odd(alloc, 1000)?;
-    for (limit, depth, what, nodes) in [
-        (50, 800, BudgetWhat::Nodes, 49),
-        (1, 800, BudgetWhat::Nodes, 1),
-        (50, 0, BudgetWhat::Depth, 1),
-        (1, 0, BudgetWhat::Depth, 1),
-        (50, 3, BudgetWhat::Depth, 7),
+    for (limit, depth, what, nodes, splits) in [
+        (50, 800, BudgetWhat::Nodes, 49, 24),
+        (1, 800, BudgetWhat::Nodes, 1, 0),
+        (50, 0, BudgetWhat::Depth, 1, 0),
+        (1, 0, BudgetWhat::Depth, 1, 0),
+        (50, 3, BudgetWhat::Depth, 7, 3),
     ] {
         let Stop {
             what: stopped,
             nodes: grown,
+            skipped,
             best,
         } = stopped_search(alloc, &model, limit, depth)?;
         assert_eq!(rt; stopped, what, "at {limit} and {depth}");
         assert_eq!(rt; grown, nodes, "at {limit} and {depth}");
+        assert_eq!(rt; skipped, splits, "at {limit} and {depth}");
         assert!(rt; best.is_none(), "at {limit} and {depth}");
     }
     Ok(())
@@ -256,9 +274,15 @@ fn stops_at_limits(rt: HostRuntime) -> Result<(), Fail> {
 fn best_of_a_stop(rt: HostRuntime) -> Result<(), Fail> {
     let alloc = rt.alloc();
     let model = half(alloc)?;
-    let Stop { what, nodes, best } = stopped_search(alloc, &model, 10, 800)?;
+    let Stop {
+        what,
+        nodes,
+        skipped,
+        best,
+    } = stopped_search(alloc, &model, 10, 800)?;
     assert_eq!(rt; what, BudgetWhat::Nodes);
     assert_eq!(rt; nodes, 9);
+    assert_eq!(rt; skipped, 4);
     match best {
         Some(point) => assert_eq!(rt; point.as_slice(), [1].as_slice()),
         None => assert!(rt; false, "a point was found"),

@@ -2,7 +2,6 @@
 use Rattle.std.specs.Prelude.{◌≡◌, ℕ, List, take, length, nat_lt, Option, None, Some, codes, ℤ, Result, Ok, Err}
 use Rattle.std.specs.Option.{MatchOption, ForSome}
 use Rattle.std.specs.Bool.{MatchBool}
-use Rattle.ip_defs.specs.Program.{IsLeast, IsEmpty}
 use Rattle.ip_defs.specs.Faults.{IsFirst, mps_fault, model_of}
 use Rattle.ip_defs.specs.Texts.{canonical_text, is_printable, refusal_text, refused_model}
 use Rattle.ip_defs.specs.Words.{Word, request_of, usage_text}
@@ -33,24 +32,10 @@ refuses_model why = says Refused (refused_model why)
 abbrev pub longest_model : ℕ
 longest_model = 16777216
 
--- ---- the answers that the commands owe to a model file of at most that length
-
--- a least point, or none where no point is feasible
-abbrev pub Solves : Parts → Option (List ℤ) → Type 0
-Solves m (Some x) = IsLeast m x
-Solves m None = IsEmpty m
-
 -- how a request asks its model to be read
 abbrev pub how_of : Request → How
 how_of (Solve model tree nodes depth pivots digits box_side) = record { digits = digits; box_side = box_side }
 how_of (Show model digits box_side) = record { digits = digits; box_side = box_side }
-
--- `show`: the first refusal of the text, or that its model has no canonical text, or that text
-abbrev pub IsShowAnswer : How → List ℕ → Answer → Type 0
-IsShowAnswer how bytes a =
-    MatchOption (mps_fault bytes how)
-    (MatchBool (is_printable (model_of bytes how)) (a ≡ says Answered (canonical_text (model_of bytes how))) (a ≡ refuses_model (codes "unprintable")))
-    (λ e. a ≡ refuses_model (refusal_text e))
 
 -- ---- the run relation, over what is owed to the model file
 

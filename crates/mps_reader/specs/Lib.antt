@@ -1,1 +1,3 @@
+pub mod Clamps
+pub mod Drafted
 pub mod Progress

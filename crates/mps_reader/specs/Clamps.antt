@@ -24,3 +24,6 @@ clamped_row r = record { name = r.name; decimals = r.decimals; coefs = clamped_c
 
 abbrev pub clamped_parts : Parts → Parts
 clamped_parts m = record { objective = m.objective; cost_decimals = m.cost_decimals; constant = clamped m.constant; columns = map clamped_column m.columns; rows = map clamped_row m.rows }
+
+abbrev pub clamped_sides : Option ℤ × Option ℤ → Option ℤ × Option ℤ
+clamped_sides s = (option_map clamped s.0, option_map clamped s.1)

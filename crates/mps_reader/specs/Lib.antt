@@ -1,3 +1,5 @@
+pub mod Below
 pub mod Clamps
 pub mod Drafted
+pub mod How
 pub mod Progress

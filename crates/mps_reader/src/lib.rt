@@ -8,5 +8,6 @@ mod fields;
 mod lines;
 mod row_list;
 mod sections;
+mod whole;
 
 pub use ip_defs::{How, MpsError, Side};

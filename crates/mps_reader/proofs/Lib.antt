@@ -1,3 +1,4 @@
+pub mod ClampLaws
 pub mod FaultLaws
 pub mod FieldLaws
 pub mod FinishLaws

@@ -3,4 +3,5 @@ pub mod FaultLaws
 pub mod FieldLaws
 pub mod FinishLaws
 pub mod GrowthLaws
+pub mod ModelLaws
 pub mod StayLaws

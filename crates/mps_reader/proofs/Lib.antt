@@ -1,3 +1,4 @@
 pub mod FieldLaws
 pub mod GrowthLaws
+pub mod SectionLaws
 pub mod StayLaws

@@ -150,19 +150,19 @@ opening_stands before n fields word s d new word_is come more rows columns sets 
 
 -- ---- the order of the sections of lines without a fault
 
+pub no_left : {A : Type 0} (xs ys : List A) → xs ++ ys ≡ [] → xs ≡ []
+no_left [] ys h = refl
+no_left (x ∷ xs) ys h = absurd (cc h)
+
+pub no_right : {A : Type 0} (xs ys : List A) → xs ++ ys ≡ [] → ys ≡ []
+no_right [] ys h = h
+no_right (x ∷ xs) ys h = absurd (cc h)
+
 pub in_order : (ls : List Line) → all_line_faults ls ≡ [] → AreInOrder (words_of ls)
 in_order ls none = by_last (λ ks. all_line_faults ks ≡ [] → AreInOrder (words_of ks)) (λ e last later is h. absurd (none_is is)) more ls none
   where
     none_is : {last : List ℕ} → None ≡ Some last → ⊥
     none_is e = cc e
-
-    no_left : {A : Type 0} (xs ys : List A) → xs ++ ys ≡ [] → xs ≡ []
-    no_left [] ys h = refl
-    no_left (x ∷ xs) ys h = absurd (cc h)
-
-    no_right : {A : Type 0} (xs ys : List A) → xs ++ ys ≡ [] → ys ≡ []
-    no_right [] ys h = h
-    no_right (x ∷ xs) ys h = absurd (cc h)
 
     may : (before : List Line) (l : Line) (t : Bool) → when (not t) (SectionOrder l.number) ≡ [] → t ≡ true
     may before l true h = refl
@@ -179,3 +179,7 @@ in_order ls none = by_last (λ ks. all_line_faults ks ≡ [] → AreInOrder (wor
     more before l h e =
         let both = sym (faults-add before l) ∙ e in
         by before l l.is_item refl (no_right (all_line_faults before) (line_faults before l) both) (h (no_left (all_line_faults before) (line_faults before l) both))
+
+-- a section later than the last one has no line
+pub later_is_empty : (ls : List Line) (d : Draft) (last later : List ℕ) → Stands ls d → last_of (words_of ls) ≡ Some last → is_before last later ≡ true → items_of later ls ≡ []
+later_is_empty ls d last later h is after = h.sections.items later (in_order ls h.no_fault last later is after)

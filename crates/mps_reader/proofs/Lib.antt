@@ -4,4 +4,7 @@ pub mod FieldLaws
 pub mod FinishLaws
 pub mod GrowthLaws
 pub mod ModelLaws
+pub mod PlaceLaws
+pub mod RowLaws
+pub mod SectionLaws
 pub mod StayLaws

@@ -4,7 +4,7 @@ use Rattle.std.proofs.Common.{refl, ap, sym, ◌∙◌, subst}
 use Rattle.ip_defs.specs.Lists.{first_of}
 use Rattle.ip_defs.specs.declared.texts.MpsError.{MpsError}
 use Rattle.ip_defs.specs.declared.texts.MpsError.TheVariants as Out
-use Rattle.mps_reader.specs.Drafted.{IsFirst, column_faults}
+use Rattle.mps_reader.specs.Drafted.{AnswersFaults, IsFirst, column_faults}
 use Rattle.mps_reader.specs.declared.draft.ColumnDraft.{ColumnDraft}
 
 -- where there is no fault, an error is want of memory
@@ -46,3 +46,8 @@ first_later (x ∷ xs) rest e = absurd cc
 pub faults_at : (f : List ℕ → ColumnDraft → List MpsError) (names others : List (List ℕ)) (cs later : List ColumnDraft) (name : List ℕ) (c : ColumnDraft)
     → names ≡ name ∷ others → cs ≡ c ∷ later → column_faults f names cs ≡ f name c ++ column_faults f others later
 faults_at f names others cs later name c named is = ap (λ ns. column_faults f ns cs) named ∙ ap (column_faults f (name ∷ others)) is
+
+-- an answer to the faults after a list without one
+pub answers_later : (here rest : List MpsError) (r : Result (Unit {0}) MpsError) → first_of here ≡ None → AnswersFaults rest r → AnswersFaults (here ++ rest) r
+answers_later here rest (Ok done) none h = first_later here rest none ∙ h
+answers_later here rest (Err e) none h = subst (λ o. IsFirst o e) (sym (first_later here rest none)) h

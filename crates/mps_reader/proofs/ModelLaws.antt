@@ -3,7 +3,8 @@ use Rattle.std.specs.Prelude.{◌≡◌, ◌≢◌, ℕ, zero, suc, ◌+◌, ◌
 use Rattle.std.specs.List.{enumerate_from, cons_option, list_any}
 use Rattle.std.specs.Option.{option_map_or, is_none}
 use Rattle.std.proofs.Common.{refl, arith, ap, sym, ◌∙◌, subst}
-use Rattle.std.proofs.lemmas.Bool.{ne_eqb, eqb-refl}
+use Rattle.std.proofs.lemmas.Bool.{ne_eqb, eqb-false}
+use Rattle.mps_reader.proofs.PlaceLaws.{position_cons}
 use Rattle.ip_defs.specs.Lists.{first_of, when}
 use Rattle.ip_defs.specs.Records.{Line, Entry, row_lines, row_kind, row_name, is_free, objective, column_names, kept_entries}
 use Rattle.ip_defs.specs.TextModels.{units, no_number, number_at, written_at, written_in, written_for, largest, decimals_in, row_decimals, row_sides, coefs_in, row_from, column_from, model_from, lower_by, upper_by, lower_entry, upper_entry, lower_side, upper_side, box_low, box_high}
@@ -20,6 +21,13 @@ use Rattle.mps_reader.specs.declared.draft.Draft.{Draft}
 use Rattle.mps_reader.specs.Progress.{kind_word, Stands, RowStands, ColumnStands, upper_said}
 use Rattle.mps_reader.specs.Drafted.{is_free_kind, drafted_decimals, drafted_coefs, drafted_row, drafted_rows, cost_head, cost_rest, drafted_lower, drafted_upper, drafted_column, drafted_columns, drafted_model, row_names}
 use Rattle.mps_reader.proofs.GrowthLaws.{placed}
+
+eqb_same : (n : ℕ) → (n == n) ≡ true
+eqb_same n = by (n == n) refl
+  where
+    by : (t : Bool) → (n == n) ≡ t → (n == n) ≡ true
+    by true e = e
+    by false e = absurd (eqb-false n n e refl)
 
 -- ---- rows
 
@@ -77,7 +85,7 @@ rows_are ls how (k ∷ ks) (r ∷ rs) kinds s =
 head_later : (es : List Entry) (row : List ℕ) (j n : ℕ) (names : List (List ℕ)) → j < n
     → (cost_head j (filter_map (placed es row) (enumerate_from n names)) ≡ None) × (cost_rest j (filter_map (placed es row) (enumerate_from n names)) ≡ filter_map (placed es row) (enumerate_from n names))
 head_later es row j n [] l = (refl, refl)
-head_later es row j n (name ∷ names) l = by (written_at es row name)
+head_later es row j n (name ∷ names) l = by (written_at es row name) (head_later es row j (n + 1) names (omega arith))
   where
     rest : List (ℕ × Number)
     rest = filter_map (placed es row) (enumerate_from (n + 1) names)
@@ -85,9 +93,9 @@ head_later es row j n (name ∷ names) l = by (written_at es row name)
     apart : (n == j) ≡ false
     apart = ne_eqb n j (λ e. omega arith)
 
-    by : (o : Option Number) → (cost_head j (cons_option (option_map (λ x. (n, x)) o) rest) ≡ None) × (cost_rest j (cons_option (option_map (λ x. (n, x)) o) rest) ≡ cons_option (option_map (λ x. (n, x)) o) rest)
-    by None = head_later es row j (n + 1) names (omega arith)
-    by (Some x) = (ap (λ t. if t then Some x else None) apart, ap (λ t. if t then rest else (n, x) ∷ rest) apart)
+    by : (o : Option Number) → (cost_head j rest ≡ None) × (cost_rest j rest ≡ rest) → (cost_head j (cons_option (option_map (λ x. (n, x)) o) rest) ≡ None) × (cost_rest j (cons_option (option_map (λ x. (n, x)) o) rest) ≡ cons_option (option_map (λ x. (n, x)) o) rest)
+    by None later = later
+    by (Some x) later = (ap (λ t. if t then Some x else None) apart, ap (λ t. if t then rest else (n, x) ∷ rest) apart)
 
 -- what is left for a column, and for those after it
 costs_at : (es : List Entry) (row : List ℕ) (j : ℕ) (name : List ℕ) (names : List (List ℕ))
@@ -98,7 +106,7 @@ costs_at es row j name names = by (written_at es row name)
     rest = filter_map (placed es row) (enumerate_from (j + 1) names)
 
     same : (j == j) ≡ true
-    same = eqb-refl j
+    same = eqb_same j
 
     by : (o : Option Number) → (cost_head j (cons_option (option_map (λ x. (j, x)) o) rest) ≡ o) × (cost_rest j (cons_option (option_map (λ x. (j, x)) o) rest) ≡ rest)
     by None = head_later es row j (j + 1) names (omega arith)
@@ -154,7 +162,7 @@ columns_are ls how row k j costs (name ∷ names) (c ∷ cs) is count s =
 -- the first that passes, by its place
 pub found_at : {A : Type 0} (t : A → Bool) (xs : List A) (i : ℕ) → position t xs ≡ Some i → (x : A) × ((find t xs ≡ Some x) × (slice_get xs i ≡ Some x))
 found_at t [] i e = absurd cc
-found_at {A} t (x ∷ xs) i e = by (t x) (found_at t xs) e
+found_at {A} t (x ∷ xs) i e = by (t x) (found_at t xs) (sym (position_cons t x xs) ∙ e)
   where
     by : (b : Bool) → ((k : ℕ) → position t xs ≡ Some k → (y : A) × ((find t xs ≡ Some y) × (slice_get xs k ≡ Some y)))
         → (if b then Some 0 else option_map suc (position t xs)) ≡ Some i → (y : A) × ((cond b (Some x) (find t xs) ≡ Some y) × (slice_get (x ∷ xs) i ≡ Some y))

@@ -7,6 +7,7 @@ mod column_list;
 mod columns;
 mod draft;
 mod fields;
+mod finish;
 mod lines;
 mod reader;
 mod right_sides;

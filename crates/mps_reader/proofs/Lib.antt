@@ -3,6 +3,7 @@ pub mod FaultLaws
 pub mod FieldLaws
 pub mod FinishLaws
 pub mod GrowthLaws
+pub mod LimitedLaws
 pub mod ModelLaws
 pub mod PlaceLaws
 pub mod RowLaws

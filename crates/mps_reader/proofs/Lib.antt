@@ -1,4 +1,5 @@
 pub mod ClampLaws
+pub mod EntryLaws
 pub mod FaultLaws
 pub mod FieldLaws
 pub mod FinishLaws

@@ -10,3 +10,4 @@ pub mod PlaceLaws
 pub mod RowLaws
 pub mod SectionLaws
 pub mod StayLaws
+pub mod WholeLaws

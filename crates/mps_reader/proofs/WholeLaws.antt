@@ -15,7 +15,7 @@ use Rattle.ip_defs.specs.declared.texts.Number.{Number}
 use Rattle.ip_defs.specs.declared.texts.How.{How}
 use Rattle.ip_defs.specs.declared.texts.Side.TheVariants.{Lower, Upper}
 use Rattle.ip_defs.specs.declared.texts.MpsError.{MpsError}
-use Rattle.ip_defs.specs.declared.texts.MpsError.TheVariants.{Continuous, NoBound, NegativeUpper, NoObjective, NoEnd}
+use Rattle.ip_defs.specs.declared.texts.MpsError.TheVariants.{Continuous, NoBound, NegativeUpper, NoObjective, NoEnd, Limit}
 use Rattle.ip_defs.specs.declared.programs.Parts.{Parts}
 use Rattle.ip_defs.specs.declared.programs.Row.{Row}
 use Rattle.ip_defs.specs.declared.programs.Column.{Column}
@@ -31,11 +31,11 @@ use Rattle.mps_reader.specs.Below.{AreBelowLarge, AreWithin, IsRowBelow, AreRows
 use Rattle.mps_reader.specs.Clamps.{clamped_coefs, clamped_row, clamped_column, clamped_parts}
 use Rattle.mps_reader.specs.Drafted.{IsFirst, asked, column_faults, continuous_fault, missing_sides, negative_fault, is_negative_bound, is_end, is_free_kind, drafted_coefs, drafted_row, drafted_rows, drafted_columns, drafted_decimals, drafted_lower, drafted_upper, drafted_model, drafted_column_faults, row_names}
 use Rattle.mps_reader.specs.Drafted.{column_names as drafted_names}
-use Rattle.mps_reader.specs.Finished.{HasCounts, IsDrafted, IsFinished}
+use Rattle.mps_reader.specs.Finished.{HasCounts, IsDrafted, IsFinished, IsLimited}
 use Rattle.mps_reader.specs.How.{IsHow}
 use Rattle.mps_reader.specs.Progress.{Stands, ColumnStands, section_word, kind_word, upper_said}
 use Rattle.mps_reader.proofs.EntryLaws.{entries_below, entries_within, written_for_below, coefs_ordered}
-use Rattle.mps_reader.proofs.FaultLaws.{first_is}
+use Rattle.mps_reader.proofs.FaultLaws.{first_later}
 use Rattle.mps_reader.proofs.FinishLaws.{mapped_count}
 use Rattle.mps_reader.proofs.LimitedLaws.{count_columns}
 use Rattle.mps_reader.proofs.ModelLaws.{rows_are, columns_are, sides_are, decimals_are, found_at}
@@ -277,3 +277,31 @@ finished_is ls d how name r o result s e aim named at h = by result h
     by : (answer : Result Parts MpsError) → IsDrafted d how name r answer → IsFinished ls how answer
     by (Ok m) g = (ap first_of same ∙ g.0, g.1 ∙ model)
     by (Err x) g = subst (λ q. IsFirst q x) (sym (ap first_of same)) g
+
+element_at : {A : Type 0} (xs : List A) (k : ℕ) → k < length xs → (x : A) × (slice_get xs k ≡ Some x)
+element_at [] k l = absurd (omega arith)
+element_at (x ∷ xs) zero l = (x, refl)
+element_at (x ∷ xs) (suc k) l = element_at xs k (omega arith)
+
+-- the objective is a row with a name
+pub objective_there : (ls : List Line) (d : Draft) (o : ℕ) → Stands ls d → d.rows.objective ≡ Some o
+    → (name : List ℕ) × (r : RowDraft) × (slice_get (row_names d) o ≡ Some name) × (slice_get d.rows.rows.items o ≡ Some r)
+objective_there ls d o s e =
+    let found = objective_at ls d o s e in
+    let named : slice_get (row_names d) o ≡ Some (row_name found.0) = ap (λ ns. slice_get ns o) s.rows.names ∙ slice_get-map row_name (row_lines ls) o ∙ ap (option_map row_name) found.1.1 in
+    let inside = slice_get_within (row_lines ls) o found.0 found.1.1 in
+    let count = row_count ls d s in
+    let names = mapped_count row_name (row_lines ls) in
+    let row = element_at d.rows.rows.items o (omega arith) in
+    (row_name found.0, row.0, named, row.1)
+
+-- the objective, as the model of a draft wants it
+pub objective_shaped : (ls : List Line) (d : Draft) (how : How) (o : ℕ) → Stands ls d → how.digits ≤ 9 → d.rows.objective ≡ Some o
+    → (name : List ℕ) × (r : RowDraft) × (slice_get (row_names d) o ≡ Some name) × (slice_get d.rows.rows.items o ≡ Some r) × IsWellShaped (clamped_parts (drafted_model d how name r))
+objective_shaped ls d how o s digits e = let t = objective_there ls d o s e in (t.0, t.1, t.2, t.3, model_shaped ls d how t.0 t.1 o s digits t.2 t.3)
+
+-- columns without a fault: what the limits answer is the answer
+pub drafted_is : (d : Draft) (how : How) (name : List ℕ) (r : RowDraft) (result : Result Parts MpsError) → first_of (drafted_column_faults d how) ≡ None → IsLimited (drafted_model d how name r) result → IsDrafted d how name r result
+drafted_is d how name r (Ok m) none h =
+    (first_later (drafted_column_faults d how) (limit_faults (drafted_model d how name r)) none ∙ ap (λ l. first_of (map Limit l)) h.0, h.1)
+drafted_is d how name r (Err e) none h = subst (λ o. IsFirst o e) (sym (first_later (drafted_column_faults d how) (limit_faults (drafted_model d how name r)) none)) h

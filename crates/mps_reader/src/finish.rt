@@ -134,3 +134,33 @@ fn model_within(alloc: Global, draft: &Draft, objective: usize, how: How) -> Res
         Err(_) => Err(MpsError::Memory),
     }
 }
+
+/// The model of a draft with its objective, or the first fault of its columns and limits.
+fn model_with(alloc: Global, draft: &Draft, objective: usize, how: How) -> Result<IntModel, MpsError>
+    requires how { IsHow how }
+    requires counts { HasCounts draft.now }
+    requires below { length draft.now.columns.columns.items ≤ 4096 → AreRowsBelow draft.now.rows.rows.items }
+    requires objective { objective < length draft.now.rows.rows.items }
+    requires shaped { (name : List ℕ) × (r : RowDraft) × (slice_get (row_names draft.now) objective ≡ Some name) × (slice_get draft.now.rows.rows.items objective ≡ Some r) × IsWellShaped (clamped_parts (drafted_model draft.now how name r)) }
+    ensures { (name : List ℕ) (r : RowDraft) → slice_get (row_names draft.now) objective ≡ Some name → slice_get draft.now.rows.rows.items objective ≡ Some r → IsDrafted draft.now how name r result }
+{
+    match check_draft(alloc, draft, how) {
+        Ok(()) => model_within(alloc, draft, objective, how),
+        Err(error) => Err(error),
+    }
+}
+
+/// The model of a draft of all lines, or the first fault of the whole: no ENDATA, no objective, then the columns, then the limits.
+pub fn model_of(alloc: Global, draft: &Draft, how: How) -> Result<IntModel, MpsError>
+    requires how { IsHow how }
+    requires stands { (ls : List Line) × Stands ls draft.now }
+    ensures { (ls : List Line) → Stands ls draft.now → IsFinished ls how result }
+{
+    if !has_end(draft.sections.as_slice()) {
+        return Err(MpsError::NoEnd);
+    }
+    match draft.rows.objective {
+        Some(objective) => model_with(alloc, draft, objective, how),
+        None => Err(MpsError::NoObjective),
+    }
+}

@@ -1,3 +1,8 @@
+ghost use Rattle.std.specs.Prelude.{◌≡◌, List, Some, true, codes, map};
+ghost use Rattle.ip_defs.specs.Lists.{is_among, last_of};
+ghost use Rattle.ip_defs.specs.Records.{Line, words_of};
+ghost use Rattle.mps_reader.specs.Progress.{IsTaken, Stands, item};
+
 use crate::draft::{ColumnDraft, Draft, UpperBound};
 use crate::rounding::{rounded_down, rounded_up};
 use crate::sets::keep_set;
@@ -172,7 +177,9 @@ pub fn take_bound_line(
     draft: &mut Draft,
     line: u32,
     fields: &[&str],
-) -> Result<(), MpsError> {
+) -> Result<(), MpsError>
+    ensures { (before : List Line) → Stands before draft.old → is_among (codes "ROWS") (words_of before) ≡ true → last_of (words_of before) ≡ Some (codes "BOUNDS") → IsTaken before (item (codes "BOUNDS") line (map (λ f. f.now) fields.now)) draft.new result }
+{
     let kind = match kind_in(fields) {
         Some(kind) => kind,
         None => return Err(MpsError::BoundKind { line }),

@@ -2,6 +2,7 @@ pub mod FieldLaws
 pub mod GrowthLaws
 pub mod PlaceLaws
 pub mod ReaderLaws
+pub mod RoundingLaws
 pub mod RowLaws
 pub mod SectionLaws
 pub mod StayLaws

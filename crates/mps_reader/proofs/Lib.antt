@@ -1,3 +1,4 @@
+pub mod BoundLaws
 pub mod FieldLaws
 pub mod GrowthLaws
 pub mod PlaceLaws

@@ -1,2 +1,3 @@
+pub mod BoundWords
 pub mod Progress
 pub mod Reading

@@ -1,3 +1,4 @@
+pub mod BoundLaws
 pub mod ClampLaws
 pub mod EntryLaws
 pub mod FaultLaws
@@ -7,7 +8,10 @@ pub mod GrowthLaws
 pub mod LimitedLaws
 pub mod ModelLaws
 pub mod PlaceLaws
+pub mod ReaderLaws
+pub mod RoundingLaws
 pub mod RowLaws
 pub mod SectionLaws
 pub mod StayLaws
+pub mod TextLaws
 pub mod WholeLaws

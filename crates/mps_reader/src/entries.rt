@@ -1,3 +1,12 @@
+ghost use Rattle.std.specs.Prelude.{ℕ, ◌≡◌, ◌==◌, ◌++◌, nat_lt, false, List, OnOk, map, string_bytes};
+ghost use Rattle.std.specs.Option.{option_map_or};
+ghost use Rattle.ip_defs.specs.Lists.{last_of, when};
+ghost use Rattle.ip_defs.specs.Numbers.{decimals_of as decimals_in};
+ghost use Rattle.ip_defs.specs.Records.{Line, Entry, entries_from};
+ghost use Rattle.ip_defs.specs.declared.texts.MpsError.TheVariants as Out;
+ghost use Rattle.mps_reader.specs.Progress.{RowsStand};
+ghost use Rattle.mps_reader.specs.Taking.{IsDone, IsPut, IsRead, IsEntryTaken, AreEntriesTaken, Have, Owns, counts_on, has_number, entry};
+
 use crate::draft::{RowDraft, RowKind, RowTable};
 use decimals::read_number;
 use ip_defs::{MpsError, Number};
@@ -13,7 +22,9 @@ pub enum Owner {
 }
 
 /// The decimals of a number, none of a Large one.
-fn decimals_of(number: Number) -> u32 {
+fn decimals_of(number: Number) -> u32
+    ensures { result ≡ decimals_in number }
+{
     match number {
         Number::Dec { units: _, decimals } => decimals,
         Number::Large { negative: _ } => 0,
@@ -22,7 +33,9 @@ fn decimals_of(number: Number) -> u32 {
 
 impl Owner {
     /// Whether an entry on a row counts: its set is the kept one, and its row is not a dropped one, and in RANGES not the objective.
-    fn keeps(self, is_free: bool, is_objective: bool) -> bool {
+    fn keeps(self, is_free: bool, is_objective: bool) -> bool
+        ensures { result ≡ counts_on self is_free is_objective }
+    {
         match self {
             Owner::Column(_) => !is_free || is_objective,
             Owner::RightSides(is_kept) => is_kept && (!is_free || is_objective),
@@ -33,7 +46,9 @@ impl Owner {
 
 impl RowDraft {
     /// Whether the row has a number of the last column.
-    fn has_column(&self, column: usize) -> bool {
+    fn has_column(&self, column: usize) -> bool
+        ensures { result ≡ option_map_or (λ p. p.0 == column) (last_of self.now.entries.items) false }
+    {
         match self.entries.last() {
             Some((last, _)) => *last == column,
             None => false,
@@ -41,7 +56,9 @@ impl RowDraft {
     }
 
     /// Whether the row has a number of this owner.
-    fn has(&self, owner: Owner) -> bool {
+    fn has(&self, owner: Owner) -> bool
+        ensures { result ≡ has_number owner self.now }
+    {
         match owner {
             Owner::Column(column) => self.has_column(column),
             Owner::RightSides(_) => self.right_side.is_some(),
@@ -50,7 +67,9 @@ impl RowDraft {
     }
 
     /// Writes a number of an owner.
-    fn put(&mut self, owner: Owner, number: Number) -> Result<(), AllocError> {
+    fn put(&mut self, owner: Owner, number: Number) -> Result<(), AllocError>
+        ensures { OnOk result (IsPut owner number self.old self.new) }
+    {
         match owner {
             Owner::Column(column) => self.entries.push((column, number))?,
             Owner::RightSides(_) => self.right_side = Some(number),
@@ -61,7 +80,9 @@ impl RowDraft {
     }
 
     /// Writes a number that counts.
-    fn write(&mut self, owner: Owner, line: u32, number: Number) -> Result<(), MpsError> {
+    fn write(&mut self, owner: Owner, line: u32, number: Number) -> Result<(), MpsError>
+        ensures { IsDone (when (nat_lt 9 (decimals_in number)) (Out.Digits line) ++ when (has_number owner self.old) (Out.TwiceEntry line)) (λ _. IsPut owner number self.old self.new) result }
+    {
         if decimals_of(number) > 9 {
             return Err(MpsError::Digits { line });
         }
@@ -79,7 +100,9 @@ fn read_entry(
     line: u32,
     row: &str,
     text: &str,
-) -> Result<(usize, Number), MpsError> {
+) -> Result<(usize, Number), MpsError>
+    ensures { IsRead (map string_bytes rows.now.names.keys) line row.now text.now result }
+{
     match rows.names.get_index_of(row) {
         Some(place) => {
             match read_number(text) {
@@ -99,7 +122,9 @@ pub fn take_entry(
     line: u32,
     row: &str,
     text: &str,
-) -> Result<(), MpsError> {
+) -> Result<(), MpsError>
+    ensures { (ls : List Line) (es : List Entry) (name : List ℕ) → RowsStand ls rows.old → Owns ls owner name → Have ls owner es rows.old → IsEntryTaken ls owner es rows.new (entry line name row.now text.now) result }
+{
     let (place, number) = read_entry(rows, line, row, text)?;
     let is_objective = rows.objective == Some(place);
     match rows.rows.get_mut(place) {
@@ -120,7 +145,9 @@ pub fn take_entries(
     owner: Owner,
     line: u32,
     fields: &[&str],
-) -> Result<(), MpsError> {
+) -> Result<(), MpsError>
+    ensures { (ls : List Line) (es : List Entry) (name : List ℕ) → RowsStand ls rows.old → Owns ls owner name → Have ls owner es rows.old → AreEntriesTaken ls owner es rows.new (entries_from line name (map (λ f. f.now) fields.now)) result }
+{
     match fields {
         [row, text, rest @ ..] => {
             take_entry(rows, owner, line, row, text)?;

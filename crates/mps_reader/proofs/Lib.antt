@@ -1,3 +1,5 @@
 pub mod EntryLaws
 pub mod FieldLaws
 pub mod GrowthLaws
+pub mod NameLaws
+pub mod TakingLaws

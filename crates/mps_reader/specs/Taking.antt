@@ -1,5 +1,5 @@
 -- What taking a part of a line owes: an entry, a marker, a column, a set.
-use Rattle.std.specs.Prelude.{◌≡◌, ℕ, ◌==◌, max, Bool, false, ◌&&◌, ◌||◌, not, if◌then◌else◌, List, [], ◌∷◌, ◌++◌, length, map, filter, flat_map, position, Option, None, Some, bytes_eq, codes, Result, Ok, Err}
+use Rattle.std.specs.Prelude.{◌≡◌, ◌⊎◌, ℕ, ◌==◌, max, Bool, false, ◌&&◌, ◌||◌, not, if◌then◌else◌, List, [], ◌∷◌, ◌++◌, length, map, filter, flat_map, position, Option, None, Some, bytes_eq, codes, Result, Ok, Err}
 use Rattle.std.specs.Option.{option_map_or, is_some}
 use Rattle.ip_defs.specs.Lists.{first_of, last_of, is_among, when, after_those}
 use Rattle.ip_defs.specs.Numbers.{decimals_of, is_number, number_of}
@@ -18,8 +18,7 @@ use Rattle.mps_reader.specs.Progress.{RowsStand, EntriesStand}
 -- is free
 abbrev pub IsDone : {A : Type 0} → List MpsError → (A → Type 0) → Result A MpsError → Type 0
 IsDone faults P (Ok x) = (faults ≡ []) × P x
-IsDone faults P (Err Out.Memory) = Unit {0}
-IsDone faults P (Err e) = first_of faults ≡ Some e
+IsDone faults P (Err e) = (e ≡ Out.Memory) ⊎ (first_of faults ≡ Some e)
 
 -- a name is that of the last column alone, which has this number
 pub record IsLast (columns : List (List ℕ)) (name : List ℕ) (number : ℕ) : Type 0 where
@@ -44,9 +43,10 @@ Owns ls (Ranges is_kept) name = is_kept_set (codes "RANGES") ls name ≡ is_kept
 abbrev pub counted : List Line → Owner → List Entry → List ℕ → List Entry
 counted ls owner es word = if bytes_eq (owner_word owner) word then filter (is_kept word ls) es else kept_entries word ls
 
--- the rows have all of these
-abbrev pub Have : List Line → Owner → List Entry → RowTable → Type 0
-Have ls owner es t = EntriesStand (counted ls owner es (codes "COLUMNS")) (counted ls owner es (codes "RHS")) (counted ls owner es (codes "RANGES")) (column_names ls) (map row_name (row_lines ls)) t.rows.items
+-- the rows stand, and have all of these
+pub record RowsHave (ls : List Line) (owner : Owner) (es : List Entry) (t : RowTable) : Type 0 where
+  pub rows : RowsStand ls t
+  pub entries : EntriesStand (counted ls owner es (codes "COLUMNS")) (counted ls owner es (codes "RHS")) (counted ls owner es (codes "RANGES")) (column_names ls) (map row_name (row_lines ls)) t.rows.items
 
 -- whether an entry of an owner counts on a row that is free or not, and the objective or not
 abbrev pub counts_on : Owner → Bool → Bool → Bool
@@ -92,9 +92,9 @@ IsRead names line row text (Err e) = first_of (when (not (is_among row names)) (
 abbrev pub entry : ℕ → List ℕ → List ℕ → List ℕ → Entry
 entry line owner row text = record { line = line; owner = owner; row = row; text = text }
 
--- one more entry is taken: the rows have it then
+-- an entry is taken after the entries es: the rows have it too
 abbrev pub IsEntryTaken : List Line → Owner → List Entry → RowTable → Entry → Result (Unit {0}) MpsError → Type 0
-IsEntryTaken ls owner es new e result = IsDone (entry_faults (owner_word owner) ls es e) (λ _. RowsStand ls new × Have ls owner (es ++ e ∷ []) new) result
+IsEntryTaken ls owner es new e result = IsDone (entry_faults (owner_word owner) ls es e) (λ _. RowsHave ls owner (es ++ e ∷ []) new) result
 
 -- the faults of entries that come after the entries es
 abbrev pub faults_after : List Line → Owner → List Entry → List Entry → List MpsError
@@ -102,4 +102,4 @@ faults_after ls owner es more = flat_map (λ p. entry_faults (owner_word owner) 
 
 -- further entries are taken
 abbrev pub AreEntriesTaken : List Line → Owner → List Entry → RowTable → List Entry → Result (Unit {0}) MpsError → Type 0
-AreEntriesTaken ls owner es new more result = IsDone (faults_after ls owner es more) (λ _. RowsStand ls new × Have ls owner (es ++ more) new) result
+AreEntriesTaken ls owner es new more result = IsDone (faults_after ls owner es more) (λ _. RowsHave ls owner (es ++ more) new) result

@@ -4,8 +4,7 @@ ghost use Rattle.ip_defs.specs.Lists.{last_of, when};
 ghost use Rattle.ip_defs.specs.Numbers.{decimals_of as decimals_in};
 ghost use Rattle.ip_defs.specs.Records.{Line, Entry, entries_from};
 ghost use Rattle.ip_defs.specs.declared.texts.MpsError.TheVariants as Out;
-ghost use Rattle.mps_reader.specs.Progress.{RowsStand};
-ghost use Rattle.mps_reader.specs.Taking.{IsDone, IsPut, IsRead, IsEntryTaken, AreEntriesTaken, Have, Owns, counts_on, has_number, entry};
+ghost use Rattle.mps_reader.specs.Taking.{IsDone, IsPut, IsRead, IsEntryTaken, AreEntriesTaken, RowsHave, Owns, counts_on, has_number, entry};
 
 use crate::draft::{RowDraft, RowKind, RowTable};
 use decimals::read_number;
@@ -123,7 +122,7 @@ pub fn take_entry(
     row: &str,
     text: &str,
 ) -> Result<(), MpsError>
-    ensures { (ls : List Line) (es : List Entry) (name : List ℕ) → RowsStand ls rows.old → Owns ls owner name → Have ls owner es rows.old → IsEntryTaken ls owner es rows.new (entry line name row.now text.now) result }
+    ensures { (ls : List Line) (es : List Entry) (name : List ℕ) → RowsHave ls owner es rows.old → Owns ls owner name → IsEntryTaken ls owner es rows.new (entry line name row.now text.now) result }
 {
     let (place, number) = read_entry(rows, line, row, text)?;
     let is_objective = rows.objective == Some(place);
@@ -146,7 +145,7 @@ pub fn take_entries(
     line: u32,
     fields: &[&str],
 ) -> Result<(), MpsError>
-    ensures { (ls : List Line) (es : List Entry) (name : List ℕ) → RowsStand ls rows.old → Owns ls owner name → Have ls owner es rows.old → AreEntriesTaken ls owner es rows.new (entries_from line name (map (λ f. f.now) fields.now)) result }
+    ensures { (ls : List Line) (es : List Entry) (name : List ℕ) → RowsHave ls owner es rows.old → Owns ls owner name → AreEntriesTaken ls owner es rows.new (entries_from line name (map (λ f. f.now) fields.now)) result }
 {
     match fields {
         [row, text, rest @ ..] => {

@@ -1,0 +1,32 @@
+-- How parts of a line are taken one after the other, and the faults that are met.
+use Rattle.std.specs.Prelude.{◌≡◌, ℕ, Bool, true, false, not, List, [], ◌∷◌, ◌++◌, map, position, Option, None, Some, bytes_eq, Result, Ok, Err, refl}
+use Rattle.std.specs.Option.{is_some}
+use Rattle.std.proofs.Common.{ap, sym, ◌∙◌}
+use Rattle.ip_defs.specs.Lists.{first_of, when, where_true, is_among}
+use Rattle.ip_defs.specs.Numbers.{number_of, is_number}
+use Rattle.ip_defs.specs.declared.texts.MpsError.{MpsError}
+use Rattle.mps_reader.specs.Taking.{IsDone}
+use Rattle.mps_reader.proofs.GrowthLaws.{true_not_false}
+use Rattle.mps_reader.proofs.NameLaws.{position_among}
+
+-- the first of two parts of a list, where the first part is there or not
+pub met : {A : Type 0} (b : Bool) (x : A) (rest : List A) → b ≡ true → first_of (when b x ++ rest) ≡ Some x
+met b x rest h = ap (λ k. first_of (when k x ++ rest)) h
+
+pub not_met : {A : Type 0} (b : Bool) (x : A) (rest : List A) → b ≡ false → when b x ++ rest ≡ rest
+not_met b x rest h = ap (λ k. when k x ++ rest) h
+
+pub where_none : {A : Type 0} (b : Bool) (x : A) → where_true b x ≡ None → b ≡ false
+where_none true x h = absurd (cc h)
+where_none false x h = refl
+
+pub where_some : {A : Type 0} (b : Bool) (x y : A) → where_true b x ≡ Some y → b ≡ true
+where_some true x y h = refl
+where_some false x y h = absurd (cc h)
+
+-- a name that has no place, and one that has
+pub unknown : (name : List ℕ) (names : List (List ℕ)) → position (bytes_eq name) names ≡ None → is_among name names ≡ false
+unknown name names h = sym (position_among name names) ∙ ap is_some h
+
+pub known : (name : List ℕ) (names : List (List ℕ)) (i : ℕ) → position (bytes_eq name) names ≡ Some i → is_among name names ≡ true
+known name names i h = sym (position_among name names) ∙ ap is_some h

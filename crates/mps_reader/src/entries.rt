@@ -1,9 +1,10 @@
-ghost use Rattle.std.specs.Prelude.{ℕ, ◌≡◌, ◌==◌, ◌++◌, nat_lt, false, List, OnOk, map, string_bytes};
+ghost use Rattle.std.specs.Prelude.{ℕ, ◌≡◌, ◌==◌, ◌++◌, nat_lt, false, List, OnOk, map, string_bytes, bytes_eq, codes};
 ghost use Rattle.std.specs.Option.{option_map_or};
 ghost use Rattle.ip_defs.specs.Lists.{last_of, when};
 ghost use Rattle.ip_defs.specs.Numbers.{decimals_of as decimals_in};
 ghost use Rattle.ip_defs.specs.Records.{Line, Entry, entries_from};
 ghost use Rattle.ip_defs.specs.declared.texts.MpsError.TheVariants as Out;
+ghost use Rattle.mps_reader.specs.Progress.{kind_word};
 ghost use Rattle.mps_reader.specs.Taking.{IsDone, IsPut, IsRead, IsEntryTaken, AreEntriesTaken, RowsHave, Owns, counts_on, has_number, entry};
 
 use crate::draft::{RowDraft, RowKind, RowTable};
@@ -27,6 +28,30 @@ fn decimals_of(number: Number) -> u32
     match number {
         Number::Dec { units: _, decimals } => decimals,
         Number::Large { negative: _ } => 0,
+    }
+}
+
+impl RowKind {
+    /// Whether a row of this kind has no sides.
+    fn is_free(self) -> bool
+        ensures { result ≡ bytes_eq (kind_word self) (codes "N") }
+    {
+        match self {
+            RowKind::Free => true,
+            RowKind::AtMost | RowKind::AtLeast | RowKind::Equal => false,
+        }
+    }
+}
+
+impl RowTable {
+    /// Whether a row is the objective, by its number.
+    fn is_objective(&self, row: usize) -> bool
+        ensures { result ≡ option_map_or (λ j. j == row) self.now.objective false }
+    {
+        match self.objective {
+            Some(objective) => objective == row,
+            None => false,
+        }
     }
 }
 
@@ -125,10 +150,10 @@ pub fn take_entry(
     ensures { (ls : List Line) (es : List Entry) (name : List ℕ) → RowsHave ls owner es rows.old → Owns ls owner name → IsEntryTaken ls owner es rows.new (entry line name row.now text.now) result }
 {
     let (place, number) = read_entry(rows, line, row, text)?;
-    let is_objective = rows.objective == Some(place);
+    let is_objective = rows.is_objective(place);
     match rows.rows.get_mut(place) {
         Some(row) => {
-            if owner.keeps(row.kind == RowKind::Free, is_objective) {
+            if owner.keeps(row.kind.is_free(), is_objective) {
                 row.write(owner, line, number)
             } else {
                 Ok(())

@@ -1,2 +1,6 @@
+pub mod Below
+pub mod Clamps
+pub mod Drafted
+pub mod How
 pub mod Progress
 pub mod Taking

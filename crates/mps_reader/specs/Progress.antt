@@ -1,5 +1,5 @@
 -- What a draft has of the lines of a text that were read so far.
-use Rattle.std.specs.Prelude.{◌≡◌, ℕ, suc, ◌==◌, Bool, true, false, not, if◌then◌else◌, List, [], ◌∷◌, ◌++◌, length, map, position, slice_get, Option, None, Some, option_map, option_and_then, bytes_eq, string_bytes, codes, Result, Ok, Err}
+use Rattle.std.specs.Prelude.{◌≡◌, ◌≤◌, ℕ, suc, ◌==◌, Bool, true, false, not, if◌then◌else◌, List, [], ◌∷◌, ◌++◌, length, map, position, slice_get, Option, None, Some, option_map, option_and_then, bytes_eq, string_bytes, codes, Result, Ok, Err}
 use Rattle.ip_defs.specs.Lists.{first_of, last_of, is_among}
 use Rattle.ip_defs.specs.Records.{Line, Entry, items_of, words_of, row_lines, row_kind, row_name, is_free, is_marker, in_force, column_name, column_names, set_of, bound_set, kept_entries}
 use Rattle.ip_defs.specs.TextModels.{written_in, written_for, decimals_in, largest, is_integer, lower_entry, upper_entry, lower_by, upper_by}
@@ -57,6 +57,7 @@ pub record RowStands (entries right_sides ranges : List Entry) (columns : List (
   pub right_side : r.right_side ≡ written_for right_sides name
   pub range : r.range ≡ written_for ranges name
   pub decimals : r.decimals ≡ largest 0 (decimals_in (entries ++ right_sides ++ ranges) name)
+  pub few : r.decimals ≤ 9
 
 -- the same of each row
 abbrev pub EntriesStand : List Entry → List Entry → List Entry → List (List ℕ) → List (List ℕ) → List RowDraft → Type 0

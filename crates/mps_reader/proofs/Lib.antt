@@ -1,8 +1,11 @@
+pub mod CountLaws
 pub mod EntryLaws
 pub mod FieldLaws
 pub mod FinishLaws
 pub mod GrowthLaws
 pub mod NameLaws
+pub mod PlaceLaws
 pub mod RowLaws
-pub mod TakingLaws
+pub mod SectionLaws
 pub mod StayLaws
+pub mod TakingLaws

@@ -1,162 +1,165 @@
--- Which entries of a row count, by its kind and by whether it is the objective.
-use Rattle.std.specs.Prelude.{◌≡◌, ℕ, zero, suc, ◌==◌, Bool, true, false, cond, not, ◌&&◌, ◌||◌, List, [], ◌∷◌, ◌++◌, length, map, filter, find, position, slice_get, Option, None, Some, bytes_eq, codes, refl}
-use Rattle.std.specs.Option.{option_map, option_map_or, is_some}
-use Rattle.std.proofs.Common.{arith, ap, sym, ◌∙◌}
-use Rattle.std.proofs.lemmas.Bool.{eqb-true, eq-eqb}
-use Rattle.ip_defs.specs.Lists.{is_among, first_of}
-use Rattle.ip_defs.specs.Records.{Line, Entry, is_free, row_lines, row_name, is_objective, is_dropped_row, is_kept, is_kept_set}
-use Rattle.mps_reader.specs.declared.entries.Owner.{Owner}
-use Rattle.mps_reader.specs.declared.entries.Owner.TheVariants.{Column, RightSides, Ranges}
-use Rattle.mps_reader.specs.Taking.{Owns, owner_word, counts_on}
-use Rattle.mps_reader.proofs.GrowthLaws.{true_not_false, or_false_left, or_false_right}
-use Rattle.mps_reader.proofs.NameLaws.{Apart, place, place_is, name_self, name_turn, not_first, not_true, same_tests}
+-- How a draft grows by a line of ROWS.
+use Rattle.std.specs.Prelude.{◌≡◌, ℕ, ◌+◌, Bool, true, false, cond, List, [], ◌∷◌, ◌++◌, length, map, filter, flat_map, position, slice_get, Option, None, Some, option_map, option_and_then, not, ◌&&◌, ◌==◌, bytes_eq, codes, string_bytes, if◌then◌else◌, refl}
+use Rattle.std.specs.Option.{option_or, is_some}
+use Rattle.std.proofs.Common.{sym, ◌∙◌, ap, subst, arith}
+use Rattle.std.proofs.lemmas.List.{length-map}
+use Rattle.std.proofs.lemmas.Option.{slice_get_within}
+use Rattle.ip_defs.specs.Lists.{first_of, last_of, is_among, when, or_else, where_true}
+use Rattle.ip_defs.specs.Records.{Line, Entry, items_of, words_of, row_lines, row_kind, row_name, is_free, column_names, kept_entries, all_entries, entries_of, is_kept}
+use Rattle.ip_defs.specs.Faults.{all_line_faults, line_faults, row_faults, is_before}
+use Rattle.ip_defs.specs.TextModels.{written_in, written_for}
+use Rattle.ip_defs.specs.declared.texts.MpsError.{MpsError}
+use Rattle.ip_defs.specs.declared.texts.MpsError.TheVariants.{SectionOrder, TwiceRow, Marker, FieldCount, RowKind as WrongKind}
+use Rattle.mps_reader.specs.declared.draft.RowKind.{RowKind}
+use Rattle.mps_reader.specs.declared.draft.RowKind.TheVariants.{Free, AtMost, AtLeast, Equal}
+use Rattle.mps_reader.specs.declared.draft.RowDraft.{RowDraft}
+use Rattle.mps_reader.specs.declared.draft.RowTable.{RowTable}
+use Rattle.mps_reader.specs.declared.draft.Draft.{Draft}
+use Rattle.mps_reader.specs.Progress.{section_word, kind_word, item, Stands, SectionsStand, RowsStand, RowStands, EntriesStand, ColumnsStand, BoundsStand, SetsStand, IsNewRow, IsWithRow, AreApart}
+use Rattle.mps_reader.proofs.GrowthLaws.{true_not_false, faults-add, map-append, items_of-add, append_nil}
+use Rattle.mps_reader.proofs.StayLaws.{by_last, column_lines_stay, items_stay, sections_stay, columns_stand_stay, bounds_stand_stay, sets_stay, column_names_stay}
+use Rattle.mps_reader.proofs.SectionLaws.{in_order, later_is_empty, no_left, no_right}
+use Rattle.mps_reader.proofs.PlaceLaws.{apart_more, position_append, position_cons, no_place, place_where_any, place_of_name, get_of_more}
 
--- the number that an option has
-abbrev pub is_at : Option ℕ → ℕ → Bool
-is_at o i = option_map_or (λ j. j == i) o false
+abbrev pub row_item : ℕ → List ℕ → List ℕ → Line
+row_item n kind name = item (codes "ROWS") n (kind ∷ name ∷ [])
 
-some_free_not : (x : List ℕ) (rs : List Line) → is_among x (map row_name rs) ≡ false → is_among x (map row_name (filter is_free rs)) ≡ false
-some_free_not x [] h = refl
-some_free_not x (r ∷ rs) h = by (is_free r) (some_free_not x rs (or_false_right (bytes_eq x (row_name r)) (is_among x (map row_name rs)) h))
+known_kind : (k : RowKind) → is_among (kind_word k) (codes "N" ∷ codes "L" ∷ codes "G" ∷ codes "E" ∷ []) ≡ true
+known_kind Free = refl
+known_kind AtMost = refl
+known_kind AtLeast = refl
+known_kind Equal = refl
+
+abbrev names_of : List Line → List (List ℕ)
+names_of ls = map row_name (row_lines ls)
+
+-- the faults of a row of a right kind, once ROWS has begun, are those of its name
+pub row_faults_are : (before : List Line) (n : ℕ) (k : RowKind) (kind name : List ℕ) → kind_word k ≡ kind → is_among (codes "ROWS") (words_of before) ≡ true
+    → line_faults before (row_item n kind name) ≡ when (is_among name (names_of before)) (TwiceRow n) ++ when (bytes_eq name (codes "'MARKER'")) (Marker n)
+row_faults_are before n k kind name is there =
+    let four = codes "N" ∷ codes "L" ∷ codes "G" ∷ codes "E" ∷ [] in
+    ap (λ t. when (not t) (SectionOrder n) ++ row_faults before (row_item n kind name)) there
+    ∙ ap (λ t. when (not t) (WrongKind n) ++ when (is_among name (names_of before)) (TwiceRow n) ++ when (bytes_eq name (codes "'MARKER'")) (Marker n)) (ap (λ w. is_among w four) (sym is) ∙ known_kind k)
+
+-- the set of names finds a name where a row has it
+pub found_name : (before : List Line) (t : RowTable) (name : List ℕ) → RowsStand before t → is_some (position (λ k. bytes_eq name (string_bytes k)) t.names.keys) ≡ is_among name (names_of before)
+found_name before t name h =
+    ap is_some (place_of_name t.names.keys name)
+    ∙ place_where_any (bytes_eq name) (map string_bytes t.names.keys)
+    ∙ ap (is_among name) h.names
+
+-- the first refusals
+pub twice_row : (before : List Line) (n : ℕ) (k : RowKind) (kind name : List ℕ) → kind_word k ≡ kind → is_among (codes "ROWS") (words_of before) ≡ true
+    → is_among name (names_of before) ≡ true → first_of (line_faults before (row_item n kind name)) ≡ Some (TwiceRow n)
+twice_row before n k kind name is there twice =
+    ap first_of (row_faults_are before n k kind name is there)
+    ∙ ap (λ t. first_of (when t (TwiceRow n) ++ when (bytes_eq name (codes "'MARKER'")) (Marker n))) twice
+
+pub marker_row : (before : List Line) (n : ℕ) (k : RowKind) (kind name : List ℕ) → kind_word k ≡ kind → is_among (codes "ROWS") (words_of before) ≡ true
+    → is_among name (names_of before) ≡ false → bytes_eq name (codes "'MARKER'") ≡ true → first_of (line_faults before (row_item n kind name)) ≡ Some (Marker n)
+marker_row before n k kind name is there new marker =
+    ap first_of (row_faults_are before n k kind name is there)
+    ∙ ap (λ t. first_of (when t (TwiceRow n) ++ when (bytes_eq name (codes "'MARKER'")) (Marker n))) new
+    ∙ ap (λ t. first_of (when t (Marker n))) marker
+
+no_fault : (before : List Line) (n : ℕ) (k : RowKind) (kind name : List ℕ) → kind_word k ≡ kind → is_among (codes "ROWS") (words_of before) ≡ true
+    → is_among name (names_of before) ≡ false → bytes_eq name (codes "'MARKER'") ≡ false → line_faults before (row_item n kind name) ≡ []
+no_fault before n k kind name is there new plain =
+    row_faults_are before n k kind name is there
+    ∙ ap (λ t. when t (TwiceRow n) ++ when (bytes_eq name (codes "'MARKER'")) (Marker n)) new
+    ∙ ap (λ t. when t (Marker n)) plain
+
+-- ---- the rows
+
+rows_more : (before : List Line) (n : ℕ) (kind name : List ℕ) → row_lines (before ++ row_item n kind name ∷ []) ≡ row_lines before ++ row_item n kind name ∷ []
+rows_more before n kind name = items_of-add (codes "ROWS") before (row_item n kind name)
+
+objective_more : (before : List Line) (o : Option ℕ) (count n : ℕ) (kind name : List ℕ) → o ≡ position is_free (row_lines before) → count ≡ length (row_lines before)
+    → or_else o (where_true (bytes_eq kind (codes "N")) count) ≡ position is_free (row_lines before ++ row_item n kind name ∷ [])
+objective_more before o count n kind name is counted =
+    ap (λ p. or_else p (where_true (bytes_eq kind (codes "N")) count)) is
+    ∙ by (position is_free (row_lines before)) (bytes_eq kind (codes "N"))
+    ∙ ap (λ p. option_or (position is_free (row_lines before)) (option_map (λ i. length (row_lines before) + i) p)) (sym (position_cons is_free (row_item n kind name) []))
+    ∙ sym (position_append is_free (row_lines before) (row_item n kind name ∷ []))
   where
-    by : (b : Bool) → is_among x (map row_name (filter is_free rs)) ≡ false → is_among x (map row_name (cond b (r ∷ filter is_free rs) (filter is_free rs))) ≡ false
-    by true k = ap (λ b. b || is_among x (map row_name (filter is_free rs))) (or_false_left (bytes_eq x (row_name r)) (is_among x (map row_name rs)) h) ∙ k
-    by false k = k
+    by : (p : Option ℕ) (t : Bool) → or_else p (where_true t count) ≡ option_or p (option_map (λ i. length (row_lines before) + i) (if t then Some 0 else None))
+    by (Some i) t = refl
+    by None true = ap Some (omega (arith, counted))
+    by None false = refl
 
-name_at : (rs : List Line) (i : ℕ) (l : Line) → slice_get rs i ≡ Some l → slice_get (map row_name rs) i ≡ Some (row_name l)
-name_at [] i l at = absurd (cc at)
-name_at (r ∷ rs) zero l at = let same : r ≡ l = cc at in ap (λ k. Some (row_name k)) same
-name_at (r ∷ rs) (suc i) l at = name_at rs i l at
+pub rows_grow : (before : List Line) (t new : RowTable) (n : ℕ) (k : RowKind) (kind name : List ℕ) → kind_word k ≡ kind → is_among name (names_of before) ≡ false
+    → IsWithRow t new k name → RowsStand before t → RowsStand (before ++ row_item n kind name ∷ []) new
+rows_grow before t new n k kind name is fresh w h =
+    let more = sym (rows_more before n kind name) in
+    let count : length t.rows.items ≡ length (row_lines before) = sym (length-map t.rows.items (λ r. kind_word r.kind)) ∙ ap length h.kinds ∙ length-map (row_lines before) row_kind in record {
+      names = w.names ∙ ap (λ ns. ns ++ name ∷ []) h.names ∙ sym (map-append row_name (row_lines before) (row_item n kind name ∷ [])) ∙ ap (map row_name) more;
+      kinds = ap (map (λ r. kind_word r.kind)) w.rows ∙ map-append (λ r. kind_word r.kind) t.rows.items (w.row ∷ [])
+        ∙ ap (λ ks. ks ++ kind_word w.row.kind ∷ []) h.kinds ∙ ap (λ kd. map row_kind (row_lines before) ++ kd ∷ []) (ap kind_word w.is_new.kind_is ∙ is)
+        ∙ sym (map-append row_kind (row_lines before) (row_item n kind name ∷ [])) ∙ ap (map row_kind) more;
+      objective = w.objective ∙ ap (λ kd. or_else t.objective (where_true (bytes_eq kd (codes "N")) (length t.rows.items))) is
+        ∙ objective_more before t.objective (length t.rows.items) n kind name h.objective count ∙ ap (position is_free) more;
+      apart = subst AreApart (sym (map-append row_name (row_lines before) (row_item n kind name ∷ [])) ∙ ap (map row_name) more) (apart_more (names_of before) name h.apart fresh);
+    }
 
--- a row is among the free ones where it is one
-pub among_free : (rs : List Line) (i : ℕ) (l : Line) → Apart (map row_name rs) → slice_get rs i ≡ Some l
-    → is_among (row_name l) (map row_name (filter is_free rs)) ≡ is_free l
-among_free [] i l apart at = absurd (cc at)
-among_free (r ∷ rs) zero l apart at =
-    let same : r ≡ l = cc at in
-    ap (λ k. is_among (row_name k) (map row_name (filter is_free (r ∷ rs)))) (sym same) ∙ by (is_free r) (some_free_not (row_name r) rs apart.0) ∙ ap is_free same
+-- ---- the rest, which ROWS comes before
+
+later_items : (before : List Line) (d : Draft) (n : ℕ) (kind name word : List ℕ) → Stands before d → last_of (words_of before) ≡ Some (codes "ROWS") → is_before (codes "ROWS") word ≡ true
+    → items_of word (row_item n kind name ∷ []) ≡ [] → items_of word (before ++ row_item n kind name ∷ []) ≡ []
+later_items before d n kind name word h last after none =
+    items_stay word before (row_item n kind name) none ∙ later_is_empty before d (codes "ROWS") word h last after
+
+no_entries : (word : List ℕ) (ls : List Line) → items_of word ls ≡ [] → kept_entries word ls ≡ []
+no_entries word ls none = ap (λ ks. filter (is_kept word ls) (flat_map entries_of ks)) none
+
+no_columns : (ls : List Line) → items_of (codes "COLUMNS") ls ≡ [] → column_names ls ≡ []
+no_columns ls none = by_last (λ ks. items_of (codes "COLUMNS") ks ≡ [] → column_names ks ≡ []) (λ e. refl) more ls none
   where
-    by : (b : Bool) → is_among (row_name r) (map row_name (filter is_free rs)) ≡ false → is_among (row_name r) (map row_name (cond b (r ∷ filter is_free rs) (filter is_free rs))) ≡ b
-    by true h = ap (λ b. b || is_among (row_name r) (map row_name (filter is_free rs))) (name_self (row_name r))
-    by false h = h
-among_free (r ∷ rs) (suc i) l apart at = by (is_free r) (not_first (row_name r) (map row_name rs) i (row_name l) apart.0 (name_at rs i l at)) (among_free rs i l apart.1 at)
-  where
-    by : (b : Bool) → bytes_eq (row_name l) (row_name r) ≡ false → is_among (row_name l) (map row_name (filter is_free rs)) ≡ is_free l
-        → is_among (row_name l) (map row_name (cond b (r ∷ filter is_free rs) (filter is_free rs))) ≡ is_free l
-    by true h g = ap (λ b. b || is_among (row_name l) (map row_name (filter is_free rs))) h ∙ g
-    by false h g = g
+    more : (ks : List Line) (k : Line) → (items_of (codes "COLUMNS") ks ≡ [] → column_names ks ≡ []) → items_of (codes "COLUMNS") (ks ++ k ∷ []) ≡ [] → column_names (ks ++ k ∷ []) ≡ []
+    more ks k h e =
+        let both = sym (items_of-add (codes "COLUMNS") ks k) ∙ e in
+        column_names_stay ks k (column_lines_stay k (no_right (items_of (codes "COLUMNS") ks) (items_of (codes "COLUMNS") (k ∷ [])) both))
+        ∙ h (no_left (items_of (codes "COLUMNS") ks) (items_of (codes "COLUMNS") (k ∷ [])) both)
 
--- the name of the first free row
-abbrev pub named_first : List Line → List ℕ → Bool
-named_first rs name = option_map_or (bytes_eq name) (option_map row_name (find is_free rs)) false
+-- a new row has nothing written, as no entry came
+new_row_stands : (kind : RowKind) (r : RowDraft) (name : List ℕ) → IsNewRow kind r → RowStands [] [] [] [] name r
+new_row_stands kind r name new = record { entries_are = new.entries; right_side = new.right_side; range = new.range; decimals = new.decimals; few = omega (arith, new.decimals) }
 
--- the first free row is not named by a name that no row has
-not_named : (x : List ℕ) (rs : List Line) → is_among x (map row_name rs) ≡ false → named_first rs x ≡ false
-not_named x [] h = refl
-not_named x (r ∷ rs) h = by (is_free r) (not_named x rs (or_false_right (bytes_eq x (row_name r)) (is_among x (map row_name rs)) h))
-  where
-    by : (b : Bool) → named_first rs x ≡ false → option_map_or (bytes_eq x) (option_map row_name (cond b (Some r) (find is_free rs))) false ≡ false
-    by true k = or_false_left (bytes_eq x (row_name r)) (is_among x (map row_name rs)) h
-    by false k = k
+entries_grow : (names : List (List ℕ)) (name : List ℕ) (rows : List RowDraft) (kind : RowKind) (r : RowDraft) → length names ≡ length rows → IsNewRow kind r
+    → EntriesStand [] [] [] [] names rows → EntriesStand [] [] [] [] (names ++ name ∷ []) (rows ++ r ∷ [])
+entries_grow names name rows kind r count new h i other s at there =
+    get_of_more names name i other (RowStands [] [] [] [] other s) at
+      (λ old. get_of_more rows r i s (RowStands [] [] [] [] other s) there (λ e. h i other s old e) (λ e f. subst (λ k. RowStands [] [] [] [] other k) f (new_row_stands kind r other new)))
+      (λ e f. get_of_more rows r i s (RowStands [] [] [] [] other s) there (λ g. absurd (omega (arith, e, count, slice_get_within rows i s g))) (λ g k. subst (λ k. RowStands [] [] [] [] other k) k (new_row_stands kind r other new)))
 
-shifted : (o : Option ℕ) (i : ℕ) → is_at (option_map suc o) (suc i) ≡ is_at o i
-shifted None i = refl
-shifted (Some j) i = same_tests (suc j == suc i) (j == i) (λ h. eq-eqb j i (cc (eqb-true (suc j) (suc i) h))) (λ h. eq-eqb (suc j) (suc i) (ap suc (eqb-true j i h)))
+entries_moved : {e e' r r' g g' : List Entry} {c c' n n' : List (List ℕ)} {x x' : List RowDraft} → e ≡ e' → r ≡ r' → g ≡ g' → c ≡ c' → n ≡ n' → x ≡ x' → EntriesStand e r g c n x → EntriesStand e' r' g' c' n' x'
+entries_moved {e} {e'} {r} {r'} {g} {g'} {c} {c'} {n} {n'} {x} {x'} a b i j k l h =
+    subst (λ z. EntriesStand z r' g' c' n' x') a (subst (λ z. EntriesStand e z g' c' n' x') b (subst (λ z. EntriesStand e r z c' n' x') i
+      (subst (λ z. EntriesStand e r g z n' x') j (subst (λ z. EntriesStand e r g c z x') k (subst (λ z. EntriesStand e r g c n z) l h)))))
 
-never_zero : (o : Option ℕ) → is_at (option_map suc o) 0 ≡ false
-never_zero None = refl
-never_zero (Some j) = not_true (suc j == 0) (λ h. cc (eqb-true (suc j) 0 h))
-
-not_suc : (i : ℕ) → (0 == suc i) ≡ false
-not_suc i = not_true (0 == suc i) (λ h. cc (eqb-true 0 (suc i) h))
-
--- a row has the name of the first free row where it stands at its place
-first_at : (rs : List Line) (i : ℕ) (l : Line) → Apart (map row_name rs) → slice_get rs i ≡ Some l → named_first rs (row_name l) ≡ is_at (place is_free rs) i
-first_at [] i l apart at = absurd (cc at)
-first_at (r ∷ rs) zero l apart at =
-    let same : r ≡ l = cc at in
-    ap (λ k. named_first (r ∷ rs) (row_name k)) (sym same) ∙ by (is_free r) (not_named (row_name r) rs apart.0)
-  where
-    by : (b : Bool) → named_first rs (row_name r) ≡ false
-        → option_map_or (bytes_eq (row_name r)) (option_map row_name (cond b (Some r) (find is_free rs))) false ≡ is_at (cond b (Some 0) (option_map suc (place is_free rs))) 0
-    by true h = name_self (row_name r)
-    by false h = h ∙ sym (never_zero (place is_free rs))
-first_at (r ∷ rs) (suc i) l apart at = by (is_free r) (not_first (row_name r) (map row_name rs) i (row_name l) apart.0 (name_at rs i l at)) (first_at rs i l apart.1 at)
-  where
-    by : (b : Bool) → bytes_eq (row_name l) (row_name r) ≡ false → named_first rs (row_name l) ≡ is_at (place is_free rs) i
-        → option_map_or (bytes_eq (row_name l)) (option_map row_name (cond b (Some r) (find is_free rs))) false ≡ is_at (cond b (Some 0) (option_map suc (place is_free rs))) (suc i)
-    by true h g = h ∙ sym (not_suc i)
-    by false h g = g ∙ sym (shifted (place is_free rs) i)
-
-pub objective_at : (rs : List Line) (i : ℕ) (l : Line) → Apart (map row_name rs) → slice_get rs i ≡ Some l → named_first rs (row_name l) ≡ is_at (position is_free rs) i
-objective_at rs i l apart at = first_at rs i l apart at ∙ ap (λ o. is_at o i) (sym (place_is is_free rs))
-
--- the first free row is free
-first_free : (rs : List Line) (i : ℕ) (l : Line) → slice_get rs i ≡ Some l → is_at (place is_free rs) i ≡ true → is_free l ≡ true
-first_free [] i l at h = absurd (cc at)
-first_free (r ∷ rs) zero l at h =
-    let same : r ≡ l = cc at in
-    ap is_free (sym same) ∙ by (is_free r) h
-  where
-    by : (b : Bool) → is_at (cond b (Some 0) (option_map suc (place is_free rs))) 0 ≡ true → b ≡ true
-    by true h = refl
-    by false h = absurd (true_not_false (sym h ∙ never_zero (place is_free rs)))
-first_free (r ∷ rs) (suc i) l at h = by (is_free r) (λ g. first_free rs i l at g) h
-  where
-    by : (b : Bool) → (is_at (place is_free rs) i ≡ true → is_free l ≡ true) → is_at (cond b (Some 0) (option_map suc (place is_free rs))) (suc i) ≡ true → is_free l ≡ true
-    by true rest h = absurd (true_not_false (sym h ∙ not_suc i))
-    by false rest h = rest (sym (shifted (place is_free rs) i) ∙ h)
-
-pub objective_free : (rs : List Line) (i : ℕ) (l : Line) → slice_get rs i ≡ Some l → is_at (position is_free rs) i ≡ true → is_free l ≡ true
-objective_free rs i l at h = first_free rs i l at (ap (λ o. is_at o i) (sym (place_is is_free rs)) ∙ h)
-
--- an entry on a row that is free or not, and the objective or not: whether it counts
-abbrev pub kept_on : Bool → Bool → Bool → Bool → Bool → Bool
-kept_on free objective in_columns in_set in_ranges = not (free && not objective) && (in_columns || in_set) && not (in_ranges && objective)
-
-column_counts : (free objective set : Bool) → not free || objective ≡ kept_on free objective true set false
-column_counts true true set = refl
-column_counts true false set = refl
-column_counts false true set = refl
-column_counts false false set = refl
-
-right_side_counts : (free objective set : Bool) → set && (not free || objective) ≡ kept_on free objective false set false
-right_side_counts true true true = refl
-right_side_counts true false true = refl
-right_side_counts false true true = refl
-right_side_counts false false true = refl
-right_side_counts true true false = refl
-right_side_counts true false false = refl
-right_side_counts false true false = refl
-right_side_counts false false false = refl
-
-range_counts : (free objective set : Bool) → (objective ≡ true → free ≡ true) → set && not free ≡ kept_on free objective false set true
-range_counts true true true h = refl
-range_counts true false true h = refl
-range_counts false true set h = absurd (true_not_false (sym (h refl)))
-range_counts false false true h = refl
-range_counts true true false h = refl
-range_counts true false false h = refl
-range_counts false false false h = refl
-
-kept_at : (ls : List Line) (i : ℕ) (l : Line) (e : Entry) (in_columns in_set in_ranges : Bool) → Apart (map row_name (row_lines ls)) → slice_get (row_lines ls) i ≡ Some l → e.row ≡ row_name l
-    → kept_on (is_among e.row (map row_name (filter is_free (row_lines ls)))) (named_first (row_lines ls) e.row) in_columns in_set in_ranges ≡ kept_on (is_free l) (is_at (position is_free (row_lines ls)) i) in_columns in_set in_ranges
-kept_at ls i l e in_columns in_set in_ranges apart at named =
-    ap (λ x. kept_on (is_among x (map row_name (filter is_free (row_lines ls)))) (named_first (row_lines ls) x) in_columns in_set in_ranges) named
-        ∙ ap (λ b. kept_on b (named_first (row_lines ls) (row_name l)) in_columns in_set in_ranges) (among_free (row_lines ls) i l apart at)
-        ∙ ap (λ b. kept_on (is_free l) b in_columns in_set in_ranges) (objective_at (row_lines ls) i l apart at)
-
--- the code's test says whether an entry on a row counts
-pub counts : (ls : List Line) (owner : Owner) (i : ℕ) (l : Line) (e : Entry) → Owns ls owner e.owner → Apart (map row_name (row_lines ls)) → slice_get (row_lines ls) i ≡ Some l → e.row ≡ row_name l
-    → counts_on owner (is_free l) (is_at (position is_free (row_lines ls)) i) ≡ is_kept (owner_word owner) ls e
-counts ls (Column number) i l e owns apart at named =
-    column_counts (is_free l) (is_at (position is_free (row_lines ls)) i) (is_kept_set (codes "COLUMNS") ls e.owner)
-        ∙ sym (kept_at ls i l e true (is_kept_set (codes "COLUMNS") ls e.owner) false apart at named)
-counts ls (RightSides kept) i l e owns apart at named =
-    ap (λ k. k && (not (is_free l) || is_at (position is_free (row_lines ls)) i)) (sym owns)
-        ∙ right_side_counts (is_free l) (is_at (position is_free (row_lines ls)) i) (is_kept_set (codes "RHS") ls e.owner)
-        ∙ sym (kept_at ls i l e false (is_kept_set (codes "RHS") ls e.owner) false apart at named)
-counts ls (Ranges kept) i l e owns apart at named =
-    ap (λ k. k && not (is_free l)) (sym owns)
-        ∙ range_counts (is_free l) (is_at (position is_free (row_lines ls)) i) (is_kept_set (codes "RANGES") ls e.owner) (objective_free (row_lines ls) i l at)
-        ∙ sym (kept_at ls i l e false (is_kept_set (codes "RANGES") ls e.owner) true apart at named)
+-- a draft stands for a row too, once its table has it
+pub row_stands : (before : List Line) (d : Draft) (new : RowTable) (n : ℕ) (k : RowKind) (kind name : List ℕ) → Stands before d
+    → is_among (codes "ROWS") (words_of before) ≡ true → last_of (words_of before) ≡ Some (codes "ROWS") → kind_word k ≡ kind
+    → is_among name (names_of before) ≡ false → bytes_eq name (codes "'MARKER'") ≡ false → IsWithRow d.rows new k name
+    → Stands (before ++ row_item n kind name ∷ []) (record d { rows = new })
+row_stands before d new n k kind name h there last is fresh plain w =
+    let l = row_item n kind name in
+    let old_columns = later_is_empty before d (codes "ROWS") (codes "COLUMNS") h last refl in
+    let columns = later_items before d n kind name (codes "COLUMNS") h last refl refl in
+    let right_sides = later_items before d n kind name (codes "RHS") h last refl refl in
+    let ranges = later_items before d n kind name (codes "RANGES") h last refl refl in
+    let old_right_sides = later_is_empty before d (codes "ROWS") (codes "RHS") h last refl in
+    let old_ranges = later_is_empty before d (codes "ROWS") (codes "RANGES") h last refl in
+    let after = before ++ l ∷ [] in
+    let count : length (names_of before) ≡ length d.rows.rows.items = length-map (row_lines before) row_name ∙ sym (sym (length-map d.rows.rows.items (λ r. kind_word r.kind)) ∙ ap length h.rows.kinds ∙ length-map (row_lines before) row_kind) in
+    record {
+      no_fault = faults-add before l ∙ ap (λ fs. fs ++ line_faults before l) h.no_fault ∙ no_fault before n k kind name is there fresh plain;
+      sections = sections_stay before l d.sections.items refl there h.sections;
+      rows = rows_grow before d.rows new n k kind name is fresh w h.rows;
+      entries = entries_moved (sym (no_entries (codes "COLUMNS") after columns)) (sym (no_entries (codes "RHS") after right_sides)) (sym (no_entries (codes "RANGES") after ranges)) (sym (no_columns after columns))
+        (sym (map-append row_name (row_lines before) (l ∷ [])) ∙ ap (map row_name) (sym (rows_more before n kind name))) (sym w.rows)
+        (entries_grow (names_of before) name d.rows.rows.items k w.row count w.is_new
+          (entries_moved (no_entries (codes "COLUMNS") before old_columns) (no_entries (codes "RHS") before old_right_sides) (no_entries (codes "RANGES") before old_ranges) (no_columns before old_columns) refl refl h.entries));
+      columns = columns_stand_stay before l d.columns refl h.columns;
+      bounds = bounds_stand_stay before l d.columns.columns.items refl refl h.bounds;
+      sets = sets_stay before l d.sets refl refl refl h.sets;
+    }

@@ -1,6 +1,6 @@
 -- What a draft has of the lines of a text that were read so far.
 use Rattle.std.specs.Prelude.{◌≡◌, ◌≤◌, ℕ, suc, ◌==◌, Bool, true, false, not, if◌then◌else◌, List, [], ◌∷◌, ◌++◌, length, map, position, slice_get, Option, None, Some, option_map, option_and_then, bytes_eq, string_bytes, codes, Result, Ok, Err}
-use Rattle.ip_defs.specs.Lists.{first_of, last_of, is_among}
+use Rattle.ip_defs.specs.Lists.{first_of, last_of, is_among, or_else, where_true}
 use Rattle.ip_defs.specs.Records.{Line, Entry, items_of, words_of, row_lines, row_kind, row_name, is_free, is_marker, in_force, column_name, column_names, set_of, bound_set, kept_entries}
 use Rattle.ip_defs.specs.TextModels.{written_in, written_for, decimals_in, largest, is_integer, lower_entry, upper_entry, lower_by, upper_by}
 use Rattle.ip_defs.specs.Faults.{line_faults, all_line_faults, is_negative_upper}
@@ -50,6 +50,22 @@ pub record RowsStand (ls : List Line) (t : RowTable) : Type 0 where
   pub kinds : map (λ r. kind_word r.kind) t.rows.items ≡ map row_kind (row_lines ls)
   pub objective : t.objective ≡ position is_free (row_lines ls)
   pub apart : AreApart (map row_name (row_lines ls))
+
+-- a row of which nothing is written
+pub record IsNewRow (kind : RowKind) (r : RowDraft) : Type 0 where
+  pub kind_is : r.kind ≡ kind
+  pub entries : r.entries.items ≡ []
+  pub right_side : r.right_side ≡ None
+  pub range : r.range ≡ None
+  pub decimals : r.decimals ≡ 0
+
+-- the same rows and a new one at their end
+pub record IsWithRow (t new : RowTable) (kind : RowKind) (name : List ℕ) : Type 0 where
+  pub names : map string_bytes new.names.keys ≡ map string_bytes t.names.keys ++ name ∷ []
+  pub row : RowDraft
+  pub is_new : IsNewRow kind row
+  pub rows : new.rows.items ≡ t.rows.items ++ row ∷ []
+  pub objective : new.objective ≡ or_else t.objective (where_true (bytes_eq (kind_word kind) (codes "N")) (length t.rows.items))
 
 -- what is written for a row by kept entries: those of COLUMNS, RHS and RANGES
 pub record RowStands (entries right_sides ranges : List Entry) (columns : List (List ℕ)) (name : List ℕ) (r : RowDraft) : Type 0 where
@@ -114,9 +130,12 @@ item word number fields = record { number = number; is_item = true; section = wo
 abbrev pub opening : ℕ → List (List ℕ) → List ℕ → Line
 opening number fields word = record { number = number; is_item = false; section = word; fields = fields }
 
--- what taking a line answers, after the lines before it: the draft stands for it too, or its first fault is the answer; want of
--- memory is free
+-- an error is the first of some faults; want of memory is free
+abbrev pub IsFirstFault : List MpsError → MpsError → Type 0
+IsFirstFault faults Out.Memory = Unit {0}
+IsFirstFault faults e = first_of faults ≡ Some e
+
+-- what taking a line answers, after the lines before it: the draft stands for it too, or its first fault is the answer
 abbrev pub IsTaken : List Line → Line → Draft → Result (Unit {0}) MpsError → Type 0
 IsTaken before l new (Ok done) = Stands (before ++ l ∷ []) new
-IsTaken before l new (Err Out.Memory) = Unit {0}
-IsTaken before l new (Err e) = first_of (line_faults before l) ≡ Some e
+IsTaken before l new (Err e) = IsFirstFault (line_faults before l) e

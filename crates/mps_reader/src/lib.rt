@@ -1,15 +1,20 @@
 //! Reads integer programs from MPS texts.
 #![tactic(auto)]
 
-mod columns;
+mod bounds;
 mod clamps;
 mod column_list;
+mod columns;
 mod draft;
 mod entries;
 mod fields;
 mod lines;
+mod reader;
 mod right_sides;
+mod rounding;
 mod row_list;
+mod rows;
 mod sections;
+mod sets;
 
 pub use ip_defs::{How, MpsError, Side};

@@ -1,4 +1,4 @@
-use Rattle.mps_reader.proofs.RowLaws.{counts}
+use Rattle.mps_reader.proofs.CountLaws.{counts}
 use Rattle.mps_reader.proofs.entries.take_entry.Goals as goal
 pub returns-in_err-place : goal.returns-in_err-place
 returns-in_err-place c = ?

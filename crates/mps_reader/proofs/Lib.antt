@@ -8,4 +8,5 @@ pub mod PlaceLaws
 pub mod RowLaws
 pub mod SectionLaws
 pub mod StayLaws
+pub mod TableLaws
 pub mod TakingLaws

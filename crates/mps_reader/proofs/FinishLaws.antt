@@ -1,5 +1,5 @@
 -- Lists of a model, one element at a time.
-use Rattle.std.specs.Prelude.{◌≡◌, ℕ, zero, suc, ◌+◌, ◌<◌, ◌==◌, Bool, true, false, cond, not, List, [], ◌∷◌, ◌++◌, length, map, drop, if◌then◌else◌, Option, Some, None, unsigned_abs, ℤ, pos, negsuc}
+use Rattle.std.specs.Prelude.{◌≡◌, ℕ, zero, suc, ◌+◌, ◌<◌, ◌==◌, Bool, true, false, cond, not, List, [], ◌∷◌, ◌++◌, length, map, drop, if◌then◌else◌, Option, Some, None, slice_get, unsigned_abs, ℤ, pos, negsuc}
 use Rattle.std.specs.Option.{is_some}
 use Rattle.ip_defs.specs.Lists.{when}
 use Rattle.ip_defs.specs.declared.texts.How.{How}
@@ -108,3 +108,12 @@ rows_skip how names others rs later name r done named is free =
     ap (λ t. done ++ map clamped_row (when (not t) (drafted_row how name r) ++ drafted_rows how others later)) (sym free)
     ∙ ap (λ ns. done ++ map clamped_row (drafted_rows how ns (r ∷ later))) (sym named)
     ∙ ap (λ l. done ++ map clamped_row (drafted_rows how names l)) (sym is)
+
+-- an element is what its place in the mapped list says
+pub mapped_at : {A B : Type 0} (f : A → B) (xs : List A) (i : ℕ) (x : A) (y : B) → i < length xs → x ≡ get_or xs i x → slice_get (map f xs) i ≡ Some y → f x ≡ y
+mapped_at f [] i x y within is at = absurd (omega arith)
+mapped_at f (z ∷ zs) zero x y within is at = ap f is ∙ some_same (f z) y at
+  where
+    some_same : {B : Type 0} (a b : B) → Some a ≡ Some b → a ≡ b
+    some_same a b e = cc
+mapped_at f (z ∷ zs) (suc i) x y within is at = mapped_at f zs i x y (omega arith) is at

@@ -1,8 +1,11 @@
+pub mod ClampLaws
 pub mod CountLaws
 pub mod EntryLaws
+pub mod FaultLaws
 pub mod FieldLaws
 pub mod FinishLaws
 pub mod GrowthLaws
+pub mod ModelLaws
 pub mod NameLaws
 pub mod PlaceLaws
 pub mod RowLaws

@@ -1,10 +1,13 @@
 -- The model that a draft says, and what is wrong with the whole of it.
-use Rattle.std.specs.Prelude.{ℕ, suc, ◌+◌, ◌^◌, ◌==◌, max, Bool, true, false, not, ◌&&◌, if◌then◌else◌, List, [], ◌∷◌, ◌++◌, map, filter, slice_get, slice_index_or, string_bytes, Option, None, Some, option_map, option_and_then, unwrap_or, ℤ, pos, neg_ℤ}
+use Rattle.std.specs.Prelude.{◌≡◌, Result, Ok, Err, ℕ, suc, ◌+◌, ◌^◌, ◌==◌, max, Bool, true, false, not, ◌&&◌, if◌then◌else◌, List, [], ◌∷◌, ◌++◌, map, filter, slice_get, slice_index_or, string_bytes, Option, None, Some, option_map, option_and_then, unwrap_or, ℤ, pos, neg_ℤ}
 use Rattle.std.specs.Int.{int_min, int_max}
 use Rattle.std.specs.Int.RustNames.{unsigned_abs}
 use Rattle.std.specs.List.{list_any}
 use Rattle.std.specs.Option.{is_none}
-use Rattle.ip_defs.specs.Lists.{when}
+use Rattle.ip_defs.specs.Lists.{when, first_of}
+use Rattle.ip_defs.specs.declared.texts.MpsError.TheVariants as Out
+use Rattle.mps_reader.specs.declared.whole.Rule.{Rule}
+use Rattle.mps_reader.specs.declared.whole.Rule.TheVariants.{Integer, Bounded, NotNegative}
 use Rattle.ip_defs.specs.Faults.{lower_is_missing, upper_is_missing, limit_faults}
 use Rattle.ip_defs.specs.TextModels.{units, no_number, row_sides, box_low, box_high}
 use Rattle.ip_defs.specs.declared.texts.Number.{Number}
@@ -132,3 +135,19 @@ drafted_column_faults d how =
     column_faults continuous_fault (column_names d) d.columns.columns.items
     ++ column_faults (missing_sides how) (column_names d) d.columns.columns.items
     ++ column_faults negative_fault (column_names d) d.columns.columns.items
+
+-- what is asked of each column in turn
+abbrev pub asked : Rule → How → List ℕ → ColumnDraft → List MpsError
+asked Integer how name c = continuous_fault name c
+asked Bounded how name c = missing_sides how name c
+asked NotNegative how name c = negative_fault name c
+
+-- an error is the first fault; want of memory is free
+abbrev pub IsFirst : Option MpsError → MpsError → Type 0
+IsFirst o Out.Memory = Unit {0}
+IsFirst o e = o ≡ Some e
+
+-- an answer to faults: the first of them, and none where there is none
+abbrev pub AnswersFaults : List MpsError → Result (Unit {0}) MpsError → Type 0
+AnswersFaults faults (Ok done) = first_of faults ≡ None
+AnswersFaults faults (Err e) = IsFirst (first_of faults) e

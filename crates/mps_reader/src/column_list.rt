@@ -71,13 +71,13 @@ fn column_of(alloc: Global, name: &str, column: &ColumnDraft, cost: Option<Numbe
 }
 
 /// The cost of a column where the costs from a place on begin with it.
-fn cost_at(costs: &[(u32, Number)], next: usize, column: usize) -> Option<Number>
+fn cost_at(costs: &[(usize, Number)], next: usize, column: usize) -> Option<Number>
     requires { AreBelowLarge costs.now }
     ensures cost { result ≡ cost_head column (drop next costs.now) }
     ensures below { ForSome result IsBelowLarge }
 {
     match costs.get(next) {
-        Some(first) => if first.0 as usize == column {
+        Some(first) => if first.0 == column {
             Some(first.1)
         } else {
             None
@@ -91,7 +91,7 @@ pub fn column_list(
     alloc: Global,
     names: &[String],
     columns: &[ColumnDraft],
-    costs: &[(u32, Number)],
+    costs: &[(usize, Number)],
     decimals: u8,
     how: How,
 ) -> Result<Vec<Column>, MpsError>

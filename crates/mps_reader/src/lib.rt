@@ -8,6 +8,7 @@ mod columns;
 mod draft;
 mod entries;
 mod fields;
+mod finish;
 mod lines;
 mod reader;
 mod right_sides;
@@ -16,5 +17,6 @@ mod row_list;
 mod rows;
 mod sections;
 mod sets;
+mod whole;
 
 pub use ip_defs::{How, MpsError, Side};

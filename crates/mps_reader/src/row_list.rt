@@ -1,9 +1,9 @@
-ghost use Rattle.std.specs.Prelude.{◌≡◌, ◌≤◌, IfOk, length, map, slice_get, string_bytes, unsigned_abs, unwrap_or, pos};
+ghost use Rattle.std.specs.Prelude.{◌≡◌, ◌<◌, ◌≤◌, IfOk, length, map, slice_get, string_bytes, unsigned_abs, unwrap_or, pos};
 ghost use Rattle.std.specs.Option.{ForSome};
 ghost use Rattle.decimals.specs.Decimals.{IsBelowLarge};
 ghost use Rattle.ip_defs.specs.Numbers.{is_large as is_large_of};
 ghost use Rattle.ip_defs.specs.TextModels.{is_open as is_open_of, no_number, plain_sides as plain_sides_of, range_sides, row_sides as row_sides_of};
-ghost use Rattle.mps_reader.specs.Below.{AreBelowLarge, AreRowsBelow, IsRowBelow};
+ghost use Rattle.mps_reader.specs.Below.{AreBelowLarge, AreRowsBelow, AreWithin, IsRowBelow};
 ghost use Rattle.mps_reader.specs.Clamps.{clamped_coefs, clamped_row, clamped_sides};
 ghost use Rattle.mps_reader.specs.Drafted.{drafted_coefs, drafted_decimals, drafted_row, drafted_rows, is_free_kind};
 ghost use Rattle.mps_reader.specs.Progress.{kind_word};
@@ -49,17 +49,26 @@ fn is_large(number: Number) -> bool
     }
 }
 
+/// The number of a column in 32 bits.
+fn column_number(column: usize) -> u32
+    requires { column < 4096 }
+    ensures { result ≡ column }
+{
+    column as u32
+}
+
 /// The entries of a row that are not 0, in units.
-fn coefs_of(alloc: Global, entries: &[(u32, Number)], decimals: u8) -> Result<Vec<(u32, i64)>, AllocError>
+fn coefs_of(alloc: Global, entries: &[(usize, Number)], decimals: u8) -> Result<Vec<(u32, i64)>, AllocError>
     requires decimals { decimals ≤ 9 }
     requires below { AreBelowLarge entries.now }
+    requires columns { AreWithin 4096 entries.now }
     ensures { IfOk result (λ v. v.items ≡ clamped_coefs (drafted_coefs decimals entries.now)) }
 {
     let mut coefs = Vec::new(alloc);
     for entry in entries {
         let coefficient = clamped(units(entry.1, decimals));
         if coefficient != 0 {
-            coefs.push((entry.0, coefficient))?;
+            coefs.push((column_number(entry.0), coefficient))?;
         }
     }
     Ok(coefs)

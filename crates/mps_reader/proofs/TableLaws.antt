@@ -2,13 +2,13 @@
 use Rattle.std.specs.Prelude.{◌≡◌, ◌⊎◌, ℕ, zero, suc, ◌==◌, ◌≤◌, nat_lt, Bool, true, false, not, ◌&&◌, ◌||◌, List, [], ◌∷◌, ◌++◌, length, map, filter, position, slice_get, slice_set, Option, None, Some, bytes_eq, string_bytes, codes, unwrap_or, Result, Ok, Err, refl}
 use Rattle.std.specs.List.{list_any}
 use Rattle.std.specs.Vec.{with_item}
-use Rattle.std.proofs.Common.{arith, ap, sym, ◌∙◌, subst}
+use Rattle.std.proofs.Common.{arith, ap, sym, ◌∙◌, subst, ◌-◌, ◌<◌, get_or, take, drop, Bor}
 use Rattle.std.proofs.lemmas.Bool.{eqb-true, eqb-false, ltb-false}
 use Rattle.std.proofs.lemmas.Option.{get_or_from_slice_get, slice_get_past}
-use Rattle.std.proofs.Math.Seq.{map-set_same}
+use Rattle.std.proofs.Math.Seq.{map-set_same, take-length}
 use Rattle.ip_defs.specs.Lists.{first_of, is_among, when, where_true}
 use Rattle.ip_defs.specs.Numbers.{number_of, is_number, decimals_of}
-use Rattle.ip_defs.specs.Records.{Line, Entry, is_free, row_kind, row_name, row_lines, is_kept, column_names}
+use Rattle.ip_defs.specs.Records.{Line, Entry, is_free, row_kind, row_name, row_lines, is_kept, column_names, entries_from}
 use Rattle.ip_defs.specs.Faults.{entry_faults, same_place}
 use Rattle.ip_defs.specs.TextModels.{number_at, no_number}
 use Rattle.ip_defs.specs.declared.texts.Number.{Number}
@@ -18,8 +18,8 @@ use Rattle.mps_reader.specs.declared.draft.RowDraft.{RowDraft}
 use Rattle.mps_reader.specs.declared.draft.RowTable.{RowTable}
 use Rattle.mps_reader.specs.declared.entries.Owner.{Owner}
 use Rattle.mps_reader.specs.Progress.{RowsStand, kind_word}
-use Rattle.mps_reader.specs.Taking.{IsDone, Owns, IsPut, RowsHave, IsEntryTaken, entry, owner_word, has_number, counts_on}
-use Rattle.mps_reader.proofs.GrowthLaws.{true_not_false, first_stays}
+use Rattle.mps_reader.specs.Taking.{IsDone, Owns, IsPut, RowsHave, IsEntryTaken, AreEntriesTaken, faults_after, entry, owner_word, has_number, counts_on}
+use Rattle.mps_reader.proofs.GrowthLaws.{true_not_false, first_stays, append_assoc}
 use Rattle.mps_reader.proofs.NameLaws.{position_found, Apart-from, name_same, not_true}
 use Rattle.mps_reader.proofs.CountLaws.{counts, is_at}
 use Rattle.mps_reader.proofs.EntryLaws.{RowHas, has_same_place, idle_entry, other_row, own_row}
@@ -200,3 +200,29 @@ row_there ls t row i rows at past =
     let some = get_map row_kind (row_lines ls) i found.0 found.1 in
     let none = map_none (λ (k : RowDraft). kind_word k.kind) t.rows.items i (slice_get_past t.rows.items i past) in
     cc (sym none ∙ ap (λ ks. slice_get ks i) rows.kinds ∙ some)
+
+-- ---- the entries of a line, one by one
+
+abbrev pub words : List (Bor (List ℕ)) → List (List ℕ)
+words fields = map (λ f. f.now) fields
+
+pub one_entry : (line : ℕ) (name : List ℕ) (fields : List (Bor (List ℕ))) (d : Bor (List ℕ)) → 2 ≤ length fields
+    → entries_from line name (words fields) ≡ entry line name (get_or fields 0 d).now (get_or fields 1 d).now ∷ entries_from line name (words (take (length fields - 2) (drop 2 fields)))
+one_entry line name [] d h = absurd (omega arith)
+one_entry line name (x ∷ []) d h = absurd (omega arith)
+one_entry line name (x ∷ y ∷ rest) d h =
+    let size : length (x ∷ y ∷ rest) - 2 ≡ length rest = omega arith in
+    ap (λ l. entry line name x.now y.now ∷ entries_from line name (words l)) (sym (ap (λ n. take n rest) size ∙ take-length rest))
+
+pub no_entry : (line : ℕ) (name : List ℕ) (fields : List (Bor (List ℕ))) → length fields < 2 → entries_from line name (words fields) ≡ []
+no_entry line name [] h = refl
+no_entry line name (x ∷ []) h = refl
+no_entry line name (x ∷ y ∷ rest) h = absurd (omega arith)
+
+pub go_on : (ls : List Line) (owner : Owner) (es more : List Entry) (e : Entry) (t : RowTable) (r : Result (Unit {0}) MpsError) → entry_faults (owner_word owner) ls es e ≡ []
+    → AreEntriesTaken ls owner (es ++ e ∷ []) t more r → AreEntriesTaken ls owner es t (e ∷ more) r
+go_on ls owner es more e t r none done =
+    IsDone_map (faults_after ls owner (es ++ e ∷ []) more) (faults_after ls owner es (e ∷ more)) (λ _. RowsHave ls owner ((es ++ e ∷ []) ++ more) t) (λ _. RowsHave ls owner (es ++ (e ∷ more)) t) r
+        (ap (λ l. l ++ faults_after ls owner (es ++ e ∷ []) more) (sym none))
+        (λ x _ have. subst (λ l. RowsHave ls owner l t) (append_assoc es (e ∷ []) more) have)
+        done

@@ -6,7 +6,7 @@ use Rattle.ip_defs.specs.Lists.{first_of, when, where_true, is_among}
 use Rattle.ip_defs.specs.Numbers.{number_of, is_number}
 use Rattle.ip_defs.specs.declared.texts.MpsError.{MpsError}
 use Rattle.mps_reader.specs.Taking.{IsDone}
-use Rattle.mps_reader.proofs.GrowthLaws.{true_not_false}
+use Rattle.mps_reader.proofs.GrowthLaws.{true_not_false, first_stays}
 use Rattle.mps_reader.proofs.PlaceLaws.{place_where_any}
 
 -- the first of two parts of a list, where the first part is there or not
@@ -45,3 +45,8 @@ pub IsDone_map : {A : Type 0} (faults same : List MpsError) (P Q : A → Type 0)
 IsDone_map faults same P Q (Ok x) is then done = (sym is ∙ done.0, then x done.0 done.1)
 IsDone_map faults same P Q (Err e) is then (inl memory) = inl memory
 IsDone_map faults same P Q (Err e) is then (inr first) = inr (ap first_of (sym is) ∙ first)
+
+-- a fault of what comes first, where it stopped
+pub stopped : {A B : Type 0} (faults more : List MpsError) (P : A → Type 0) (Q : B → Type 0) (r : Result B MpsError) (e : MpsError) → r ≡ Err e → IsDone faults P (Err e) → IsDone (faults ++ more) Q r
+stopped faults more P Q r e is (inl memory) = subst (IsDone (faults ++ more) Q) (sym is) (inl memory)
+stopped faults more P Q r e is (inr first) = subst (IsDone (faults ++ more) Q) (sym is) (inr (first_stays faults more e first ∙ first))

@@ -5,6 +5,7 @@ pub mod FaultLaws
 pub mod FieldLaws
 pub mod FinishLaws
 pub mod GrowthLaws
+pub mod LineLaws
 pub mod ModelLaws
 pub mod NameLaws
 pub mod PlaceLaws

@@ -1,10 +1,10 @@
 -- What taking a part of a line owes: an entry, a marker, a column, a set.
-use Rattle.std.specs.Prelude.{◌≡◌, ◌⊎◌, ℕ, ◌==◌, max, Bool, false, ◌&&◌, ◌||◌, not, if◌then◌else◌, List, [], ◌∷◌, ◌++◌, length, map, filter, flat_map, position, Option, None, Some, bytes_eq, codes, Result, Ok, Err}
+use Rattle.std.specs.Prelude.{◌≡◌, ◌⊎◌, ℕ, ◌==◌, max, nat_le, ◌%◌, drop, Bool, true, false, ◌&&◌, ◌||◌, not, if◌then◌else◌, List, [], ◌∷◌, ◌++◌, length, map, filter, flat_map, position, Option, None, Some, bytes_eq, codes, Result, Ok, Err}
 use Rattle.std.specs.Option.{option_map_or, is_some}
 use Rattle.ip_defs.specs.Lists.{first_of, last_of, is_among, when, after_those}
 use Rattle.ip_defs.specs.Numbers.{decimals_of, is_number, number_of}
 use Rattle.ip_defs.specs.Faults.{entry_faults}
-use Rattle.ip_defs.specs.Records.{Line, Entry, row_lines, row_name, column_names, is_kept, is_kept_set, kept_entries}
+use Rattle.ip_defs.specs.Records.{Line, Entry, set_of, row_lines, row_name, column_names, is_kept, is_kept_set, kept_entries}
 use Rattle.ip_defs.specs.declared.texts.Number.{Number}
 use Rattle.ip_defs.specs.declared.texts.MpsError.{MpsError}
 use Rattle.ip_defs.specs.declared.texts.MpsError.TheVariants as Out
@@ -103,3 +103,9 @@ faults_after ls owner es more = flat_map (λ p. entry_faults (owner_word owner) 
 -- further entries are taken
 abbrev pub AreEntriesTaken : List Line → Owner → List Entry → RowTable → List Entry → Result (Unit {0}) MpsError → Type 0
 AreEntriesTaken ls owner es new more result = IsDone (faults_after ls owner es more) (λ _. RowsHave ls owner (es ++ more) new) result
+
+-- the set of a line of RHS or RANGES, and its fields for entries
+pub record IsSetLine (fields : List (List ℕ)) (set : List ℕ) (entries : List (List ℕ)) : Type 0 where
+  pub count : nat_le 2 (length fields) && nat_le (length fields) 5 ≡ true
+  pub set_is : set ≡ set_of (record { number = 0; is_item = true; section = []; fields = fields })
+  pub entries_are : entries ≡ (if length fields % 2 == 1 then drop 1 fields else fields)

@@ -11,6 +11,7 @@ pub mod NameLaws
 pub mod PlaceLaws
 pub mod RowLaws
 pub mod SectionLaws
+pub mod SetLaws
 pub mod StayLaws
 pub mod TableLaws
 pub mod TakingLaws

@@ -1,5 +1,5 @@
 -- What taking a part of a line owes: an entry, a marker, a column, a set.
-use Rattle.std.specs.Prelude.{◌≡◌, ◌⊎◌, ℕ, ◌==◌, max, nat_le, ◌%◌, drop, Bool, true, false, ◌&&◌, ◌||◌, not, if◌then◌else◌, List, [], ◌∷◌, ◌++◌, length, map, filter, flat_map, position, Option, None, Some, bytes_eq, codes, Result, Ok, Err}
+use Rattle.std.specs.Prelude.{◌≡◌, ◌⊎◌, ℕ, ◌==◌, max, nat_le, ◌%◌, drop, Bool, true, false, ◌&&◌, ◌||◌, not, if◌then◌else◌, List, [], ◌∷◌, ◌++◌, length, map, filter, flat_map, position, Option, None, Some, option_map, unwrap_or, string_bytes, bytes_eq, codes, Result, Ok, Err}
 use Rattle.std.specs.Option.{option_map_or, is_some}
 use Rattle.ip_defs.specs.Lists.{first_of, last_of, is_among, when, after_those}
 use Rattle.ip_defs.specs.Numbers.{decimals_of, is_number, number_of}
@@ -8,8 +8,11 @@ use Rattle.ip_defs.specs.Records.{Line, Entry, set_of, row_lines, row_name, colu
 use Rattle.ip_defs.specs.declared.texts.Number.{Number}
 use Rattle.ip_defs.specs.declared.texts.MpsError.{MpsError}
 use Rattle.ip_defs.specs.declared.texts.MpsError.TheVariants as Out
+use Rattle.mps_reader.specs.declared.sections.Section.{Section}
+use Rattle.mps_reader.specs.declared.sections.Section.TheVariants as Sections
 use Rattle.mps_reader.specs.declared.draft.RowDraft.{RowDraft}
 use Rattle.mps_reader.specs.declared.draft.RowTable.{RowTable}
+use Rattle.mps_reader.specs.declared.draft.Sets.{Sets}
 use Rattle.mps_reader.specs.declared.entries.Owner.{Owner}
 use Rattle.mps_reader.specs.declared.entries.Owner.TheVariants.{Column, RightSides, Ranges}
 use Rattle.mps_reader.specs.Progress.{RowsStand, EntriesStand}
@@ -109,3 +112,13 @@ pub record IsSetLine (fields : List (List ℕ)) (set : List ℕ) (entries : List
   pub count : nat_le 2 (length fields) && nat_le (length fields) 5 ≡ true
   pub set_is : set ≡ set_of (record { number = 0; is_item = true; section = []; fields = fields })
   pub entries_are : entries ≡ (if length fields % 2 == 1 then drop 1 fields else fields)
+
+-- the owner of the entries of a set, which is the kept one where it has the kept name or none is kept
+abbrev pub set_owner : Section → Sets → List ℕ → Owner
+set_owner Sections.Ranges s set = Ranges (bytes_eq (unwrap_or (option_map string_bytes s.ranges) set) set)
+set_owner section s set = RightSides (bytes_eq (unwrap_or (option_map string_bytes s.right_sides) set) set)
+
+-- the first set of a section is kept
+abbrev pub IsSetKept : Section → List ℕ → Sets → Sets → Type 0
+IsSetKept Sections.Ranges set old new = (new.right_sides ≡ old.right_sides) × (option_map string_bytes new.ranges ≡ Some (unwrap_or (option_map string_bytes old.ranges) set)) × (new.bounds ≡ old.bounds)
+IsSetKept section set old new = (option_map string_bytes new.right_sides ≡ Some (unwrap_or (option_map string_bytes old.right_sides) set)) × (new.ranges ≡ old.ranges) × (new.bounds ≡ old.bounds)

@@ -1,9 +1,9 @@
-ghost use Rattle.std.specs.Prelude.{◌≡◌, ℕ, ◌&&◌, nat_le, not, true, false, List, length, map, codes};
+ghost use Rattle.std.specs.Prelude.{◌≡◌, IfOk, OnOk, ◌&&◌, ◌∷◌, [], nat_le, true, false, List, length, map, codes};
 ghost use Rattle.std.specs.Option.{MatchOption};
-ghost use Rattle.ip_defs.specs.Lists.{is_among, last_of};
+ghost use Rattle.ip_defs.specs.Lists.{is_among};
 ghost use Rattle.ip_defs.specs.Records.{Line, words_of};
 ghost use Rattle.mps_reader.specs.Progress.{IsTaken, Stands, item, section_word};
-ghost use Rattle.mps_reader.specs.Taking.{IsSetLine};
+ghost use Rattle.mps_reader.specs.Taking.{IsSetKept, IsSetLine, set_owner};
 
 use crate::draft::{Draft, Sets};
 use crate::entries::{Owner, take_entries};
@@ -30,11 +30,13 @@ fn owner_of(
     sets: &mut Sets,
     section: Section,
     set: &str,
-) -> Result<Owner, AllocError> {
-    if section == Section::Ranges {
-        Ok(Owner::Ranges(keep_set(alloc, &mut sets.ranges, set)?))
-    } else {
-        Ok(Owner::RightSides(keep_set(alloc, &mut sets.right_sides, set)?))
+) -> Result<Owner, AllocError>
+    ensures owner { IfOk result (λ owner. owner ≡ set_owner section sets.old set.now) }
+    ensures kept { OnOk result (IsSetKept section set.now sets.old sets.new) }
+{
+    match section {
+        Section::Ranges => Ok(Owner::Ranges(keep_set(alloc, &mut sets.ranges, set)?)),
+        _ => Ok(Owner::RightSides(keep_set(alloc, &mut sets.right_sides, set)?)),
     }
 }
 

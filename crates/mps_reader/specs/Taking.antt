@@ -4,7 +4,7 @@ use Rattle.std.specs.Option.{option_map_or, is_some}
 use Rattle.ip_defs.specs.Lists.{first_of, last_of, is_among, when, after_those}
 use Rattle.ip_defs.specs.Numbers.{decimals_of, is_number, number_of}
 use Rattle.ip_defs.specs.Faults.{entry_faults}
-use Rattle.ip_defs.specs.Records.{Line, Entry, set_of, row_lines, row_name, column_names, is_kept, is_kept_set, kept_entries}
+use Rattle.ip_defs.specs.Records.{Line, Entry, set_of, is_marker, column_name, row_lines, row_name, column_names, is_kept, is_kept_set, kept_entries}
 use Rattle.ip_defs.specs.declared.texts.Number.{Number}
 use Rattle.ip_defs.specs.declared.texts.MpsError.{MpsError}
 use Rattle.ip_defs.specs.declared.texts.MpsError.TheVariants as Out
@@ -12,10 +12,11 @@ use Rattle.mps_reader.specs.declared.sections.Section.{Section}
 use Rattle.mps_reader.specs.declared.sections.Section.TheVariants as Sections
 use Rattle.mps_reader.specs.declared.draft.RowDraft.{RowDraft}
 use Rattle.mps_reader.specs.declared.draft.RowTable.{RowTable}
+use Rattle.mps_reader.specs.declared.draft.ColumnTable.{ColumnTable}
 use Rattle.mps_reader.specs.declared.draft.Sets.{Sets}
 use Rattle.mps_reader.specs.declared.entries.Owner.{Owner}
 use Rattle.mps_reader.specs.declared.entries.Owner.TheVariants.{Column, RightSides, Ranges}
-use Rattle.mps_reader.specs.Progress.{RowsStand, EntriesStand}
+use Rattle.mps_reader.specs.Progress.{RowsStand, EntriesStand, ColumnsStand, BoundsStand}
 
 -- what taking a part of a line answers: it has none of its faults and then P holds, or its first fault is the answer; want of memory
 -- is free
@@ -122,3 +123,24 @@ set_owner section s set = RightSides (bytes_eq (unwrap_or (option_map string_byt
 abbrev pub IsSetKept : Section → List ℕ → Sets → Sets → Type 0
 IsSetKept Sections.Ranges set old new = (new.right_sides ≡ old.right_sides) × (option_map string_bytes new.ranges ≡ Some (unwrap_or (option_map string_bytes old.ranges) set)) × (new.bounds ≡ old.bounds)
 IsSetKept section set old new = (option_map string_bytes new.right_sides ≡ Some (unwrap_or (option_map string_bytes old.right_sides) set)) × (new.ranges ≡ old.ranges) × (new.bounds ≡ old.bounds)
+
+-- a marker's word begins what is not in force, or ends what is
+abbrev pub is_right_marker : Bool → List ℕ → Bool
+is_right_marker in_force word = (bytes_eq word (codes "'INTORG'") && not in_force) || (bytes_eq word (codes "'INTEND'") && in_force)
+
+-- the columns after a marker
+abbrev pub IsMarked : ColumnTable → ColumnTable → List ℕ → Type 0
+IsMarked old new word = new ≡ record old { in_integers = bytes_eq word (codes "'INTORG'"); «open» = None }
+
+-- a column is begun
+pub record IsColumnAdded (name : List ℕ) (old new : ColumnTable) : Type 0 where
+  pub names : map string_bytes new.names.keys ≡ map string_bytes old.names.keys ++ name ∷ []
+  pub columns : new.columns.items ≡ old.columns.items ++ record { is_integer = old.in_integers; lower = None; upper = None } ∷ []
+  pub in_integers : new.in_integers ≡ old.in_integers
+  pub open_is : new.open ≡ Some (length old.columns.items)
+
+-- the columns stand after a line of the last column, by its number
+pub record IsColumnOpen (before : List Line) (l : Line) (number : ℕ) (t : ColumnTable) : Type 0 where
+  pub columns : ColumnsStand (before ++ l ∷ []) t
+  pub bounds : BoundsStand (before ++ l ∷ []) t.columns.items
+  pub last : IsLast (column_names (before ++ l ∷ [])) (column_name l) number

@@ -22,7 +22,7 @@ and_left : (a b : Bool) → (a && b) ≡ true → a ≡ true
 and_left true b h = refl
 and_left false b h = h
 
-and_right : (a b : Bool) → (a && b) ≡ true → b ≡ true
+pub and_right : (a b : Bool) → (a && b) ≡ true → b ≡ true
 and_right true b h = h
 and_right false b h = absurd (true_not_false (sym h))
 
@@ -134,7 +134,7 @@ most-own es e name h =
     let one = most_of_one e name true h in
     omega arith
 
-written_in-snoc : (es : List Entry) (row : List ℕ) (cs : List (List ℕ)) (c : List ℕ) → written_in es (cs ++ c ∷ []) row ≡ written_in es cs row ++ cons_option (placed es row (0 + length cs, c)) []
+pub written_in-snoc : (es : List Entry) (row : List ℕ) (cs : List (List ℕ)) (c : List ℕ) → written_in es (cs ++ c ∷ []) row ≡ written_in es cs row ++ cons_option (placed es row (0 + length cs, c)) []
 written_in-snoc es row cs c = ap (filter_map (placed es row)) (enumerate-append 0 cs (c ∷ [])) ∙ filter_map-append (placed es row) (enumerate_from 0 cs) ((0 + length cs, c) ∷ [])
 
 nothing_found : {A B : Type 0} (f : A → B) (o : Option A) → option_map f o ≡ None → o ≡ None

@@ -1,4 +1,5 @@
 pub mod ClampLaws
+pub mod ColumnLaws
 pub mod CountLaws
 pub mod EntryLaws
 pub mod FaultLaws

@@ -9,6 +9,7 @@ pub mod GrowthLaws
 pub mod LineLaws
 pub mod ModelLaws
 pub mod NameLaws
+pub mod OpenLaws
 pub mod PlaceLaws
 pub mod RowLaws
 pub mod SectionLaws

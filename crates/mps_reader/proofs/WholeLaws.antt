@@ -34,7 +34,7 @@ use Rattle.mps_reader.specs.Drafted.{column_names as drafted_names}
 use Rattle.mps_reader.specs.Finished.{HasCounts, IsDrafted, IsFinished, IsLimited}
 use Rattle.mps_reader.specs.How.{IsHow}
 use Rattle.mps_reader.specs.Progress.{Stands, ColumnStands, section_word, kind_word, upper_said}
-use Rattle.mps_reader.proofs.EntryLaws.{entries_below, entries_within, written_for_below, coefs_ordered}
+use Rattle.mps_reader.proofs.WrittenLaws.{entries_below, entries_within, written_for_below, coefs_ordered}
 use Rattle.mps_reader.proofs.FaultLaws.{first_later}
 use Rattle.mps_reader.proofs.FinishLaws.{mapped_count}
 use Rattle.mps_reader.proofs.LimitedLaws.{count_columns}

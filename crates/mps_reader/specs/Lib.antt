@@ -6,3 +6,4 @@ pub mod Finished
 pub mod How
 pub mod Progress
 pub mod Reading
+pub mod Taking

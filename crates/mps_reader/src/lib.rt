@@ -6,6 +6,7 @@ mod clamps;
 mod column_list;
 mod columns;
 mod draft;
+mod entries;
 mod fields;
 mod finish;
 mod lines;

@@ -1,133 +1,111 @@
-use crate::numbers::{Field, field_of};
+ghost use Rattle.std.specs.Prelude.{[]};
+ghost use Rattle.mps_reader.specs.Progress.{Stands};
+
 use crate::sections::Section;
 use indexmap::IndexSet;
-use ip_defs::{MpsError, Name};
-use std::alloc::{AllocError, Global};
+use ip_defs::Number;
+use std::alloc::Global;
 
 /// The kind of a row.
 #[derive(Clone, Copy, Debug, PartialEq, Eq)]
 pub enum RowKind {
+    /// No sides: the objective, or a row that is dropped.
+    Free,
+    /// At most its right side.
     AtMost,
+    /// At least its right side.
     AtLeast,
+    /// Equal to its right side.
     Equal,
 }
 
-/// A row so far: its entries by column number, zeros among them, and its right side.
+/// A row so far: its kept entries by column number, zeros among them, its kept right side and range, and the most decimals of these.
 #[derive(Drop)]
 pub struct RowDraft {
     pub kind: RowKind,
-    pub entries: Vec<(u32, i64)>,
-    pub right_side: Option<i64>,
+    pub entries: Vec<(usize, Number)>,
+    pub right_side: Option<Number>,
+    pub range: Option<Number>,
+    pub decimals: u32,
 }
 
-/// A column so far.
+/// The rows so far, by number, dropped ones among them. The set gives the number of a name.
 #[derive(Drop)]
-pub struct ColumnDraft {
-    pub cost: Option<i64>,
-    pub lower: i64,
-    pub upper: Option<i64>,
+pub struct RowTable {
+    pub names: IndexSet<String>,
+    pub rows: Vec<RowDraft>,
+    /// The first free row.
+    pub objective: Option<usize>,
 }
 
-/// What was read of a text so far. Rows and columns go by number, and the two sets give the numbers of their names.
+/// What the last bound for an upper side says: the side that it gives, and whether it is UP or UI with a negative number.
+#[derive(Clone, Copy, Debug)]
+pub struct UpperBound {
+    pub side: Option<i128>,
+    pub is_negative: bool,
+}
+
+/// A column so far: whether it is known to be integer, the side that the last bound for its lower side gives, and the last bound for
+/// its upper side.
+#[derive(Clone, Copy, Debug)]
+pub struct ColumnDraft {
+    pub is_integer: bool,
+    pub lower: Option<Option<i128>>,
+    pub upper: Option<UpperBound>,
+}
+
+/// The columns so far, by number. The set gives the number of a name.
+#[derive(Drop)]
+pub struct ColumnTable {
+    pub names: IndexSet<String>,
+    pub columns: Vec<ColumnDraft>,
+    /// Whether the last marker begins integer columns.
+    pub in_integers: bool,
+    /// The column of the last line of COLUMNS, where that is no marker.
+    pub open: Option<usize>,
+}
+
+/// The names of the kept sets: those of the first data line of each section.
+#[derive(Drop)]
+pub struct Sets {
+    pub right_sides: Option<String>,
+    pub ranges: Option<String>,
+    pub bounds: Option<String>,
+}
+
+/// What was read of a text so far.
 #[derive(Drop)]
 pub struct Draft {
-    pub section: Option<Section>,
-    pub has_columns: bool,
-    pub objective: Option<String>,
-    pub row_names: IndexSet<String>,
-    pub rows: Vec<RowDraft>,
-    pub column_names: IndexSet<String>,
-    pub columns: Vec<ColumnDraft>,
-    pub in_integers: bool,
-    /// Whether the line before is one of the last column.
-    pub column_is_open: bool,
-    pub right_side_set: Option<String>,
-    pub bound_set: Option<String>,
-    /// The first line with a number field that is no number.
-    pub no_number: Option<u32>,
-}
-
-/// Where a name of a row leads.
-#[derive(Clone, Copy, Debug, PartialEq, Eq)]
-pub enum Target {
-    Objective,
-    Row(usize),
+    /// The sections so far, in order.
+    pub sections: Vec<Section>,
+    pub rows: RowTable,
+    pub columns: ColumnTable,
+    pub sets: Sets,
 }
 
 impl Draft {
-    pub fn new(alloc: Global) -> Draft {
+    /// The draft of no line.
+    pub fn new(alloc: Global) -> Draft
+        ensures { Stands [] result }
+    {
         Draft {
-            section: None,
-            has_columns: false,
-            objective: None,
-            row_names: IndexSet::new(alloc),
-            rows: Vec::new(alloc),
-            column_names: IndexSet::new(alloc),
-            columns: Vec::new(alloc),
-            in_integers: false,
-            column_is_open: false,
-            right_side_set: None,
-            bound_set: None,
-            no_number: None,
+            sections: Vec::new(alloc),
+            rows: RowTable {
+                names: IndexSet::new(alloc),
+                rows: Vec::new(alloc),
+                objective: None,
+            },
+            columns: ColumnTable {
+                names: IndexSet::new(alloc),
+                columns: Vec::new(alloc),
+                in_integers: false,
+                open: None,
+            },
+            sets: Sets {
+                right_sides: None,
+                ranges: None,
+                bounds: None,
+            },
         }
     }
-
-    /// The objective or the row of a name.
-    pub fn target_of(&self, name: &str) -> Option<Target> {
-        match &self.objective {
-            Some(objective) => {
-                if objective.as_str() == name {
-                    return Some(Target::Objective);
-                }
-            }
-            None => {}
-        }
-        self.row_names.get_index_of(name).map(Target::Row)
-    }
-
-    /// The number of a field, 0 where it is none: the line is noted then. A number that is not whole is not plain.
-    pub fn number_of(&mut self, line: u32, field: &str) -> Result<i64, MpsError> {
-        match field_of(field) {
-            Field::Whole(number) => Ok(number),
-            Field::Other => Err(MpsError::NotBuilt),
-            Field::NoNumber => {
-                if self.no_number.is_none() {
-                    self.no_number = Some(line);
-                }
-                Ok(0)
-            }
-        }
-    }
-
-    /// A row of ROWS: its kind and its name.
-    pub fn take_row(&mut self, alloc: Global, kind: &str, name: &str) -> Result<(), MpsError> {
-        if name == "'MARKER'" || self.target_of(name).is_some() {
-            return Err(MpsError::NotBuilt);
-        }
-        let kind = match kind {
-            "N" => {
-                if self.objective.is_some() {
-                    return Err(MpsError::NotBuilt);
-                }
-                self.objective = Some(String::from_str(alloc, name)?);
-                return Ok(());
-            }
-            "L" => RowKind::AtMost,
-            "G" => RowKind::AtLeast,
-            "E" => RowKind::Equal,
-            _ => return Err(MpsError::NotBuilt),
-        };
-        self.row_names.insert(String::from_str(alloc, name)?)?;
-        self.rows.push(RowDraft {
-            kind,
-            entries: Vec::new(alloc),
-            right_side: None,
-        })?;
-        Ok(())
-    }
-}
-
-/// A name of a model.
-pub fn name_of(alloc: Global, text: &str) -> Result<Name, AllocError> {
-    Ok(Name::new(String::from_str(alloc, text)?))
 }

@@ -1,16 +1,25 @@
 //! Reads integer programs from MPS texts.
-//!
-//! Today the plain texts alone are read: integer columns between markers, whole numbers, the bounds LO, UP and BV, no ranges.
 #![tactic(auto)]
 
 mod bounds;
+mod clamps;
+mod column_list;
 mod columns;
 mod draft;
+mod entries;
 mod fields;
+mod finish;
 mod lines;
-mod numbers;
+
 mod reader;
+mod right_sides;
+mod rounding;
+mod row_list;
+mod rows;
 mod sections;
+mod sets;
+mod texts;
+mod whole;
 
 pub use ip_defs::{How, MpsError, Side};
-pub use reader::read;
+pub use texts::read;

@@ -1,0 +1,1 @@
+use Rattle.mps_reader.proofs.texts.read.Goals as goal

@@ -1,5 +1,6 @@
 pub mod ClampLaws
 pub mod ColumnLaws
+pub mod ColumnLineLaws
 pub mod CountLaws
 pub mod EntryLaws
 pub mod FaultLaws

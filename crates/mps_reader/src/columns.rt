@@ -1,4 +1,5 @@
-ghost use Rattle.std.specs.Prelude.{◌≡◌, ◌∷◌, ◌&&◌, ◌||◌, ℕ, [], List, IfOk, None, OnOk, bytes_eq, codes, length, map, not, position, slice_index_or, string_bytes, true, false};
+ghost use Rattle.std.specs.Prelude.{◌≡◌, ◌==◌, ◌∷◌, ◌&&◌, ◌||◌, ℕ, [], List, IfOk, None, OnOk, bytes_eq, codes, length, map, not, position, slice_index_or, string_bytes, true, false};
+ghost use Rattle.std.specs.Option.{option_map_or};
 ghost use Rattle.ip_defs.specs.Lists.{is_among, when};
 ghost use Rattle.ip_defs.specs.Records.{Line, column_name, is_marker as is_marker_of, items_of, words_of};
 ghost use Rattle.ip_defs.specs.Faults.{is_split};
@@ -47,6 +48,18 @@ fn take_marker_line(draft: &mut Draft, line: u32, fields: &[&str]) -> Result<(),
     }
 }
 
+impl ColumnTable {
+    /// Whether the last line is one of a column.
+    fn is_open(&self, number: usize) -> bool
+        ensures { result ≡ option_map_or (λ j. j == number) self.now.open false }
+    {
+        match self.open {
+            Some(open) => open == number,
+            None => false,
+        }
+    }
+}
+
 /// Begins a column, and answers its number.
 fn add_column(alloc: Global, columns: &mut ColumnTable, name: &str) -> Result<usize, AllocError>
     requires { position (λ k. bytes_eq name.now (string_bytes k)) columns.old.names.keys ≡ None }
@@ -75,7 +88,7 @@ fn open_column(
 {
     match columns.names.get_index_of(name) {
         Some(number) => {
-            if columns.open == Some(number) {
+            if columns.is_open(number) {
                 Ok(number)
             } else {
                 Err(MpsError::SplitColumn { line })

@@ -1,6 +1,9 @@
 -- A line of COLUMNS.
 use Rattle.std.specs.Prelude.{◌≡◌, ℕ, zero, suc, ◌==◌, ◌<◌, Bool, true, false, cond, not, ◌&&◌, ◌||◌, if◌then◌else◌, List, [], ◌∷◌, ◌++◌, length, drop, map, slice_index_or, Option, None, Some, bytes_eq, codes, Result, Ok, Err, refl}
-use Rattle.std.proofs.Common.{arith, ap, sym, ◌∙◌, subst, get_or, Bor}
+use Rattle.std.proofs.Common.{arith, ap, sym, ◌∙◌, ◌-◌, subst, take, get_or, Bor}
+use Rattle.std.proofs.lemmas.Bool.{eqb-true}
+use Rattle.std.proofs.lemmas.List.{length-map}
+use Rattle.std.proofs.Math.Seq.{take-length}
 use Rattle.ip_defs.specs.Lists.{first_of, when, is_among}
 use Rattle.ip_defs.specs.Records.{Line, Entry, field, items_of, words_of, row_lines, row_name, column_name, column_names, has_column, is_marker, in_force, all_entries, entries_of, entries_from, kept_entries}
 use Rattle.ip_defs.specs.Faults.{line_faults, marker_faults, pair_faults, is_split, all_line_faults}
@@ -13,7 +16,7 @@ use Rattle.mps_reader.specs.declared.entries.Owner.{Owner}
 use Rattle.mps_reader.specs.declared.entries.Owner.TheVariants.{Column, RightSides, Ranges}
 use Rattle.mps_reader.specs.Progress.{EntriesStand, Stands, IsTaken, item}
 use Rattle.mps_reader.specs.Taking.{IsDone, RowsHave, IsMarked, IsColumnOpen, is_right_marker, faults_after}
-use Rattle.mps_reader.proofs.GrowthLaws.{append_nil, column_names-add}
+use Rattle.mps_reader.proofs.GrowthLaws.{true_not_false, append_nil, column_names-add}
 use Rattle.mps_reader.proofs.StayLaws.{column_names_stay, sections_stay, rows_stand_stay, sets_stay}
 use Rattle.mps_reader.proofs.TakingLaws.{IsDone_map, stopped}
 use Rattle.mps_reader.proofs.TableLaws.{words}
@@ -26,6 +29,22 @@ pub word_at : (xs : List (Bor (List ℕ))) (i : ℕ) (d : Bor (List ℕ)) → i 
 word_at [] i d h = absurd (omega arith)
 word_at (x ∷ xs) zero d h = refl
 word_at (x ∷ xs) (suc i) d h = word_at xs i d (omega arith)
+
+-- the fields of one or two entries
+pub one_or_two : (xs : List (Bor (List ℕ))) → ((length xs == 3) || (length xs == 5)) ≡ true → (((length (words xs) == 3) || ((length (words xs) == 5) && true)) ≡ true) × (0 < length xs)
+one_or_two xs h = by (length xs == 3) refl (length xs == 5) refl h
+  where
+    same : length (words xs) ≡ length xs
+    same = length-map xs (λ (f : Bor (List ℕ)). f.now)
+
+    by : (a : Bool) → (length xs == 3) ≡ a → (b : Bool) → (length xs == 5) ≡ b → (a || b) ≡ true → (((length (words xs) == 3) || ((length (words xs) == 5) && true)) ≡ true) × (0 < length xs)
+    by true e b f g = (ap (λ k. (k == 3) || ((k == 5) && true)) same ∙ ap (λ t. t || ((length xs == 5) && true)) e, (let size = eqb-true (length xs) 3 e in omega arith))
+    by false e true f g = (ap (λ k. (k == 3) || ((k == 5) && true)) same ∙ ap (λ t. t || ((length xs == 5) && true)) e ∙ ap (λ t. t && true) f, (let size = eqb-true (length xs) 5 f in omega arith))
+    by false e false f g = absurd (true_not_false (sym g))
+
+pub rest_words : (xs : List (Bor (List ℕ))) → words (take (length xs - 1) (drop 1 xs)) ≡ drop 1 (words xs)
+rest_words [] = refl
+rest_words (x ∷ xs) = (let size : length (x ∷ xs) - 1 ≡ length xs = omega arith in ap words (ap (λ n. take n xs) size ∙ take-length xs))
 
 -- the faults of a line with a right number of fields, where ROWS came
 column_line_faults : (before : List Line) (n : ℕ) (fields : List (List ℕ)) (m : Bool) → is_among (codes "ROWS") (words_of before) ≡ true → is_marker (column_item n fields) ≡ m → ((length fields == 3) || ((length fields == 5) && not m)) ≡ true
@@ -106,13 +125,13 @@ rows_wait before d n fields plain h = subst Waits (sym names) (by (has_column be
     by false new = subst Waits (sym (ap (λ b. column_names before ++ when (not b) (column_name l)) new)) (entries_wait before (kept_entries (codes "RHS") before) (kept_entries (codes "RANGES") before) (column_name l) (map row_name (row_lines before)) d.rows.rows.items new h.entries)
 
 -- the column is split
-pub split_line : (before : List Line) (n : ℕ) (fields : List (List ℕ)) (new : Draft) (P : ℕ → Type 0) (r : Result (Unit {0}) MpsError) (e : MpsError) → ((length fields == 3) || ((length fields == 5) && true)) ≡ true → is_among (codes "ROWS") (words_of before) ≡ true
-    → is_marker (column_item n fields) ≡ false → r ≡ Err e → IsDone (when (is_split before (column_item n fields)) (Out.SplitColumn n)) P (Err e) → IsTaken before (column_item n fields) new r
-split_line before n fields new P r e count rows plain is done =
+pub split_line : (before : List Line) (n : ℕ) (fields : List (List ℕ)) (new : Draft) (columns : ColumnTable) (r : Result (Unit {0}) MpsError) (e : MpsError) → ((length fields == 3) || ((length fields == 5) && true)) ≡ true → is_among (codes "ROWS") (words_of before) ≡ true
+    → is_marker (column_item n fields) ≡ false → r ≡ Err e → IsDone (when (is_split before (column_item n fields)) (Out.SplitColumn n)) (λ j. IsColumnOpen before (column_item n fields) j columns) (Err e) → IsTaken before (column_item n fields) new r
+split_line before n fields new columns r e count rows plain is done =
     let l = column_item n fields in
     taken before l new r
         (subst (λ fs. IsDone fs (λ _. Stands (before ++ l ∷ []) new) r) (sym (column_line_faults before n fields false rows plain count))
-            (stopped (when (is_split before l) (Out.SplitColumn n)) (pair_faults before l) P (λ _. Stands (before ++ l ∷ []) new) r e is done))
+            (stopped (when (is_split before l) (Out.SplitColumn n)) (pair_faults before l) (λ (j : ℕ). IsColumnOpen before l j columns) (λ _. Stands (before ++ l ∷ []) new) r e is done))
 
 pub entry_line : (before : List Line) (d : Draft) (n : ℕ) (fields entries : List (List ℕ)) (rows : RowTable) (columns : ColumnTable) (number : ℕ) (r : Result (Unit {0}) MpsError) → ((length fields == 3) || ((length fields == 5) && true)) ≡ true → Stands before d
     → is_among (codes "COLUMNS") (words_of before) ≡ true → is_among (codes "ROWS") (words_of before) ≡ true → is_marker (column_item n fields) ≡ false → entries ≡ drop 1 fields

@@ -305,3 +305,8 @@ begun before t new n fields plain h bounds no_bounds at added = record {
             (λ size is. get_of_more t.columns.items fresh j c (ColumnStands (before ++ l ∷ []) other c) (ap (λ k. slice_get k j) (sym added.columns) ∙ there)
                 (λ was. absurd (let within = slice_get_within t.columns.items j c was in let count = h.count in omega arith))
                 (λ _ made. subst (λ x. ColumnStands (before ++ l ∷ []) x c) is (subst (ColumnStands (before ++ l ∷ []) name) made new_column)))
+
+-- a number that an option has
+pub opened_at : (o : Option ℕ) (j : ℕ) → option_map_or (λ i. i == j) o false ≡ true → o ≡ Some j
+opened_at None j h = absurd (true_not_false (sym h))
+opened_at (Some i) j h = ap Some (eqb-true i j h)

@@ -98,6 +98,13 @@ fn open_column(
     }
 }
 
+/// Whether a line of a column has the fields of one or two entries.
+fn has_entries(fields: &[&str]) -> bool
+    ensures { result ≡ (length fields.now == 3) || (length fields.now == 5) }
+{
+    fields.len() == 3 || fields.len() == 5
+}
+
 /// Takes a line with one or two entries of a column: FieldCount comes first, then SplitColumn, then what is wrong with each entry.
 fn take_entry_line(
     alloc: Global,
@@ -107,7 +114,7 @@ fn take_entry_line(
 ) -> Result<(), MpsError>
     ensures { (before : List Line) → Stands before draft.old → is_among (codes "COLUMNS") (words_of before) ≡ true → is_among (codes "ROWS") (words_of before) ≡ true → items_of (codes "BOUNDS") before ≡ [] → is_marker_of (item (codes "COLUMNS") line (map (λ f. f.now) fields.now)) ≡ false → IsTaken before (item (codes "COLUMNS") line (map (λ f. f.now) fields.now)) draft.new result }
 {
-    if fields.len() != 3 && fields.len() != 5 {
+    if !has_entries(fields) {
         return Err(MpsError::FieldCount { line });
     }
     let number = open_column(alloc, &mut draft.columns, line, fields[0])?;

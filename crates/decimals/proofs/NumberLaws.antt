@@ -1,13 +1,14 @@
 -- Digits as numbers, one more at a time; the digits of a rest; and the number of a fraction in its least decimals.
 use Rattle.std.specs.Prelude.{◌≡◌, ℕ, zero, suc, ◌+◌, ◌-◌, ◌*◌, ◌^◌, ◌<◌, ◌≤◌, Bool, true, false, ◌&&◌, ◌||◌, not, ◌==◌, ◌/◌, ◌%◌, if◌then◌else◌, nat_le, List, [], ◌∷◌, ◌++◌, length, take, drop, cond, ℤ, pos, negsuc, IfSome, ◌*ℤ◌}
 use Rattle.std.specs.List.{list_all, list_any, before_first, after_first, position_or_len}
-use Rattle.std.specs.Int.RustNames.{unsigned_abs}
+use Rattle.std.specs.Int.{w128}
+use Rattle.std.specs.Int.RustNames.{unsigned_abs, FitsSigned}
 use Rattle.std.proofs.Common.{refl, arith, ap, sym, ◌∙◌, get_or, add-one, append_assoc, leb-false}
 use Rattle.std.proofs.Math.Nat.{pow-suc, mul_assoc, mul_comm, mul-le-mul_left, mul-lt-mul_of_pos_right, pow-le-pow_right}
 use Rattle.std.proofs.lemmas.Nat.{div_below, pow-add}
 use Rattle.std.proofs.lemmas.Bool.{leb-true, eqb-true}
 use Rattle.std.proofs.lemmas.List.{take_more, length-take, length-drop}
-use Rattle.std.proofs.lemmas.Int.{unsigned_abs-mul}
+use Rattle.std.proofs.lemmas.Int.{unsigned_abs-mul, ints}
 use Rattle.decimals.proofs.DecimalLaws.{ten_positive, least_units, units-none, units-keep, units-drop, least-keep, least-drop}
 use Rattle.ip_defs.specs.Lists.{where_true}
 use Rattle.ip_defs.specs.Numbers.{is_number, is_infinity, is_minus, number_of, fraction_of, is_digit, is_point, is_exponent_mark, is_exponent, is_numeral, without_sign, whole_part, rest_part, exponent_part, value_from, places, signed, number_from, least_decimals, over_tens}
@@ -143,6 +144,20 @@ scaled_size units written wanted h l most =
     let joined = ap (λ y. 10 ^ y) sum in
     let within = tens_rise (20 + wanted) 29 (omega arith) in
     omega arith
+
+-- units of more decimals fit, and so do those of fewer, which stay as they are
+pub more_units_fit : (units : ℤ) (written wanted more : ℕ) → unsigned_abs units < 10 ^ (20 + written) → FitsSigned w128 units → wanted ≤ 9 → more ≡ wanted - written → FitsSigned w128 (units *ℤ pos (10 ^ more))
+more_units_fit units written wanted more below fits most is = by (nat_le written wanted) refl
+  where
+    one : units *ℤ pos 1 ≡ units
+    one = omega (arith, ints)
+
+    by : (t : Bool) → nat_le written wanted ≡ t → FitsSigned w128 (units *ℤ pos (10 ^ more))
+    by true e = let size = scaled_size units written wanted below (leb-true written wanted e) most in rw is (omega (arith, ints))
+    by false e =
+        let less = leb-false written wanted e in
+        let none : more ≡ 0 = omega arith in
+        rw (none, one) fits
 
 -- one more digit of a rest is written
 pub place_written : (all before now encoded : List ℕ) (left rest place whole below letter : ℕ) → all ≡ before ++ places left rest → (rest ≡ 0 → ⊥) → rest < 10 ^ left → place ≡ left - 1 → whole ≡ rest / 10 ^ place → below ≡ rest % 10 ^ place → letter ≡ 48 + whole → (letter < 128 → encoded ≡ letter ∷ []) → now ≡ before ++ encoded → (all ≡ now ++ places (left - 1) below) × (below < 10 ^ (left - 1))

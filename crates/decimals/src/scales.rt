@@ -1,7 +1,9 @@
 ghost use Rattle.std.specs.Prelude.{◌≡◌, ◌^◌, ◌<◌, ◌≤◌, ◌*ℤ◌, pos};
 ghost use Rattle.std.specs.Int.{w128};
 ghost use Rattle.std.specs.Int.RustNames.{FitsSigned};
-ghost use Rattle.ip_defs.specs.Numbers.{scaled_lem};
+ghost use Rattle.std.specs.Prelude.{◌+◌};
+ghost use Rattle.ip_defs.specs.Numbers.{scaled_lem, signed};
+ghost use Rattle.ip_defs.specs.TextModels.{units as units_of};
 ghost use Rattle.decimals.specs.Decimals.{IsBelowLarge};
 
 use ip_defs::Number;
@@ -35,5 +37,30 @@ pub fn scaled(number: Number, decimals: u8) -> Option<i128>
             }
         }
         Number::Large { .. } => None,
+    }
+}
+
+/// 10^20 of the written units, with a sign.
+fn large_units(negative: bool, decimals: u8) -> i128
+    requires { decimals ≤ 9 }
+    ensures { result ≡ signed negative (10 ^ (20 + decimals)) }
+{
+    let size = 10_i128.pow(20 + u32::from(decimals));
+    if negative { -size } else { size }
+}
+
+/// A number in units of `10^-decimals`, at least as many as it has. A Large one stands for 10^20 of the written units with its sign,
+/// which passes every limit of a model.
+pub fn units(number: Number, decimals: u8) -> i128
+    requires decimals { decimals ≤ 9 }
+    requires below { IsBelowLarge number }
+    ensures { result ≡ units_of decimals number }
+{
+    match number {
+        Number::Dec {
+            units,
+            decimals: written,
+        } => times_tens(units, u32::from(decimals).saturating_sub(written)),
+        Number::Large { negative } => large_units(negative, decimals),
     }
 }

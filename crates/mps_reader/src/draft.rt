@@ -23,7 +23,7 @@ pub enum RowKind {
 #[derive(Drop)]
 pub struct RowDraft {
     pub kind: RowKind,
-    pub entries: Vec<(u32, Number)>,
+    pub entries: Vec<(usize, Number)>,
     pub right_side: Option<Number>,
     pub range: Option<Number>,
     pub decimals: u32,

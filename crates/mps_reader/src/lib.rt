@@ -2,15 +2,21 @@
 #![tactic(auto)]
 
 mod bounds;
+mod clamps;
+mod column_list;
 mod columns;
 mod draft;
+mod entries;
 mod fields;
+mod finish;
 mod lines;
 mod reader;
 mod right_sides;
 mod rounding;
+mod row_list;
 mod rows;
 mod sections;
 mod sets;
+mod whole;
 
 pub use ip_defs::{How, MpsError, Side};

@@ -1,6 +1,7 @@
 pub mod BoundLaws
 pub mod ClampLaws
 pub mod ColumnLaws
+pub mod ColumnLineLaws
 pub mod CountLaws
 pub mod EntryLaws
 pub mod FaultLaws

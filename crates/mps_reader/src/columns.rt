@@ -1,4 +1,5 @@
-ghost use Rattle.std.specs.Prelude.{◌≡◌, ◌∷◌, ◌&&◌, ◌||◌, ℕ, [], List, IfOk, None, OnOk, bytes_eq, codes, length, map, not, position, slice_index_or, string_bytes, true, false};
+ghost use Rattle.std.specs.Prelude.{◌≡◌, ◌==◌, ◌∷◌, ◌&&◌, ◌||◌, ℕ, [], List, IfOk, None, OnOk, bytes_eq, codes, length, map, not, position, slice_index_or, string_bytes, true, false};
+ghost use Rattle.std.specs.Option.{option_map_or};
 ghost use Rattle.ip_defs.specs.Lists.{is_among, when};
 ghost use Rattle.ip_defs.specs.Records.{Line, column_name, is_marker as is_marker_of, items_of, words_of};
 ghost use Rattle.ip_defs.specs.Faults.{is_split};
@@ -47,6 +48,18 @@ fn take_marker_line(draft: &mut Draft, line: u32, fields: &[&str]) -> Result<(),
     }
 }
 
+impl ColumnTable {
+    /// Whether the last line is one of a column.
+    fn is_open(&self, number: usize) -> bool
+        ensures { result ≡ option_map_or (λ j. j == number) self.now.open false }
+    {
+        match self.open {
+            Some(open) => open == number,
+            None => false,
+        }
+    }
+}
+
 /// Begins a column, and answers its number.
 fn add_column(alloc: Global, columns: &mut ColumnTable, name: &str) -> Result<usize, AllocError>
     requires { position (λ k. bytes_eq name.now (string_bytes k)) columns.old.names.keys ≡ None }
@@ -75,7 +88,7 @@ fn open_column(
 {
     match columns.names.get_index_of(name) {
         Some(number) => {
-            if columns.open == Some(number) {
+            if columns.is_open(number) {
                 Ok(number)
             } else {
                 Err(MpsError::SplitColumn { line })
@@ -83,6 +96,13 @@ fn open_column(
         }
         None => Ok(add_column(alloc, columns, name)?),
     }
+}
+
+/// Whether a line of a column has the fields of one or two entries.
+fn has_entries(fields: &[&str]) -> bool
+    ensures { result ≡ (length fields.now == 3) || (length fields.now == 5) }
+{
+    fields.len() == 3 || fields.len() == 5
 }
 
 /// Takes a line with one or two entries of a column: FieldCount comes first, then SplitColumn, then what is wrong with each entry.
@@ -94,7 +114,7 @@ fn take_entry_line(
 ) -> Result<(), MpsError>
     ensures { (before : List Line) → Stands before draft.old → is_among (codes "COLUMNS") (words_of before) ≡ true → is_among (codes "ROWS") (words_of before) ≡ true → items_of (codes "BOUNDS") before ≡ [] → is_marker_of (item (codes "COLUMNS") line (map (λ f. f.now) fields.now)) ≡ false → IsTaken before (item (codes "COLUMNS") line (map (λ f. f.now) fields.now)) draft.new result }
 {
-    if fields.len() != 3 && fields.len() != 5 {
+    if !has_entries(fields) {
         return Err(MpsError::FieldCount { line });
     }
     let number = open_column(alloc, &mut draft.columns, line, fields[0])?;

@@ -1,9 +1,13 @@
 -- First faults of lists that are put together.
-use Rattle.std.specs.Prelude.{◌≡◌, ℕ, not, flat_map, List, [], ◌∷◌, ◌++◌, Option, Some, None, Result, Ok, Err}
+use Rattle.std.specs.Prelude.{◌≡◌, ℕ, true, if◌then◌else◌, not, flat_map, List, [], ◌∷◌, ◌++◌, Option, Some, None, Result, Ok, Err}
 use Rattle.std.proofs.Common.{refl, ap, sym, ◌∙◌, subst}
 use Rattle.std.specs.Option.{is_none}
 use Rattle.ip_defs.specs.Lists.{first_of, when}
-use Rattle.ip_defs.specs.Records.{Line, objective, column_names}
+use Rattle.ip_defs.specs.Records.{Line, lines_of, objective, column_names}
+use Rattle.std.specs.Str.{is_utf8}
+use Rattle.ip_defs.specs.Runs.{ReadMeets}
+use Rattle.ip_defs.specs.declared.programs.Parts.{Parts}
+use Rattle.mps_reader.specs.Finished.{IsFinished}
 use Rattle.ip_defs.specs.TextModels.{model_from}
 use Rattle.ip_defs.specs.declared.texts.How.{How}
 use Rattle.ip_defs.specs.declared.texts.MpsError.{MpsError}
@@ -91,3 +95,12 @@ line_first ls how e h =
     let g = flat_map (upper_faults ls) (column_names ls) in
     first_here (a ++ b ++ c ++ d ++ f ++ g) (limit_faults (model_from ls how)) e
     (first_here (a ++ b ++ c ++ d ++ f) g e (first_here (a ++ b ++ c ++ d) f e (first_here (a ++ b ++ c) d e (first_here (a ++ b) c e (first_here a b e h)))))
+
+-- what the lines of a text in UTF-8 answer is what the text answers
+pub read_model : (text : List ℕ) (how : How) (result : Result Parts MpsError) → is_utf8 text ≡ true → IsFinished (lines_of text) how result → ReadMeets text how result
+read_model text how (Ok m) good h = (ap (λ t. if t then first_of (faults_of_lines (lines_of text) how) else Some Out.NotUtf8) good ∙ h.0, h.1)
+read_model text how (Err e) good h = subst (λ t. IsFirst (if t then first_of (faults_of_lines (lines_of text) how) else Some Out.NotUtf8) e) (sym good) h
+
+-- and so is the first fault of its lines
+pub read_fault : (text : List ℕ) (how : How) (e : MpsError) → is_utf8 text ≡ true → IsFirst (first_of (all_line_faults (lines_of text))) e → ReadMeets text how (Err e)
+read_fault text how e good h = subst (λ t. IsFirst (if t then first_of (faults_of_lines (lines_of text) how) else Some Out.NotUtf8) e) (sym good) (line_first (lines_of text) how e h)

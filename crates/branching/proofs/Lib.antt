@@ -1,5 +1,6 @@
 pub mod OutcomeExamples
 pub mod OutcomeLaws
+pub mod AllowanceLaws
 pub mod BoxSizeLaws
 pub mod CountLaws
 pub mod TreeSizeLaws

@@ -27,7 +27,7 @@ use Rattle.branching.specs.declared.outcomes.Outcome.TheVariants.{Best, Empty, B
 use Rattle.branching.specs.declared.reasons.Why.{Why}
 use Rattle.branching.specs.declared.reasons.Why.TheVariants.{Stopped}
 use Rattle.branching.specs.OpenTrees.{PlainOpen, pending, stuck, ended, parted, Place, places, places_from, IsDone, tree_of, whys_of}
-use Rattle.branching.specs.Outcomes.{SomeOf, Pairwise, ClaimsPoint, IsFinished, IsRightOutcome, IsStopped, IsStuckNode, IsStuckAt}
+use Rattle.branching.specs.Outcomes.{HasOneStuck, SomeOf, Pairwise, ClaimsPoint, IsFinished, IsRightOutcome, IsStopped, IsStuckNode, IsStuckAt}
 use Rattle.branching.specs.Search.{Found, point_of, IsSound, Improves, IsAnswerOf, IsPartOf, IsSearchArea, IsSplit, ArePlacesOf, EndsBy, IsGrown}
 use Rattle.branching.specs.Splits.{IsReasoned, splits_over}
 use Rattle.branching.proofs.BoxSizeLaws.{cut_low, cut_high}
@@ -141,6 +141,7 @@ halves_grown m l d b col cut before mid after x y z left right stop deep halved 
     record {
       places = halves_places m l d b col cut left right before mid after y z deep halved first.places second.places (no_worse m y z first.sound second.sound second.improves);
       ends = halves_end l d b col cut Stopped left right after stop first.ends second.ends;
+      stuck = (let p = first.stuck in let q = second.stuck in omega arith);
       sound = second.sound;
       improves = improves_on x y z first.improves second.improves;
     }
@@ -155,7 +156,7 @@ no_stop (Some what) e = absurd cc
 
 -- what was found before is no better
 pub grown_from : (m : Parts) (l : Limits) (d : ℕ) (b : List (ℤ × ℤ)) (before after : ℕ) (e x y : Found) (t : PlainOpen) (stop : Option BudgetWhat) → Improves e x → IsGrown m l d b before after x y t stop → IsGrown m l d b before after e y t stop
-grown_from m l d b before after e x y t stop better g = record { places = g.places; ends = g.ends; sound = g.sound; improves = improves_on e x y better g.improves }
+grown_from m l d b before after e x y t stop better g = record { places = g.places; ends = g.ends; stuck = g.stuck; sound = g.sound; improves = improves_on e x y better g.improves }
 
 -- the search stopped in the first half
 pub first_grown : (m : Parts) (l : Limits) (d : ℕ) (b : List (ℤ × ℤ)) (col : ℕ) (cut : ℤ) (before after : ℕ) (x y : Found) (left : PlainOpen) (stop : Option BudgetWhat) → d < l.depth → IsSome stop → IsSplit m b col cut → IsGrown m l (d + 1) (below b col cut) (before + 2) after x y left stop → IsGrown m l d b before after x y (parted col cut Stopped left pending) stop
@@ -166,6 +167,7 @@ first_grown m l d b col cut before after x y left (Some what) deep some halved f
     record {
       places = halves_places m l d b col cut left pending before after after y y (omega arith) halved first.places (pending_places m l (suc d) (above b col cut) after y (omega arith) first.places.room) (no_worse_self m (point_of y));
       ends = first_half_ends l d b col cut Stopped left after what first.ends;
+      stuck = (let p = first.stuck in omega arith);
       sound = first.sound;
       improves = first.improves;
     }
@@ -230,3 +232,10 @@ end_is_right m l t after None (Best p whys) few shallow g made = absurd made
 end_is_right m l t after None (Budget what grown best) few shallow g made = absurd made
 end_is_right m l t after (Some y) (Empty p whys) few shallow g made = absurd made
 end_is_right m l t after (Some y) (Budget what grown best) few shallow g made = absurd made
+
+-- an answer has no stuck node to count
+pub answer_has_none : (t : PlainOpen) (best : Option (List ℤ)) (o : Outcome) → IsAnswerOf t best o → HasOneStuck o
+answer_has_none t best (Best p whys) made = tt
+answer_has_none t best (Empty p whys) made = tt
+answer_has_none t None (Budget what grown b) made = absurd made
+answer_has_none t (Some x) (Budget what grown b) made = absurd made

@@ -1,6 +1,6 @@
 -- Trees that are still being grown, as plain data: their nodes in preorder, each with its depth and its box, and what is left of them
 -- when no node is open.
-use Rattle.std.specs.Prelude.{ℕ, suc, List, [], ◌∷◌, ◌++◌, ℤ, pos}
+use Rattle.std.specs.Prelude.{ℕ, suc, ◌+◌, List, [], ◌∷◌, ◌++◌, ℤ, pos}
 use Rattle.ip_defs.specs.declared.certificates.Cert.{Cert}
 use Rattle.ip_defs.specs.declared.programs.Parts.{Parts}
 use Rattle.ip_defs.specs.Boxes.{below, above}
@@ -56,6 +56,13 @@ IsDone pending = ⊥
 IsDone (stuck why) = ⊥
 IsDone (ended c) = Unit {0}
 IsDone (parted col cut why left right) = IsDone left × IsDone right
+
+-- how many nodes are stuck
+abbrev pub stuck_count : PlainOpen → ℕ
+stuck_count pending = 0
+stuck_count (stuck why) = 1
+stuck_count (ended c) = 0
+stuck_count (parted col cut why left right) = stuck_count left + stuck_count right
 
 -- the certificate without multipliers, whose bound is the sum of a box
 abbrev pub plain_cert : Cert

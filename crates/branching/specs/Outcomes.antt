@@ -17,7 +17,7 @@ use Rattle.branching.specs.declared.budgets.BudgetWhat.TheVariants.{Nodes, Depth
 use Rattle.branching.specs.declared.outcomes.Outcome.{Outcome}
 use Rattle.branching.specs.declared.outcomes.Outcome.TheVariants.{Best, Empty, Budget}
 use Rattle.branching.specs.declared.reasons.Why.{Why}
-use Rattle.branching.specs.OpenTrees.{OpenNode, pending_node, stuck_node, ended_node, parted_node, Place, places, plain_open}
+use Rattle.branching.specs.OpenTrees.{OpenNode, pending_node, stuck_node, ended_node, parted_node, Place, places, plain_open, stuck_count}
 use Rattle.branching.specs.Splits.{split_at, splits_over, IsReasoned, IsStuckFor}
 
 -- some element of a list is so
@@ -99,6 +99,12 @@ abbrev pub IsRightOutcome : Parts → Limits → Outcome → Type 0
 IsRightOutcome m l (Best p whys) = ClaimsPoint p.claim × IsFinished m l p whys
 IsRightOutcome m l (Empty p whys) = (p.claim ≡ Claims.Empty) × IsFinished m l p whys
 IsRightOutcome m l (Budget what grown best) = IsStopped m l what (places m (plain_open grown)) best
+
+-- of a stop one node alone is stuck; each other open node is pending
+abbrev pub HasOneStuck : Outcome → Type 0
+HasOneStuck (Best p whys) = Unit {0}
+HasOneStuck (Empty p whys) = Unit {0}
+HasOneStuck (Budget what grown best) = stuck_count (plain_open grown) ≡ 1
 
 -- a claimed point is a least one
 abbrev pub ClaimsLeast : Parts → Claim → Type 0

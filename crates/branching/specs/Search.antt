@@ -25,7 +25,7 @@ use Rattle.branching.specs.declared.reasons.Why.{Why}
 use Rattle.branching.specs.declared.reasons.Why.TheVariants.{Stopped}
 use Rattle.branching.specs.declared.nodes.Visit.{Visit}
 use Rattle.branching.specs.declared.nodes.Visit.TheVariants.{Closed, Blocked, Open}
-use Rattle.branching.specs.OpenTrees.{PlainOpen, OpenNode, pending_node, stuck_node, ended_node, parted_node, Place, places_from, IsDone, tree_of, whys_of}
+use Rattle.branching.specs.OpenTrees.{PlainOpen, OpenNode, pending_node, stuck_node, ended_node, parted_node, Place, places_from, IsDone, tree_of, whys_of, stuck_count}
 use Rattle.branching.specs.Outcomes.{SomeOf, HasReason, IsClosedBy, IsClosedNode, IsStuckAt, IsStuckNode}
 use Rattle.branching.specs.Splits.{split_at, IsReasoned, IsStuckFor}
 
@@ -135,10 +135,16 @@ EndsBy l after t ps None = IsDone t
 EndsBy l after t ps (Some Depth) = SomeOf (IsStuckAt l.depth) ps
 EndsBy l after t ps (Some Nodes) = SomeOf (λ p. IsStuckNode p.node) ps × Each (λ p. IsStuckAt l.depth p → ⊥) ps × (l.nodes < after + 2)
 
+-- how many nodes a search leaves stuck
+abbrev pub stuck_by : Option BudgetWhat → ℕ
+stuck_by None = 0
+stuck_by (Some what) = 1
+
 -- a subtree was grown over a box whose top node has a depth
 pub record IsGrown (m : Parts) (l : Limits) (d : ℕ) (b : List (ℤ × ℤ)) (before after : ℕ) (earlier found : Found) (t : PlainOpen) (stop : Option BudgetWhat) : Type 0 where
   pub places : ArePlacesOf m l (places_from d b t) before after found
   pub ends : EndsBy l after t (places_from d b t) stop
+  pub stuck : stuck_count t ≡ stuck_by stop
   pub sound : IsSound m found
   pub improves : Improves earlier found
 

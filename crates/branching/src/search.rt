@@ -1,11 +1,10 @@
-ghost use Rattle.std.specs.Prelude.{◌≡◌, ◌≤◌, IfOk, OnOk, option_map};
-ghost use Rattle.ip_defs.specs.Program.{box_of as box_of_parts};
+ghost use Rattle.std.specs.Prelude.{◌≡◌, ◌≤◌, IfOk, OnOk};
 ghost use Rattle.ip_defs.specs.Limits.{IsWithinLimits};
 ghost use Rattle.ip_model.specs.Sizes.{allowance};
 ghost use Rattle.leaf_cert.specs.Room.{FitsScratch};
 ghost use Rattle.branching.specs.Counts.{AreCountsWithin};
 ghost use Rattle.branching.specs.OpenTrees.{IsDone, parted, plain_open};
-ghost use Rattle.branching.specs.Outcomes.{IsRightOutcome, IsTrueOutcome};
+ghost use Rattle.branching.specs.Outcomes.{HasOneStuck, IsRightOutcome, IsTrueOutcome};
 ghost use Rattle.branching.specs.Search.{IsAnswerOf, IsGrown, IsSearchArea, IsSound};
 ghost use Rattle.branching.specs.Sizes.{AreAmple, IsAnswer};
 
@@ -130,7 +129,8 @@ fn search_box(alloc: Global, model: &IntModel, limits: Limits) -> Result<Outcome
     requires nodes { 1 ≤ limits.nodes }
     requires most { limits.nodes ≤ 1000000 }
     requires depth { limits.depth ≤ 800 }
-    ensures { IfOk result (IsRightOutcome model.now limits) }
+    ensures right { IfOk result (IsRightOutcome model.now limits) }
+    ensures stuck { IfOk result HasOneStuck }
 {
     let mut area = box_of(alloc, model)?;
     let mut search = Progress {
@@ -164,6 +164,7 @@ pub fn solve(alloc: Global, model: &IntModel, limits: Limits) -> Result<Outcome,
     requires most { limits.nodes ≤ allowance model.now 1000000 }
     requires depth { limits.depth ≤ 800 }
     ensures right { IfOk result (IsRightOutcome model.now limits) }
+    ensures stuck { IfOk result HasOneStuck }
     ensures holds { IfOk result (IsTrueOutcome model.now) }
     ensures ends { IfOk result (λ o. AreAmple model.now limits → IsAnswer o) }
     ensures counts { IfOk result (AreCountsWithin limits) }

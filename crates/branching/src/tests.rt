@@ -97,6 +97,15 @@ fn negative_sum(alloc: Global) -> Result<IntModel, Fail> {
     model(alloc, columns, rows)
 }
 
+/// Columns without a cost from 0 to 2^24, each of which a search halves 25 times down to 0.
+fn wide(alloc: Global, count: u32) -> Result<IntModel, Fail> {
+    let mut columns = Vec::new(alloc);
+    for _ in 0..count {
+        columns.push(column(alloc, 0, 0, 1 << 24))?;
+    }
+    model(alloc, columns, Vec::new(alloc))
+}
+
 /// An outcome with how many nodes and skipped splits its tree has.
 #[derive(Drop)]
 struct Counted {
@@ -254,6 +263,7 @@ fn stops_at_limits(rt: HostRuntime) -> Result<(), Fail> {
         (50, 0, BudgetWhat::Depth, 1, 0),
         (1, 0, BudgetWhat::Depth, 1, 0),
         (50, 3, BudgetWhat::Depth, 7, 3),
+        (1_000_000, 800, BudgetWhat::Nodes, 999_999, 499_999),
     ] {
         let Stop {
             what: stopped,
@@ -287,5 +297,25 @@ fn best_of_a_stop(rt: HostRuntime) -> Result<(), Fail> {
         Some(point) => assert_eq!(rt; point.as_slice(), [1].as_slice()),
         None => assert!(rt; false, "a point was found"),
     }
+    Ok(())
+}
+
+/// Searches as deep as they may go: 750 splits down to the first point, and 800 down to a stop.
+#[test]
+fn deep_searches(rt: HostRuntime) -> Result<(), Fail> {
+    let alloc = rt.alloc();
+    let found = check_search(alloc, &wide(alloc, 30)?)?;
+    assert_eq!(rt; found.bound, Bound::At(0));
+    assert_eq!(rt; found.nodes, 1501);
+    let Stop {
+        what,
+        nodes,
+        skipped,
+        best,
+    } = stopped_search(alloc, &wide(alloc, 40)?, 100_000, 800)?;
+    assert_eq!(rt; what, BudgetWhat::Depth);
+    assert_eq!(rt; nodes, 1601);
+    assert_eq!(rt; skipped, 800);
+    assert!(rt; best.is_none());
     Ok(())
 }

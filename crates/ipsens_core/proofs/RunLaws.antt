@@ -5,7 +5,7 @@ use Rattle.std.proofs.lemmas.Bool.Decides.{nat_tests}
 use Rattle.std.proofs.lemmas.List.{length-replicate}
 use Rattle.std.proofs.lemmas.Slice.Eq.{bytes_eq-Decides}
 use Rattle.ip_defs.specs.Files.{Files, file_of, Keeps, Takes, Agrees}
-use Rattle.ip_defs.specs.Runs.{Answer, Outside, says, refuses_model, longest_model, AnswersModel, AnswersRequest, IsAnswerOrRefusal, IsRunOf, IsAnswered, IsCutOff, RunMeets}
+use Rattle.ip_defs.specs.Runs.{Answer, Outside, says, refuses_model, longest_model, AnswersModel, AnswersRequest, IsRunOf, IsAnswered, IsCutOff, RunMeets}
 use Rattle.ip_defs.specs.Texts.{refused_model}
 use Rattle.ip_defs.specs.Words.{Word, request_of, usage_text}
 use Rattle.ip_defs.specs.declared.runs.Request.{Request}
@@ -13,7 +13,18 @@ use Rattle.ip_defs.specs.declared.runs.Request.TheVariants.{Solve, Show}
 use Rattle.ip_defs.specs.declared.runs.Status.{Status}
 use Rattle.ip_defs.specs.declared.runs.Status.TheVariants.{Answered, NotProved, Usage, Refused, Budget, Wide, ReadFault, WriteFault, Memory}
 use Rattle.ips_io.specs.Shelves.{IsTooLong, IsUntold, IsWhole}
-use Rattle.ipsens_core.specs.Outcomes.{IsPlainSolve, Writes, model_of_request, shows}
+use Rattle.std.specs.Option.{MatchOption}
+use Rattle.std.specs.Bool.{MatchBool}
+use Rattle.ip_defs.specs.Faults.{IsFirst, mps_fault, model_of}
+use Rattle.ip_defs.specs.declared.texts.MpsError.TheVariants as Out
+use Rattle.ip_defs.specs.Runs.{how_of}
+use Rattle.ip_defs.specs.Texts.{canonical_text, is_printable, refusal_text}
+use Rattle.ip_defs.specs.declared.programs.Parts.{Parts}
+use Rattle.ip_defs.specs.declared.texts.MpsError.{MpsError}
+use Rattle.branching.specs.declared.outcomes.Outcome.{Outcome}
+use Rattle.branching.specs.declared.outcomes.Outcome.TheVariants.{Best, Empty, Budget as Stop}
+use Rattle.ipsens_core.specs.Answers.{IsAnswerTo, IsAnswerWith, outcome_answer}
+use Rattle.ipsens_core.specs.Outcomes.{Writes, model_of_request, shows}
 
 -- ---- tables of files
 
@@ -88,7 +99,7 @@ untouched (Some t) = (t, record { told = λ u is other found some. let same : t 
 
 -- statuses whose text is written
 abbrev pub IsTold : Status → Type 0
-IsTold status = (status ≡ Answered) ⊎ ((status ≡ Refused) ⊎ (status ≡ Usage))
+IsTold status = (status ≡ Answered) ⊎ ((status ≡ Refused) ⊎ ((status ≡ Usage) ⊎ (status ≡ Budget)))
 
 whole_text : (IsRun : Files → Answer → Type 0) (before after : Option Files) (taken taken' : Option (List ℕ)) (status : Status) (text : List ℕ) (fs : Files)
     → Agrees before after fs → IsRun fs (says status text) → Keeps before after → Takes taken taken' text → IsAnswered IsRun (shows before after taken taken') status
@@ -110,7 +121,8 @@ meets IsRun before after taken taken' f f' status text result fs' agrees' run' k
     by : IsTold status → RunMeets IsRun (shows before after taken taken') status
     by (inl e) = subst (RunMeets IsRun (shows before after taken taken')) (sym e) (at_status Answered e)
     by (inr (inl e)) = subst (RunMeets IsRun (shows before after taken taken')) (sym e) (at_status Refused e)
-    by (inr (inr e)) = subst (RunMeets IsRun (shows before after taken taken')) (sym e) (at_status Usage e)
+    by (inr (inr (inl e))) = subst (RunMeets IsRun (shows before after taken taken')) (sym e) (at_status Usage e)
+    by (inr (inr (inr e))) = subst (RunMeets IsRun (shows before after taken taken')) (sym e) (at_status Budget e)
 
 -- ---- from a request to the words of it
 
@@ -139,10 +151,10 @@ run_of_request IsRight words q fs a e h = rw e h
 pub run_of_none : (IsRight : Request → List ℕ → Answer → Type 0) (words : List Word) (fs : Files) → request_of words ≡ None → IsRunOf IsRight words fs (says Usage usage_text)
 run_of_none IsRight words fs e = rw e refl
 
--- an answer to the model file of a plain `solve`
-pub answers_request : (IsRight : Request → List ℕ → Answer → Type 0) (q : Request) (fs : Files) (a : Answer) → IsPlainSolve q → AnswersModel (IsRight q) fs (model_of_request q) a → AnswersRequest IsRight fs a q
-answers_request IsRight (Solve model tree nodes depth pivots digits box_side) fs a plain h = h
-answers_request IsRight (Show model digits box_side) fs a plain h = absurd plain
+-- an answer to the model file of a request
+pub answers_request : (IsRight : Request → List ℕ → Answer → Type 0) (q : Request) (fs : Files) (a : Answer) → AnswersModel (IsRight q) fs (model_of_request q) a → AnswersRequest IsRight fs a q
+answers_request IsRight (Solve model tree nodes depth pivots digits box_side) fs a h = h
+answers_request IsRight (Show model digits box_side) fs a h = h
 
 -- ---- the two ways in which a command ends with a text on a model file
 
@@ -154,27 +166,27 @@ is_within n m h = grind (arith, nat_tests)
 
 -- the file is too long
 pub too_long_meets : (IsRight : Request → List ℕ → Answer → Type 0) (q : Request) (name : List ℕ) (before after : Option Files) (taken taken' : Option (List ℕ)) (f f' : ℕ) (result : Status)
-    → IsPlainSolve q → name ≡ model_of_request q → Keeps before after → IsUntold before after name → IsTooLong after name longest_model
+    → name ≡ model_of_request q → Keeps before after → IsUntold before after name → IsTooLong after name longest_model
     → Writes taken taken' f f' Refused (refused_model (codes "too long")) result
     → RunMeets (λ fs a. AnswersRequest IsRight fs a q) (shows before after taken taken') result
-too_long_meets IsRight q name before after taken taken' f f' result plain is keeps untold long writes =
+too_long_meets IsRight q name before after taken taken' f f' result is keeps untold long writes =
     let t = long_table_for before after name longest_model keeps untold long in
     let a = refuses_model (codes "too long") in
     let model : AnswersModel (IsRight q) t.table.fs name a = (t.bytes, t.table.file, rw (is_above longest_model (length t.bytes) t.long) refl) in
-    let answer = answers_request IsRight q t.table.fs a plain (subst (λ (nm : List ℕ). AnswersModel (IsRight q) t.table.fs nm a) is model) in
+    let answer = answers_request IsRight q t.table.fs a (subst (λ (nm : List ℕ). AnswersModel (IsRight q) t.table.fs nm a) is model) in
     meets (λ fs a. AnswersRequest IsRight fs a q) before after taken taken' f f' Refused (refused_model (codes "too long")) result t.table.fs t.table.agrees answer keeps (inr (inl refl)) writes
 
 -- the file was read and has an answer
 pub read_meets : (IsRight : Request → List ℕ → Answer → Type 0) (q : Request) (name bytes : List ℕ) (before after : Option Files) (taken taken' : Option (List ℕ)) (f f' : ℕ) (status : Status) (text : List ℕ) (result : Status)
-    → IsPlainSolve q → name ≡ model_of_request q → Keeps before after → IsUntold before after name → IsWhole after name bytes → length bytes ≤ longest_model
+    → name ≡ model_of_request q → Keeps before after → IsUntold before after name → IsWhole after name bytes → length bytes ≤ longest_model
     → IsTold status → IsRight q bytes (says status text)
     → Writes taken taken' f f' status text result
     → RunMeets (λ fs a. AnswersRequest IsRight fs a q) (shows before after taken taken') result
-read_meets IsRight q name bytes before after taken taken' f f' status text result plain is keeps untold whole short told right writes =
+read_meets IsRight q name bytes before after taken taken' f f' status text result is keeps untold whole short told right writes =
     let t = table_for before after name bytes keeps untold whole in
     let a = says status text in
     let model : AnswersModel (IsRight q) t.fs name a = (bytes, t.file, rw (is_within longest_model (length bytes) short) right) in
-    let answer = answers_request IsRight q t.fs a plain (subst (λ (nm : List ℕ). AnswersModel (IsRight q) t.fs nm a) is model) in
+    let answer = answers_request IsRight q t.fs a (subst (λ (nm : List ℕ). AnswersModel (IsRight q) t.fs nm a) is model) in
     meets (λ fs a. AnswersRequest IsRight fs a q) before after taken taken' f f' status text result t.fs t.agrees answer keeps told writes
 
 -- words that are no request
@@ -183,13 +195,56 @@ pub usage_meets : (IsRight : Request → List ℕ → Answer → Type 0) (words 
     → RunMeets (IsRunOf IsRight words) (shows files files taken taken') result
 usage_meets IsRight words files taken taken' f f' result none writes =
     let t = untouched files in
-    meets (IsRunOf IsRight words) files files taken taken' f f' Usage usage_text result t.0 t.1 (run_of_none IsRight words t.0 none) (λ u is. is) (inr (inr refl)) writes
+    meets (IsRunOf IsRight words) files files taken taken' f f' Usage usage_text result t.0 t.1 (run_of_none IsRight words t.0 none) (λ u is. is) (inr (inr (inl refl))) writes
 
--- an answer or a refusal is told
-pub told_of : (status : Status) → (status ≡ Answered) ⊎ (status ≡ Refused) → IsTold status
-told_of status (inl e) = inl e
-told_of status (inr e) = inr (inl e)
+-- what is owed to a model file has a status whose text is written
+outcome_told : (m : Parts) (o : Outcome) (status : Status) (text : List ℕ) → says status text ≡ outcome_answer m o → IsTold status
+outcome_told m (Best p whys) status text e = inl (ap (λ (a : Answer). a.status) e)
+outcome_told m (Empty p whys) status text e = inl (ap (λ (a : Answer). a.status) e)
+outcome_told m (Stop what grown best) status text e = inr (inr (inr (ap (λ (a : Answer). a.status) e)))
 
--- the bytes of a text are an answer where the text is
-pub right_text : (q : Request) (bytes : List ℕ) (status : Status) (text written : List ℕ) → written ≡ text → IsAnswerOrRefusal q bytes (says status text) → IsAnswerOrRefusal q bytes (says status written)
-right_text q bytes status text written e h = rw e h
+shown_told : (t : Bool) (m : Parts) (status : Status) (text : List ℕ) → MatchBool t (says status text ≡ says Answered (canonical_text m)) (says status text ≡ refuses_model (codes "unprintable")) → IsTold status
+shown_told true m status text e = inl (ap (λ (a : Answer). a.status) e)
+shown_told false m status text e = inr (inl (ap (λ (a : Answer). a.status) e))
+
+answered_told : (q : Request) (m : Parts) (status : Status) (text : List ℕ) → IsAnswerWith q m (says status text) → IsTold status
+answered_told (Solve model tree nodes depth pivots digits box_side) m status text h = outcome_told m h.outcome status text h.text
+answered_told (Show model digits box_side) m status text h = shown_told (is_printable m) m status text h
+
+pub told_of : (q : Request) (bytes : List ℕ) (status : Status) (text : List ℕ) → IsAnswerTo q bytes (says status text) → IsTold status
+told_of q bytes status text = by (mps_fault bytes (how_of q))
+  where
+    by : (o : Option MpsError) → MatchOption o (IsAnswerWith q (model_of bytes (how_of q)) (says status text)) (λ e. says status text ≡ refuses_model (refusal_text e)) → IsTold status
+    by None h = answered_told q (model_of bytes (how_of q)) status text h
+    by (Some e) h = inr (inl (ap (λ (a : Answer). a.status) h))
+
+-- the answer with the model of a text that has no fault, and the first refusal of one that has
+pub answered_with : (q : Request) (bytes : List ℕ) (m : Parts) (a : Answer) → mps_fault bytes (how_of q) ≡ None → m ≡ model_of bytes (how_of q) → IsAnswerWith q m a → IsAnswerTo q bytes a
+answered_with q bytes m a none is h = rw none (subst (λ (n : Parts). IsAnswerWith q n a) is h)
+
+pub refused_with : (q : Request) (bytes : List ℕ) (e : MpsError) (a : Answer) → mps_fault bytes (how_of q) ≡ Some e → a ≡ refuses_model (refusal_text e) → IsAnswerTo q bytes a
+refused_with q bytes e a first h = rw first h
+
+-- an error that is not want of memory is the first fault
+pub told_first : (o : Option MpsError) (e : MpsError) → IsFirst o e → (e ≡ Out.Memory → ⊥) → o ≡ Some e
+told_first o Out.NotUtf8 h some = h
+told_first o (Out.SectionOrder a) h some = h
+told_first o (Out.UnknownSection a) h some = h
+told_first o (Out.FieldCount a) h some = h
+told_first o (Out.RowKind a) h some = h
+told_first o (Out.TwiceRow a) h some = h
+told_first o (Out.UnknownRow a) h some = h
+told_first o (Out.SplitColumn a) h some = h
+told_first o (Out.TwiceEntry a) h some = h
+told_first o (Out.Number a) h some = h
+told_first o (Out.Marker a) h some = h
+told_first o (Out.BoundKind a) h some = h
+told_first o (Out.UnknownColumn a) h some = h
+told_first o (Out.Continuous a) h some = h
+told_first o (Out.NoBound a b) h some = h
+told_first o (Out.NegativeUpper a) h some = h
+told_first o (Out.Limit a) h some = h
+told_first o Out.NoObjective h some = h
+told_first o Out.NoEnd h some = h
+told_first o (Out.Digits a) h some = h
+told_first o Out.Memory h some = absurd (some refl)

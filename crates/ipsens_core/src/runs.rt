@@ -40,37 +40,39 @@ fn how_of(request: &Request) -> How
 }
 
 /// Searches a model for a least point, and makes the text of the outcome.
-fn solved(alloc: Global, model: &IntModel, nodes: u32, depth: u32) -> Result<(Status, String), Memory>
+fn solved(alloc: Global, model: &IntModel, nodes: u32, depth: u32) -> Result<(Status, Vec<u8>), Memory>
     requires least { 1 ≤ nodes }
     requires most { nodes ≤ 1000000 }
     requires depth { depth ≤ 800 }
-    ensures { IfOk result (λ r. HasOutcome model.now (limits_for model.now nodes depth) (says r.0 (string_bytes r.1))) }
+    ensures { IfOk result (λ r. HasOutcome model.now (limits_for model.now nodes depth) (says r.0 r.1.items)) }
 {
+    let parts = model.parts();
     let limits = Limits {
         nodes: allowance(model, nodes),
         depth,
     };
     let outcome = solve(alloc, model, limits)?;
-    outcome_text(alloc, model, &outcome)
+    let (status, text) = outcome_text(alloc, model, &outcome)?;
+    Ok((status, text.into_bytes()))
 }
 
 /// The canonical text of a model, or that it has none.
-fn shown(alloc: Global, model: &IntModel) -> Result<(Status, String), Memory>
-    ensures { IfOk result (λ r. IsShown model.now (says r.0 (string_bytes r.1))) }
+fn shown(alloc: Global, model: &IntModel) -> Result<(Status, Vec<u8>), Memory>
+    ensures { IfOk result (λ r. IsShown model.now (says r.0 r.1.items)) }
 {
     if printable(model) {
         let text = print(alloc, model)?;
         Ok((Status::Answered, text))
     } else {
         let text = String::from_str(alloc, UNPRINTABLE)?;
-        Ok((Status::Refused, text))
+        Ok((Status::Refused, text.into_bytes()))
     }
 }
 
 /// What a request is answered with the model of its file.
-fn answer_with(alloc: Global, request: &Request, model: &IntModel) -> Result<(Status, String), Memory>
+fn answer_with(alloc: Global, request: &Request, model: &IntModel) -> Result<(Status, Vec<u8>), Memory>
     requires { IsPlainRequest request.now }
-    ensures { IfOk result (λ r. IsAnswerWith request.now model.now (says r.0 (string_bytes r.1))) }
+    ensures { IfOk result (λ r. IsAnswerWith request.now model.now (says r.0 r.1.items)) }
 {
     match request {
         Request::Solve { nodes, depth, .. } => solved(alloc, model, *nodes, *depth),
@@ -79,17 +81,17 @@ fn answer_with(alloc: Global, request: &Request, model: &IntModel) -> Result<(St
 }
 
 /// What is printed for a model file, and how the run ends with it.
-fn answer_of(alloc: Global, request: &Request, bytes: &[u8]) -> Result<(Status, String), Memory>
+fn answer_of(alloc: Global, request: &Request, bytes: &[u8]) -> Result<(Status, Vec<u8>), Memory>
     requires plain { IsPlainRequest request.now }
     requires length { length bytes.now ≤ 16777216 }
-    ensures { IfOk result (λ r. IsAnswerTo request.now bytes.now (says r.0 (string_bytes r.1))) }
+    ensures { IfOk result (λ r. IsAnswerTo request.now bytes.now (says r.0 r.1.items)) }
 {
     match read(alloc, bytes, how_of(request)) {
         Ok(model) => answer_with(alloc, request, &model),
         Err(MpsError::Memory) => Err(Memory),
         Err(error) => {
             let text = refusal_line(alloc, &error)?;
-            Ok((Status::Refused, text))
+            Ok((Status::Refused, text.into_bytes()))
         }
     }
 }
@@ -136,7 +138,7 @@ pub fn answer_at<S: Shelf, K: Sink>(
         Err(ReadError::Memory) => return Status::Memory,
     };
     match answer_of(alloc, request, bytes.as_slice()) {
-        Ok((status, text)) => finish(out, status, text.as_bytes()),
+        Ok((status, text)) => finish(out, status, text.as_slice()),
         Err(Memory) => Status::Memory,
     }
 }

@@ -1,3 +1,4 @@
 pub mod RunLaws
 pub mod SearchLaws
 pub mod TextLaws
+pub mod WordLaws

@@ -1,2 +1,3 @@
 pub mod Outcomes
 pub mod Search
+pub mod WordOptions

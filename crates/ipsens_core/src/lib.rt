@@ -8,6 +8,8 @@ mod search;
 #[cfg(test)]
 mod tests;
 mod words;
+#[cfg(test)]
+mod words_tests;
 
 pub use ip_defs::{Request, Status};
 pub use runs::{code, run, solve_at};

@@ -23,7 +23,7 @@ pub fn is_minus(text: &[u8]) -> bool
 }
 
 /// Whether each byte is a digit.
-fn are_digits(text: &[u8]) -> bool
+pub fn are_digits(text: &[u8]) -> bool
     ensures { result ≡ list_all is_digit text.now }
 {
     text.iter().all(|b| 48 <= *b && *b <= 57)

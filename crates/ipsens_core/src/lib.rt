@@ -6,6 +6,8 @@ mod runs;
 #[cfg(test)]
 mod tests;
 mod words;
+#[cfg(test)]
+mod words_tests;
 
 pub use ip_defs::{Request, Status};
 pub use branching::solve;

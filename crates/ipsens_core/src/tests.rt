@@ -36,7 +36,8 @@ const NO_UPPER: &str =
 const USAGE_LINE: &str =
     "usage: ipsens solve MODEL | check MODEL TREE | ask MODEL TREE QUESTIONS | sweep MODEL SWEEP | recheck MODEL SWEEP PROOF | show MODEL | trial N\n";
 
-fn owned(alloc: Global, words: &[&str]) -> Result<Vec<String>, AllocError> {
+/// Words of a command line.
+pub fn owned(alloc: Global, words: &[&str]) -> Result<Vec<String>, AllocError> {
     let mut all = Vec::new(alloc);
     for word in words {
         all.push(String::from_str(alloc, word)?)?;
@@ -101,7 +102,7 @@ fn other_words_are_usage(rt: HostRuntime) -> Result<(), Fail> {
         &["solve", "m", "--nodes", "0"],
         &["solve", "m", "--nodes=5"],
         &["Solve", "m"],
-        &["show", "m"],
+        &["show"],
         &["--help"],
     ] {
         let mut shelf = shelf_with(alloc, THREE_ROWS.as_bytes(), 100)?.ok_or("no room")?;

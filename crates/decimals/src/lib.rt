@@ -11,6 +11,5 @@ mod texts;
 pub use ip_defs::{Memory, Number};
 pub use numbers::read_number;
 pub use numerals::{are_digits, value_from};
-pub use scales::scaled;
 pub use scales::{scaled, units};
 pub use texts::decimal_text;

@@ -1,4 +1,3 @@
 pub mod Answers
 pub mod Outcomes
-pub mod Search
 pub mod WordOptions

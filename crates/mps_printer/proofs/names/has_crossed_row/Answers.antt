@@ -1,0 +1,8 @@
+use Rattle.std.proofs.Common.{◌∙◌, ap}
+use Rattle.std.specs.Option.{is_some}
+use Rattle.ip_defs.specs.Texts.{is_crossed}
+use Rattle.mps_printer.proofs.NameLaws.{some_passes}
+use Rattle.mps_printer.proofs.names.has_crossed_row.Goals as goal
+
+pub returns : goal.returns
+returns c = c.is_some.ensures ∙ ap is_some c.crossed.ensures ∙ some_passes is_crossed c.args.model.now.rows

@@ -1,0 +1,8 @@
+use Rattle.std.proofs.Common.{◌≡◌, ◌++◌, take}
+use Rattle.std.specs.Prelude.{flat_map, string_bytes}
+use Rattle.ip_defs.specs.Texts.{rhs_line}
+use Rattle.mps_printer.specs.Sections.{lines_text}
+use Rattle.mps_printer.proofs.rows.push_sides.Given as goal
+
+abbrev pub invariant-loop-row : goal.invariant-loop-row
+invariant-loop-row l = string_bytes l.text ≡ string_bytes l.initial.text ++ lines_text (flat_map rhs_line (take l.row-index l.rows))

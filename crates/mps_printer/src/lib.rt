@@ -1,0 +1,15 @@
+//! The canonical MPS text of a model: the same model is always printed as the same bytes, in one order and one spelling.
+#![tactic(auto)]
+
+mod columns;
+mod gather;
+mod lines;
+mod names;
+mod printer;
+mod rows;
+#[cfg(test)]
+mod tests;
+
+pub use ip_defs::Memory;
+pub use names::printable;
+pub use printer::print;

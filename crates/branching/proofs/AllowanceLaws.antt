@@ -1,5 +1,5 @@
 -- The node allowance of a program is one that a search takes.
-use Rattle.std.specs.Prelude.{ℕ, ◌+◌, ◌*◌, ◌/◌, ◌^◌, ◌≤◌, length, min}
+use Rattle.std.specs.Prelude.{ℕ, ◌+◌, ◌/◌, ◌^◌, ◌≤◌, length}
 use Rattle.std.proofs.Common.{arith}
 use Rattle.std.proofs.lemmas.Nat.{le-div}
 use Rattle.ip_defs.specs.declared.programs.Parts.{Parts}

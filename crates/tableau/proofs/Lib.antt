@@ -1,0 +1,4 @@
+pub mod FractionLaws
+pub mod ListLaws
+pub mod PointLaws
+pub mod SystemLaws

@@ -1,0 +1,7 @@
+use Rattle.std.proofs.Common.{◌≡◌, ℕ, Ok}
+use Rattle.tableau.specs.Tables.{entry, basic_at, variable_at, whole}
+use Rattle.tableau.specs.Numbers.{after_steps, less_product}
+use Rattle.tableau.proofs.numbers.column_price.Given as goal
+
+abbrev pub invariant-loop-i : goal.invariant-loop-i
+invariant-loop-i l = Ok l.price ≡ after_steps (λ i x. less_product x (entry l.rows i l.var) (whole (variable_at l.variables (basic_at l.basics i)).cost)) (whole (variable_at l.variables l.var).cost) l.i

@@ -1,0 +1,5 @@
+pub mod Changes
+pub mod Nodes
+pub mod Numbers
+pub mod Pivots
+pub mod Tables

@@ -1,0 +1,270 @@
+ghost use Rattle.std.specs.Prelude.{◌≡◌, ◌≢◌, ◌<◌, ◌+◌, ℕ, List, length, OnOk, OnErr, Ok, Err, None, pos, ℤ, slice_set};
+ghost use Rattle.frac128.specs.Rationals.{Rational};
+ghost use Rattle.ip_defs.specs.declared.programs.Parts.{Parts};
+ghost use Rattle.tableau.specs.declared.rests.Rest.TheVariants.{Basic, Low, High, Zero};
+ghost use Rattle.tableau.specs.Tables.{at as number_at, entry as entry_at, basic_at, rest_at, variable_at, CanRest, IsTable, IsRoom};
+ghost use Rattle.tableau.specs.Numbers.{value as value_of_row, price as price_of, ratio as ratio_of, side_at};
+ghost use Rattle.tableau.specs.Pivots.{after_pivot, after_flip};
+ghost use Rattle.tableau.specs.Nodes.{StandsFor, HasItsPoints};
+
+use crate::fractions::whole;
+use crate::numbers::{column_price, named_side, row_value};
+use crate::pivots::pivot_rows;
+use crate::{Rest, Steps, Variable};
+use frac128::{Frac, Wide, div, sub};
+use std::marker::Model;
+use std::sync::ledger::Ledger;
+
+/// A line of numbers, one for each variable.
+#[derive(Debug, Drop)]
+pub(crate) struct Line {
+    numbers: Vec<Frac>,
+}
+
+impl Model for Line {
+    ghost use Rattle.std.specs.Prelude.{List};
+    ghost use Rattle.frac128.specs.Fractions.{Fraction};
+
+    ghost Value = { List Fraction };
+
+    ghost view = { λ l. l.numbers.items };
+}
+
+impl Line {
+    /// The line of a vector.
+    pub(crate) fn new(numbers: Vec<Frac>) -> Line
+        ensures { result ≡ numbers.items }
+    {
+        Line { numbers }
+    }
+
+    /// The numbers, by variable.
+    #[inline]
+    pub(crate) fn as_slice(&self) -> &[Frac]
+        ensures { result.now ≡ self.now }
+    {
+        self.numbers.as_slice()
+    }
+
+    /// The number of a variable.
+    #[inline]
+    pub(crate) fn at(&self, var: usize) -> Frac
+        requires { var < length self.now }
+        ensures { result ≡ number_at self.now var }
+    {
+        self.numbers[var]
+    }
+
+    /// Puts a number in place of another.
+    #[inline]
+    pub(crate) fn set(&mut self, var: usize, number: Frac)
+        requires { var < length self.old }
+        ensures { self.new ≡ slice_set self.old var number }
+    {
+        self.numbers[var] = number;
+    }
+}
+
+/// A tableau of a node. Pivots and numbers take no memory: spare lines for the new rows are kept from the start.
+#[derive(Debug, Drop)]
+pub struct Tableau {
+    rows: Vec<Line>,
+    spare: Vec<Line>,
+    quotients: Line,
+    basics: Vec<u32>,
+    rests: Vec<Rest>,
+    variables: Vec<Variable>,
+}
+
+impl Model for Tableau {
+    ghost use Rattle.std.specs.Prelude.{length};
+    ghost use Rattle.tableau.specs.Tables.{Table, IsTable, IsRoom};
+
+    ghost Value = { Table };
+
+    ghost view = { λ t. record { rows = t.rows.items; basics = t.basics.items; rests = t.rests.items; variables = t.variables.items } };
+
+    ghost invariant = { λ t. IsTable (record { rows = t.rows.items; basics = t.basics.items; rests = t.rests.items; variables = t.variables.items }) × IsRoom (length t.rows.items) (length t.variables.items) t.spare.items t.quotients };
+}
+
+impl Tableau {
+    /// The tableau of lists that fit together.
+    pub(crate) fn new(
+        rows: Vec<Line>,
+        spare: Vec<Line>,
+        quotients: Line,
+        basics: Vec<u32>,
+        rests: Vec<Rest>,
+        variables: Vec<Variable>,
+    ) -> Tableau
+        requires table { IsTable (record { rows = rows.items; basics = basics.items; rests = rests.items; variables = variables.items }) }
+        requires room { IsRoom (length rows.items) (length variables.items) spare.items quotients }
+        ensures { result ≡ record { rows = rows.items; basics = basics.items; rests = rests.items; variables = variables.items } }
+    {
+        Tableau {
+            rows,
+            spare,
+            quotients,
+            basics,
+            rests,
+            variables,
+        }
+    }
+
+    /// The entry of a row and a variable.
+    pub fn entry(&self, row: u32, var: u32) -> Frac
+        requires row { row < length self.now.rows }
+        requires variable { var < length self.now.variables }
+        ensures { result ≡ entry_at self.now.rows row var }
+    {
+        let line = &self.rows[row as usize];
+        line.at(var as usize)
+    }
+
+    /// The basic variable of a row.
+    pub fn basic(&self, row: u32) -> u32
+        requires { row < length self.now.rows }
+        ensures basic { result ≡ basic_at self.now.basics row }
+        ensures variable { result < length self.now.variables }
+    {
+        self.basics[row as usize]
+    }
+
+    /// Where a variable rests.
+    pub fn rest(&self, var: u32) -> Rest
+        requires { var < length self.now.variables }
+        ensures { result ≡ rest_at self.now.rests var }
+    {
+        self.rests[var as usize]
+    }
+
+    /// A pivot, with its exact answer.
+    fn exchange(&mut self, row: u32, var: u32, leaving: Rest) -> Result<(), Wide>
+        requires row { row < length self.old.rows }
+        requires variable { var < length self.old.variables }
+        requires pivot { (entry_at self.old.rows row var).num ≢ pos 0 }
+        ensures table { IsTable self.old }
+        ensures pivoted { OnOk result (after_pivot self.old row var leaving ≡ Ok self.new) }
+        ensures wide { OnErr result (after_pivot self.old row var leaving ≡ Err (record {})) }
+        ensures kept { OnErr result (self.new ≡ self.old) }
+    {
+        let pivoted = pivot_rows(
+            self.rows.as_mut_slice(),
+            row as usize,
+            var as usize,
+            self.spare.as_mut_slice(),
+            &mut self.quotients,
+        );
+        match pivoted {
+            Ok(()) => {}
+            Err(Wide) => return Err(Wide),
+        }
+        let left = self.basics[row as usize];
+        self.rests[left as usize] = leaving;
+        self.rests[var as usize] = Rest::Basic;
+        self.basics[row as usize] = var;
+        Ok(())
+    }
+
+    /// A pivot: the variable becomes basic in the row, and the row's old basic variable leaves to a side. Each entry of the row is
+    /// divided by the pivot, and each entry of another row loses its pivot-column entry times the new pivot-row entry. `Wide` comes
+    /// exactly where one of these steps is wide; the tableau is then unchanged. It counts one step in each case.
+    ///
+    /// A tableau that stands for a node does so afterwards. The bounded simplex method is Dantzig's.
+    pub fn pivot<L: Ledger>(
+        &mut self,
+        row: u32,
+        var: u32,
+        leaving: Rest,
+        steps: &mut Steps<L>,
+    ) -> Result<(), Wide>
+        requires row { row < length self.old.rows }
+        requires variable { var < length self.old.variables }
+        requires pivot { (entry_at self.old.rows row var).num ≢ pos 0 }
+        requires enters { rest_at self.old.rests var ≢ Basic }
+        requires leaves { CanRest (variable_at self.old.variables (basic_at self.old.basics row)) leaving }
+        ensures pivoted { OnOk result (after_pivot self.old row var leaving ≡ Ok self.new) }
+        ensures wide { OnErr result (after_pivot self.old row var leaving ≡ Err (record {})) }
+        ensures kept { OnErr result (self.new ≡ self.old) }
+        ensures stands { (m : Parts) (b : List (ℤ × ℤ)) → StandsFor m b self.old → StandsFor m b self.new }
+        ensures points { (m : Parts) (b : List (ℤ × ℤ)) → StandsFor m b self.old → HasItsPoints m self.old → HasItsPoints m self.new }
+        ensures steps { steps.new ≡ steps.old + 1 }
+    {
+        steps.tick();
+        self.exchange(row, var, leaving)
+    }
+
+    /// A flip: a variable that rests at one side and has both then rests at the other. It counts one step.
+    pub fn flip<L: Ledger>(&mut self, var: u32, steps: &mut Steps<L>)
+        requires variable { var < length self.old.variables }
+        requires rests { CanRest (variable_at self.old.variables var) (rest_at self.old.rests var) }
+        requires low { (variable_at self.old.variables var).low ≢ None }
+        requires high { (variable_at self.old.variables var).high ≢ None }
+        ensures flipped { self.new ≡ after_flip self.old var }
+        ensures stands { (m : Parts) (b : List (ℤ × ℤ)) → StandsFor m b self.old → StandsFor m b self.new }
+        ensures points { (m : Parts) → HasItsPoints m self.old → HasItsPoints m self.new }
+        ensures steps { steps.new ≡ steps.old + 1 }
+    {
+        steps.tick();
+        self.turn(var);
+    }
+
+    /// A flip, with its exact answer.
+    fn turn(&mut self, var: u32)
+        requires { var < length self.old.variables }
+        ensures { self.new ≡ after_flip self.old var }
+    {
+        self.rests[var as usize] = match self.rests[var as usize] {
+            Rest::Basic => Rest::Basic,
+            Rest::Low => Rest::High,
+            Rest::High => Rest::Low,
+            Rest::Zero => Rest::Zero,
+        };
+    }
+
+    /// The value of a row's basic variable, where the others rest.
+    pub fn value(&self, row: u32) -> Result<Frac, Wide>
+        requires { row < length self.now.rows }
+        ensures { result ≡ value_of_row self.now row }
+    {
+        let line = &self.rows[row as usize];
+        row_value(
+            line.as_slice(),
+            self.rests.as_slice(),
+            self.variables.as_slice(),
+        )
+    }
+
+    /// The reduced cost of a variable.
+    pub fn price(&self, var: u32) -> Result<Frac, Wide>
+        requires { var < length self.now.variables }
+        ensures { result ≡ price_of self.now var }
+    {
+        column_price(
+            self.rows.as_slice(),
+            self.basics.as_slice(),
+            self.variables.as_slice(),
+            var as usize,
+        )
+    }
+
+    /// How far a variable that is not basic can go until the row's basic variable meets one of its sides.
+    pub fn ratio(&self, row: u32, var: u32, side: Rest) -> Result<Frac, Wide>
+        requires row { row < length self.now.rows }
+        requires variable { var < length self.now.variables }
+        requires free { rest_at self.now.rests var ≢ Basic }
+        requires pivot { (entry_at self.now.rows row var).num ≢ pos 0 }
+        requires side { side_at (variable_at self.now.variables (basic_at self.now.basics row)) side ≢ None }
+        ensures { result ≡ ratio_of self.now row var side }
+    {
+        let value = match self.value(row) {
+            Ok(value) => value,
+            Err(Wide) => return Err(Wide),
+        };
+        let basic = self.basics[row as usize];
+        match sub(value, named_side(self.variables[basic as usize], side)) {
+            Ok(way) => div(way, self.entry(row, var)),
+            Err(Wide) => Err(Wide),
+        }
+    }
+}

@@ -1,4 +1,5 @@
 pub mod FractionLaws
 pub mod ListLaws
 pub mod PointLaws
+pub mod RowLaws
 pub mod SystemLaws

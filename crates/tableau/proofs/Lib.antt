@@ -1,5 +1,7 @@
+pub mod EntryLaws
 pub mod FractionLaws
 pub mod ListLaws
 pub mod PointLaws
 pub mod RowLaws
 pub mod SystemLaws
+pub mod TableLaws

@@ -69,17 +69,17 @@ pub record StandsFor (m : Parts) (b : List (ℤ × ℤ)) (T : Table) : Type 0 wh
   pub variables : T.variables ≡ variables_of m b
   pub size : length T.variables ≡ length m.columns + length m.rows
   pub rows : length T.rows ≡ length m.rows
-  pub within : (i : ℕ) → i < length T.rows → basic_at T.basics i < length T.variables
-  pub different : (i k : ℕ) → i < length T.rows → k < length T.rows → basic_at T.basics i ≡ basic_at T.basics k → i ≡ k
-  pub one : (i : ℕ) → i < length T.rows → number T i (basic_at T.basics i) ≡ of (pos 1)
-  pub nought : (i k : ℕ) → i < length T.rows → k < length T.rows → i ≢ k → number T i (basic_at T.basics k) ≡ of (pos 0)
-  pub combination : (i j : ℕ) → i < length T.rows → j < length m.columns → number T i j ≡ neg (sum rationals (λ k. mul (number T i (length m.columns + k)) (of (coefficient_of m.rows k j))) (length m.rows))
-  pub basic : (i : ℕ) → i < length T.rows → rest_at T.rests (basic_at T.basics i) ≡ Basic
-  pub rests : (v : ℕ) → v < length T.variables → RestsRight T v (rest_at T.rests v)
+  pub within : (i : ℕ) → i < length m.rows → basic_at T.basics i < length m.columns + length m.rows
+  pub different : (i k : ℕ) → i < length m.rows → k < length m.rows → basic_at T.basics i ≡ basic_at T.basics k → i ≡ k
+  pub one : (i : ℕ) → i < length m.rows → number T i (basic_at T.basics i) ≡ of (pos 1)
+  pub nought : (i k : ℕ) → i < length m.rows → k < length m.rows → i ≢ k → number T i (basic_at T.basics k) ≡ of (pos 0)
+  pub combination : (i j : ℕ) → i < length m.rows → j < length m.columns → number T i j ≡ neg (sum rationals (λ k. mul (number T i (length m.columns + k)) (of (coefficient_of m.rows k j))) (length m.rows))
+  pub basic : (i : ℕ) → i < length m.rows → rest_at T.rests (basic_at T.basics i) ≡ Basic
+  pub rests : (v : ℕ) → v < length m.columns + length m.rows → RestsRight T v (rest_at T.rests v)
 
 -- each row of the tableau is 0 at a point
-abbrev pub IsNought : Table → (ℕ → Rational) → Type 0
-IsNought T x = (i : ℕ) → i < length T.rows → sum rationals (λ v. mul (number T i v) (x v)) (length T.variables) ≡ of (pos 0)
+abbrev pub IsNought : Parts → Table → (ℕ → Rational) → Type 0
+IsNought m T x = (i : ℕ) → i < length m.rows → sum rationals (λ v. mul (number T i v) (x v)) (length m.columns + length m.rows) ≡ of (pos 0)
 
 -- a point meets the node's equations: each slack is its row's sum
 abbrev pub MeetsEquations : Parts → (ℕ → Rational) → Type 0
@@ -87,4 +87,4 @@ MeetsEquations m x = (k : ℕ) → k < length m.rows → x (length m.columns + k
 
 -- only points that meet the node's equations make each row of the tableau 0
 abbrev pub HasItsPoints : Parts → Table → Type 0
-HasItsPoints m T = (x : ℕ → Rational) → IsNought T x → MeetsEquations m x
+HasItsPoints m T = (x : ℕ → Rational) → IsNought m T x → MeetsEquations m x

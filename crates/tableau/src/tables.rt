@@ -212,7 +212,8 @@ impl Tableau {
     /// A flip, with its exact answer.
     fn turn(&mut self, var: u32)
         requires { var < length self.old.variables }
-        ensures { self.new ≡ after_flip self.old var }
+        ensures flipped { self.new ≡ after_flip self.old var }
+        ensures size { length self.old.rests ≡ length self.old.variables }
     {
         self.rests[var as usize] = match self.rests[var as usize] {
             Rest::Basic => Rest::Basic,

@@ -102,3 +102,7 @@ same_wide e = refl
 -- a wide answer
 pub is_wide : {A : Type 0} (o : Result A Wide) (e : Wide) → o ≡ Err e → o ≡ Err (record {})
 is_wide {A = A} o e h = h ∙ ap (λ (w : Wide). Err w) (same_wide e)
+
+-- an element pushed at the end
+pub listed-push : {A : Type 0} (n : ℕ) (f : ℕ → A) (x : A) (xs ys : List A) → ys ≡ xs ++ x ∷ [] → xs ≡ listed n f → x ≡ f n → ys ≡ listed (n + 1) f
+listed-push n f x xs ys pushed is at = pushed ∙ ap (λ zs. zs ++ x ∷ []) is ∙ ap (λ z. listed n f ++ z ∷ []) at ∙ sym (listed_more n f)

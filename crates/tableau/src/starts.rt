@@ -115,7 +115,14 @@ fn start_basics(alloc: Global, columns: usize, rows: usize) -> Result<Vec<u32>, 
     Ok(basics)
 }
 
-/// Where variables rest at the start: each column at its low side.
+/// Where a variable rests at the start: a column at its low side.
+fn start_rest(v: usize, columns: usize) -> Rest
+    ensures { result ≡ (if nat_lt v columns then Low else Basic) }
+{
+    if v < columns { Rest::Low } else { Rest::Basic }
+}
+
+/// Where the variables rest at the start.
 fn start_rests(alloc: Global, columns: usize, rows: usize) -> Result<Vec<Rest>, Memory>
     requires columns { columns ≤ 4096 }
     requires rows { rows ≤ 1024 }
@@ -123,7 +130,7 @@ fn start_rests(alloc: Global, columns: usize, rows: usize) -> Result<Vec<Rest>, 
 {
     let mut rests = Vec::with_capacity(alloc, columns + rows)?;
     for v in 0..columns + rows {
-        rests.push(if v < columns { Rest::Low } else { Rest::Basic })?;
+        rests.push(start_rest(v, columns))?;
     }
     Ok(rests)
 }

@@ -1,15 +1,14 @@
-ghost use Rattle.std.specs.Prelude.{◌≡◌, ◌≢◌, ◌<◌, ◌+◌, ℕ, List, length, OnOk, OnErr, Ok, Err, None, pos, ℤ, slice_set};
-ghost use Rattle.frac128.specs.Rationals.{Rational};
+ghost use Rattle.std.specs.Prelude.{◌≡◌, ◌≢◌, ◌<◌, ◌+◌, ◌↔◌, IsTrue, List, length, OnOk, OnErr, Ok, Err, None, pos, ℤ, slice_set};
 ghost use Rattle.ip_defs.specs.declared.programs.Parts.{Parts};
-ghost use Rattle.tableau.specs.declared.rests.Rest.TheVariants.{Basic, Low, High, Zero};
+ghost use Rattle.tableau.specs.declared.rests.Rest.TheVariants.{Basic};
 ghost use Rattle.tableau.specs.Tables.{at as number_at, entry as entry_at, basic_at, rest_at, variable_at, CanRest, IsTable, IsRoom};
 ghost use Rattle.tableau.specs.Numbers.{value as value_of_row, price as price_of, ratio as ratio_of, side_at};
 ghost use Rattle.tableau.specs.Pivots.{after_pivot, after_flip};
 ghost use Rattle.tableau.specs.Nodes.{StandsFor, HasItsPoints};
 
-use crate::fractions::whole;
 use crate::numbers::{column_price, named_side, row_value};
 use crate::pivots::pivot_rows;
+use crate::variables::can_rest_at;
 use crate::{Rest, Steps, Variable};
 use frac128::{Frac, Wide, div, sub};
 use std::marker::Model;
@@ -109,6 +108,21 @@ impl Tableau {
             rests,
             variables,
         }
+    }
+
+    /// Whether a row is one of its rows and a variable one of its variables.
+    pub fn has(&self, row: u32, var: u32) -> bool
+        ensures { IsTrue result ↔ (row < length self.now.rows × var < length self.now.variables) }
+    {
+        (row as usize) < self.rows.len() && (var as usize) < self.variables.len()
+    }
+
+    /// Whether a variable that is not basic can rest so: at a side that it has, or at 0 where it has none.
+    pub fn can_rest(&self, var: u32, rest: Rest) -> bool
+        requires { var < length self.now.variables }
+        ensures { IsTrue result ↔ CanRest (variable_at self.now.variables var) rest }
+    {
+        can_rest_at(self.variables[var as usize], rest)
     }
 
     /// The entry of a row and a variable.

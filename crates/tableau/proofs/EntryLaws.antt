@@ -21,9 +21,10 @@ module _ (n : ℕ) (rows : List (List Fraction)) (r v : ℕ) (are : AreRows n ro
   exact : (i w : ℕ) (t : Bool) (x : Fraction) → i < length rows → w < n
       → cond t (quotient_of (entry rows r w) (entry rows r v)) (and_then (quotient_of (entry rows r w) (entry rows r v)) (less_product (entry rows i w) (entry rows i v))) ≡ Ok x
       → Proper x × (value_of x ≡ cond t (mul (numbers rows r w) (inverse (numbers rows r v))) (sub (numbers rows i w) (mul (numbers rows i v) (mul (numbers rows r w) (inverse (numbers rows r v))))))
-  exact i w true x l k e =
-      (quotient-proper (entry rows r w) (entry rows r v) x (are.fractions r w inside k) (are.fractions r v inside enters) pivot e,
-      quotient-value (entry rows r w) (entry rows r v) x (are.fractions r w inside k) (are.fractions r v inside enters) pivot e)
+  exact i w true x l k e = (
+    quotient-proper (entry rows r w) (entry rows r v) x (are.fractions r w inside k) (are.fractions r v inside enters) pivot e,
+    quotient-value (entry rows r w) (entry rows r v) x (are.fractions r w inside k) (are.fractions r v inside enters) pivot e,
+  )
   exact i w false x l k e = by (quotient_of (entry rows r w) (entry rows r v)) refl e
     where
       by : (o : Result Fraction Wide) → quotient_of (entry rows r w) (entry rows r v) ≡ o → and_then o (less_product (entry rows i w) (entry rows i v)) ≡ Ok x

@@ -50,8 +50,8 @@ module _ (n : ℕ) (rows : List (List Fraction)) (r v : ℕ) (are : AreRows n ro
     other_row i l apart =
         let f : ℕ → Result Fraction Wide = λ w. less_product (entry rows i w) (entry rows i v) (at g w) in
         all_below-same n (new_entry rows r v i) f (λ w k.
-            ap (λ t. cond t (quotient_of (entry rows r w) (entry rows r v)) (and_then (quotient_of (entry rows r w) (entry rows r v)) (less_product (entry rows i w) (entry rows i v)))) apart
-            ∙ ap (λ (o : Result Fraction Wide). and_then o (less_product (entry rows i w) (entry rows i v))) (quotient_at w k))
+        ap (λ t. cond t (quotient_of (entry rows r w) (entry rows r v)) (and_then (quotient_of (entry rows r w) (entry rows r v)) (less_product (entry rows i w) (entry rows i v)))) apart
+        ∙ ap (λ (o : Result Fraction Wide). and_then o (less_product (entry rows i w) (entry rows i v))) (quotient_at w k))
         ∙ ap (λ k. all_below k f) (sym (are.size i l))
 
     pub wide_other_row : HasWideRow rows r v g → new_rows n rows r v ≡ Err (record {})
@@ -64,10 +64,10 @@ module _ (n : ℕ) (rows : List (List Fraction)) (r v : ℕ) (are : AreRows n ro
     row_stays i l none =
         let size = are.size i l in
         all_below-ok (length (line rows i)) (λ w. less_product (entry rows i w) (entry rows i v) (at g w)) (line rows i) (whole (pos 0)) refl (λ w k.
-            let small : w < n = omega arith in
-            less_nought_left (entry rows i w) (entry rows i v) (at g w) (are.fractions i w l small) (are.fractions i v l enters)
-            (quotient-proper (entry rows r w) (entry rows r v) (at g w) (are.fractions r w inside small) (are.fractions r v inside enters) pivot (quotient_at w small))
-            none)
+        let small : w < n = omega arith in
+        less_nought_left (entry rows i w) (entry rows i v) (at g w) (are.fractions i w l small) (are.fractions i v l enters)
+        (quotient-proper (entry rows r w) (entry rows r v) (at g w) (are.fractions r w inside small) (are.fractions r v inside enters) pivot (quotient_at w small))
+        none)
 
     module _ (spare new : List (List Fraction)) (lessened : AreLessened rows r v g spare) (count : length new ≡ length rows) (own : line new r ≡ g)
         (others : (i : ℕ) → i < length rows → i ≢ r → line new i ≡ (if is_changed rows r v i then line spare i else line rows i)) where

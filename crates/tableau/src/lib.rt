@@ -12,6 +12,8 @@ mod rests;
 mod starts;
 mod steps;
 mod tables;
+#[cfg(test)]
+mod tests;
 mod variables;
 
 pub use frac128::{Frac, Wide};

@@ -17,6 +17,6 @@ returns-in-Err c =
     let entry_is : c.at.result ≡ entry rows i c.args.var = c.at.ensures ∙ ap (λ (line : List Fraction). at line c.args.var) read in
     let cost_is : c.whole.result ≡ whole (variable_at c.args.variables.now (basic_at c.args.basics.now i)).cost = search rules in
     let step : Err (record {}) ≡ f i c.loop-i.price =
-        sym (is_wide c.lessened.result c.in-Err.field-0 c.in-Err.is) ∙ c.lessened.ensures ∙ ap (λ t. less_product c.loop-i.price t c.whole.result) entry_is ∙ ap (less_product c.loop-i.price (entry rows i c.args.var)) cost_is in
+    sym (is_wide c.lessened.result c.in-Err.field-0 c.in-Err.is) ∙ c.lessened.ensures ∙ ap (λ t. less_product c.loop-i.price t c.whole.result) entry_is ∙ ap (less_product c.loop-i.price (entry rows i c.args.var)) cost_is in
     let next = after_steps-next f first c.loop-i.price i (Err (record {})) c.loop-i.invariant step in
     sym (after_steps-wide f first (i + 1) (length rows) (sym next) (let l = c.loop-i-test.true in omega arith))

@@ -17,8 +17,8 @@ new-requires-clause-table c =
     let rows = ap (λ (rs : List Row). length rs) c.as_slice-count.ensures in
     let basics = c.in_ok-basics.ensures ∙ ap (λ n. listed (length c.as_slice-count.result.now) (λ k. n + k)) columns ∙ ap (λ n. listed n (λ k. length m.columns + k)) rows in
     let rests = c.in_ok-rests.ensures
-        ∙ ap (λ n. listed (n + length c.as_slice-count.result.now) (λ v. if nat_lt v n then Low else Basic)) columns
-        ∙ ap (λ n. listed (length m.columns + n) (λ v. if nat_lt v (length m.columns) then Low else Basic)) rows in
+    ∙ ap (λ n. listed (n + length c.as_slice-count.result.now) (λ v. if nat_lt v n then Low else Basic)) columns
+    ∙ ap (λ n. listed (length m.columns + n) (λ v. if nat_lt v (length m.columns) then Low else Basic)) rows in
     rw (c.in_ok-rows.ensures, basics, rests, c.in_ok-variables.ensures) (start-table m c.args.area.now c.requires.limits c.requires.size)
 
 pub new-requires-clause-room : goal.new-requires-clause-room

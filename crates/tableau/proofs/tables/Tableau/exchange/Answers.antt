@@ -27,7 +27,7 @@ invariant_of-self-2 c =
     let pivot : (entry inside.rows.items r v).num ≢ pos 0 = subst (λ (t : Table). (entry t.rows r v).num ≢ pos 0) (sym c.self.view_is) c.requires.pivot in
     let left_is : c.index-left.result.now ≡ basic_at inside.basics.items r = c.index-left.ensures ∙ get_or_default inside.basics.items r c.index-left.result.now 0 (let e = table.basics in omega arith) in
     let made : new_rows n inside.rows.items r v ≡ Ok new =
-        ap (λ k. new_rows k inside.rows.items r v) (sym room.quotients) ∙ ap (λ (z : List (List Fraction)). new_rows (length inside.quotients) z r v) (sym c.as_mut_slice.ensures.value) ∙ c.in-Ok.ensures.pivoted in
+    ap (λ k. new_rows k inside.rows.items r v) (sym room.quotients) ∙ ap (λ (z : List (List Fraction)). new_rows (length inside.quotients) z r v) (sym c.as_mut_slice.ensures.value) ∙ c.in-Ok.ensures.pivoted in
     let same = count n inside.rows.items r v table.rows row var pivot new made in
     let kept = c.in-Ok.ensures.room in
     let rows_is : take inside.rows.len (new ++ drop (length new) inside.rows.items) ≡ new = take_whole new (drop (length new) inside.rows.items) inside.rows.len (let e = c.as_mut_slice.ensures.len in omega arith) in

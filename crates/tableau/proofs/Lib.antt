@@ -1,4 +1,5 @@
 pub mod EntryLaws
+pub mod Examples
 pub mod FractionLaws
 pub mod ListLaws
 pub mod PointLaws

@@ -2,6 +2,7 @@ pub mod EntryLaws
 pub mod Examples
 pub mod FractionLaws
 pub mod ListLaws
+pub mod NumberLaws
 pub mod PointLaws
 pub mod RowLaws
 pub mod StartLaws

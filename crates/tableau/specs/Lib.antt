@@ -1,4 +1,5 @@
 pub mod Changes
+pub mod Meanings
 pub mod Nodes
 pub mod Numbers
 pub mod Pivots

@@ -1,5 +1,7 @@
-ghost use Rattle.std.specs.Prelude.{◌≡◌, Ok, IsTrue};
+ghost use Rattle.std.specs.Prelude.{◌≡◌, IfOk, Ok};
 ghost use Rattle.frac128.specs.Fractions.{IsFraction};
+ghost use Rattle.frac128.specs.Rationals.{of, sub as less, mul as times};
+ghost use Rattle.frac128.specs.Values.{value_of};
 ghost use Rattle.tableau.specs.Tables.{is_nought, whole as whole_of};
 ghost use Rattle.tableau.specs.Numbers.{less_product};
 
@@ -17,7 +19,8 @@ pub fn is_zero(x: Frac) -> bool
 /// A whole number as a fraction.
 #[inline]
 pub fn whole(z: i64) -> Frac
-    ensures { result ≡ whole_of z }
+    ensures exact { result ≡ whole_of z }
+    ensures value { value_of result ≡ of z }
 {
     frac(i128::from(z), 1)
 }
@@ -25,7 +28,8 @@ pub fn whole(z: i64) -> Frac
 /// A fraction less the product of two. A factor of 0 leaves it alone.
 #[inline]
 pub fn lessened(x: Frac, f: Frac, g: Frac) -> Result<Frac, Wide>
-    ensures { result ≡ less_product x f g }
+    ensures exact { result ≡ less_product x f g }
+    ensures value { IfOk result (λ r. value_of r ≡ less (value_of x) (times (value_of f) (value_of g))) }
 {
     let (first, second) = (is_zero(f), is_zero(g));
     if first || second {

@@ -1,10 +1,12 @@
-ghost use Rattle.std.specs.Prelude.{◌≡◌, ◌≢◌, ◌<◌, ◌+◌, ◌↔◌, IsTrue, List, length, OnOk, OnErr, Ok, Err, None, pos, ℤ, slice_set};
+ghost use Rattle.std.specs.Prelude.{◌≡◌, ◌≢◌, ◌<◌, ◌+◌, ◌↔◌, IsTrue, IfOk, List, length, OnOk, OnErr, Ok, Err, None, pos, ℤ, slice_set};
 ghost use Rattle.ip_defs.specs.declared.programs.Parts.{Parts};
 ghost use Rattle.tableau.specs.declared.rests.Rest.TheVariants.{Basic};
 ghost use Rattle.tableau.specs.Tables.{at as number_at, entry as entry_at, basic_at, rest_at, variable_at, CanRest, IsTable, IsRoom};
 ghost use Rattle.tableau.specs.Numbers.{value as value_of_row, price as price_of, ratio as ratio_of, side_at};
 ghost use Rattle.tableau.specs.Pivots.{after_pivot, after_flip};
 ghost use Rattle.tableau.specs.Nodes.{StandsFor, HasItsPoints};
+ghost use Rattle.tableau.specs.Meanings.{value_number, price_number, ratio_number};
+ghost use Rattle.frac128.specs.Values.{value_of};
 
 use crate::numbers::{column_price, named_side, row_value};
 use crate::pivots::pivot_rows;
@@ -240,7 +242,8 @@ impl Tableau {
     /// The value of a row's basic variable, where the others rest.
     pub fn value(&self, row: u32) -> Result<Frac, Wide>
         requires { row < length self.now.rows }
-        ensures { result ≡ value_of_row self.now row }
+        ensures exact { result ≡ value_of_row self.now row }
+        ensures number { IfOk result (λ x. value_of x ≡ value_number self.now row) }
     {
         let line = &self.rows[row as usize];
         row_value(
@@ -253,7 +256,8 @@ impl Tableau {
     /// The reduced cost of a variable.
     pub fn price(&self, var: u32) -> Result<Frac, Wide>
         requires { var < length self.now.variables }
-        ensures { result ≡ price_of self.now var }
+        ensures exact { result ≡ price_of self.now var }
+        ensures number { IfOk result (λ x. value_of x ≡ price_number self.now var) }
     {
         column_price(
             self.rows.as_slice(),
@@ -270,7 +274,8 @@ impl Tableau {
         requires free { rest_at self.now.rests var ≢ Basic }
         requires pivot { (entry_at self.now.rows row var).num ≢ pos 0 }
         requires side { side_at (variable_at self.now.variables (basic_at self.now.basics row)) side ≢ None }
-        ensures { result ≡ ratio_of self.now row var side }
+        ensures exact { result ≡ ratio_of self.now row var side }
+        ensures number { IfOk result (λ x. value_of x ≡ ratio_number self.now row var side) }
     {
         let value = match self.value(row) {
             Ok(value) => value,

@@ -15,7 +15,7 @@ loop-column-preserved c =
     let test : i < length coefs = c.loop-column-test.true in
     let small = c.requires.small i test in
     let size = c.loop-column.invariant.size in
-    let value_is : c.whole.result ≡ whole (neg_ℤ (value_at coefs i)) = c.whole.ensures ∙ ap whole (omega (arith, ints)) in
+    let value_is : c.whole.result ≡ whole (neg_ℤ (value_at coefs i)) = c.whole.ensures.exact ∙ ap whole (omega (arith, ints)) in
     let inside : number_at coefs i < length numbers = omega (arith, c.requires.ordered.within i test) in
     let same : length c.set.new.self ≡ length numbers = ap length c.set.ensures ∙ length-set numbers (number_at coefs i) c.whole.result in
     record {

@@ -38,6 +38,6 @@ returns c =
     let second = c.put_coefs.ensures.size in
     c.set.ensures
     ∙ ap (λ z. slice_set numbers (z + k) c.whole.result) columns
-    ∙ ap (λ (y : Fraction). slice_set numbers (length m.columns + k) y) c.whole.ensures
+    ∙ ap (λ (y : Fraction). slice_set numbers (length m.columns + k) y) c.whole.ensures.exact
     ∙ start_line_is m k row numbers found (c.requires.limits.shape.rows k row found).coefs c.requires.row (omega arith)
     (λ v l. c.put_coefs.ensures.numbers v (omega arith) ∙ ap (λ (cs : List (ℕ × ℤ)). whole (neg_ℤ (coefficient cs v))) c.as_slice.ensures)

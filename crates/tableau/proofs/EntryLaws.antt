@@ -1,12 +1,12 @@
 -- The entries after a pivot: they are fractions, and the numbers of the pivot.
 use Rattle.std.specs.Prelude.{◌≡◌, ◌≢◌, ℕ, ◌<◌, ◌==◌, Bool, true, false, cond, List, [], length, Result, Ok, Err, pos}
-use Rattle.std.proofs.Common.{arith, refl, ap, sym, ◌∙◌, subst}
+use Rattle.std.proofs.Common.{arith, refl, ap, ◌∙◌}
 use Rattle.frac128.specs.declared.fraction.Wide.{Wide}
 use Rattle.frac128.specs.Fractions.{Fraction, quotient_of}
 use Rattle.frac128.specs.Rationals.{Rational, sub, mul, inverse}
 use Rattle.frac128.specs.Values.{value_of}
 use Rattle.frac128.proofs.Rationals.{rationals}
-use Rattle.tableau.specs.Tables.{at, line, entry, whole, AreRows}
+use Rattle.tableau.specs.Tables.{line, entry, whole, AreRows}
 use Rattle.tableau.specs.Numbers.{and_then, less_product}
 use Rattle.tableau.specs.Pivots.{all_below, new_entry, new_rows}
 use Rattle.tableau.proofs.FractionLaws.{Proper, quotient-proper, quotient-value, less_product-value}

@@ -3,7 +3,7 @@ use Rattle.std.specs.Prelude.{◌≡◌, ◌^◌, [], ◌∷◌, List, Some, Non
 use Rattle.frac128.specs.Gcd.{gcd}
 use Rattle.frac128.specs.Fractions.{Fraction, lowest_of, sum_of, product_of}
 use Rattle.ip_defs.specs.declared.programs.Parts.{Parts}
-use Rattle.tableau.specs.declared.rests.Rest.TheVariants.{Basic, Low, High, Zero}
+use Rattle.tableau.specs.declared.rests.Rest.TheVariants.{Basic, Low, High}
 use Rattle.tableau.specs.declared.variables.Variable.{Variable}
 use Rattle.tableau.specs.Tables.{Table, whole}
 use Rattle.tableau.specs.Numbers.{value, price, ratio}

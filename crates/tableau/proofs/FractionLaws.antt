@@ -1,12 +1,12 @@
 -- The steps of a tableau on fractions: a factor of 0 changes nothing, the answers are fractions, and they are the exact numbers.
-use Rattle.std.specs.Prelude.{◌≡◌, ◌≢◌, ◌<◌, ◌==◌, ◌^◌, zero, suc, true, false, if◌then◌else◌, Option, Some, None, Result, Ok, Err, IfOk, ℤ, pos, negsuc, neg_ℤ, ◌*ℤ◌, ◌<ℤ◌, int_lt, int_div, unsigned_abs}
+use Rattle.std.specs.Prelude.{◌≡◌, ◌≢◌, zero, suc, true, false, if◌then◌else◌, Option, Some, None, Result, Ok, Err, IfOk, ℤ, pos, negsuc, neg_ℤ, ◌*ℤ◌, ◌<ℤ◌, int_lt, int_div, unsigned_abs}
 use Rattle.std.proofs.Common.{arith, refl, ap, sym, ◌∙◌, subst}
 use Rattle.std.proofs.lemmas.Bool.{eqb-true}
 use Rattle.std.proofs.lemmas.Int.{ints}
 use Rattle.frac128.specs.declared.fraction.Wide.{Wide}
-use Rattle.frac128.specs.Fractions.{Fraction, IsFraction, within, reduced_of, shared, lowest_of, sum_where, sum_of, fraction_where, product_of, negative_of, difference_of, reciprocal_of, quotient_of}
-use Rattle.frac128.specs.Rationals.{of, sub, mul, inverse, quotient, rational}
-use Rattle.frac128.specs.Values.{value_of, IsSum, IsDifference, IsProduct, IsQuotient}
+use Rattle.frac128.specs.Fractions.{Fraction, IsFraction, within, shared, lowest_of, sum_where, sum_of, fraction_where, product_of, negative_of, difference_of, reciprocal_of, quotient_of}
+use Rattle.frac128.specs.Rationals.{of, sub, mul, inverse, rational}
+use Rattle.frac128.specs.Values.{value_of, IsDifference, IsProduct, IsQuotient}
 use Rattle.frac128.proofs.FractionLaws.{within-some, IsFraction-product, IsFraction-lowest, IsFraction-negative, IsFraction-turned, sum_num, sum_den, sum-positive, product-exact, sum-exact, IfOk-difference, IfOk-quotient}
 use Rattle.frac128.proofs.Fractions.{lowest-is}
 use Rattle.frac128.proofs.Order.{nonzero}

@@ -1,6 +1,6 @@
 -- The numbers of a tableau, one step after the other, as rational numbers.
 use Rattle.std.specs.Prelude.{◌≡◌, ℕ, suc, ◌+◌, Result, Ok, Err, IfOk, pos}
-use Rattle.std.proofs.Common.{arith, refl, ap, sym, ◌∙◌, subst}
+use Rattle.std.proofs.Common.{arith, refl, ap, sym, ◌∙◌}
 use Rattle.ring_laws.proofs.Normal.{num, ◌⊕◌, ◌⊖◌, ◌⊗◌, minus}
 use Rattle.ring_laws.proofs.Named.{ring2, ring3}
 use Rattle.ring_laws.proofs.Sums.{sum}

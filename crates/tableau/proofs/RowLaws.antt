@@ -8,7 +8,7 @@ use Rattle.tableau.specs.Tables.{at, line, entry, whole, is_nought, AreRows}
 use Rattle.tableau.specs.Numbers.{and_then, less_product}
 use Rattle.tableau.specs.Pivots.{all_below, new_entry, new_rows}
 use Rattle.tableau.specs.Changes.{is_changed, lessened_row, AreLessened, HasWideRow}
-use Rattle.tableau.proofs.FractionLaws.{Proper, less_nought_left, quotient-proper}
+use Rattle.tableau.proofs.FractionLaws.{less_nought_left, quotient-proper}
 use Rattle.tableau.proofs.ListLaws.{all_below-ok, all_below-wide, all_below-is, all_below-same}
 
 pub same_number : (n : ℕ) → (n == n) ≡ true

@@ -7,22 +7,21 @@ use Rattle.std.proofs.lemmas.Int.{ints}
 use Rattle.std.proofs.lemmas.Grind.{get_or-set_at}
 use Rattle.std.proofs.lemmas.List.{get_or-set_other, take_more, map-append}
 use Rattle.std.proofs.Math.Seq.{take-length}
-use Rattle.frac128.specs.Fractions.{Fraction, IsFraction}
-use Rattle.frac128.specs.Rationals.{Rational, of, neg}
+use Rattle.frac128.specs.Fractions.{Fraction}
+use Rattle.frac128.specs.Rationals.{of, neg}
 use Rattle.frac128.specs.Values.{value_of}
 use Rattle.frac128.proofs.Rationals.{rationals}
 use Rattle.frac128.proofs.Order.{of_neg}
 use Rattle.frac128.proofs.WholeLaws.{IsFraction-whole}
 use Rattle.ip_defs.specs.Program.{coefficient}
-use Rattle.ip_defs.specs.Limits.{number_at, value_at, AreOrdered, AreSmall, IsWithinLimits}
+use Rattle.ip_defs.specs.Limits.{number_at, value_at, AreOrdered, IsWithinLimits}
 use Rattle.ip_defs.specs.Certificates.{coefs_of, entry as coefficient_of}
 use Rattle.ip_defs.specs.declared.programs.Row.{Row}
 use Rattle.ip_defs.specs.declared.programs.Parts.{Parts}
 use Rattle.ip_model.proofs.RowLaws.{coefficient_none, fresh, coefficient_more, coefficient_small}
-use Rattle.tableau.specs.declared.rests.Rest.{Rest}
-use Rattle.tableau.specs.declared.rests.Rest.TheVariants.{Basic, Low, High, Zero}
+use Rattle.tableau.specs.declared.rests.Rest.TheVariants.{Basic, Low}
 use Rattle.tableau.specs.declared.variables.Variable.{Variable}
-use Rattle.tableau.specs.Tables.{Table, whole, at, line, entry, basic_at, rest_at, variable_at, CanRest, AreRows, IsTable}
+use Rattle.tableau.specs.Tables.{whole, at, entry, basic_at, rest_at, IsTable}
 use Rattle.tableau.specs.Nodes.{column_variable, slack_variable, variables_of, listed, start_entry, start_of, number, RestsRight, StandsFor, HasItsPoints}
 use Rattle.tableau.proofs.FractionLaws.{Proper, whole-value}
 use Rattle.tableau.proofs.ListLaws.{listed-at, length-listed, listed_is}

@@ -1,5 +1,5 @@
 -- A pivot and a flip keep what a tableau is, and what it stands for.
-use Rattle.std.specs.Prelude.{◌≡◌, ◌≢◌, ℕ, ◌+◌, ◌<◌, ◌==◌, Bool, true, false, cond, List, [], length, Result, Ok, Err, OnOk, OnErr, None, pos, ℤ, slice_set}
+use Rattle.std.specs.Prelude.{◌≡◌, ◌≢◌, ℕ, ◌+◌, ◌<◌, ◌==◌, Bool, true, false, cond, List, length, Result, Ok, Err, OnOk, OnErr, None, pos, ℤ, slice_set}
 use Rattle.std.proofs.Common.{arith, refl, ap, sym, ◌∙◌, subst, length-set}
 use Rattle.std.proofs.lemmas.Bool.{eqb-true, eqb-false}
 use Rattle.std.proofs.lemmas.List.{get_or-set_same, get_or-set_other}
@@ -8,12 +8,12 @@ use Rattle.frac128.specs.Fractions.{Fraction}
 use Rattle.frac128.specs.Rationals.{Rational, of, mul, inverse}
 use Rattle.frac128.proofs.Rationals.{rationals}
 use Rattle.frac128.proofs.Order.{inverse-is}
-use Rattle.ring_laws.proofs.Sums.{sum, sum_same}
+use Rattle.ring_laws.proofs.Sums.{sum_same}
 use Rattle.ip_defs.specs.declared.programs.Parts.{Parts}
 use Rattle.ip_defs.specs.Certificates.{entry as coefficient_of}
 use Rattle.tableau.specs.declared.rests.Rest.{Rest}
 use Rattle.tableau.specs.declared.rests.Rest.TheVariants.{Basic, Low, High, Zero}
-use Rattle.tableau.specs.Tables.{Table, entry, basic_at, rest_at, variable_at, CanRest, AreRows, IsTable}
+use Rattle.tableau.specs.Tables.{Table, entry, basic_at, rest_at, variable_at, CanRest, IsTable}
 use Rattle.tableau.specs.Numbers.{and_then}
 use Rattle.tableau.specs.Pivots.{new_rows, after_pivot, other_side, after_flip}
 use Rattle.tableau.specs.Nodes.{number, RestsRight, StandsFor, IsNought, HasItsPoints}

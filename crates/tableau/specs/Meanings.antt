@@ -1,5 +1,5 @@
 -- What the numbers of a tableau are: its value, reduced cost and ratio as rational numbers.
-use Rattle.std.specs.Prelude.{ℕ, length, Option, Some, None, ℤ, pos}
+use Rattle.std.specs.Prelude.{ℕ, length}
 use Rattle.frac128.specs.Rationals.{Rational, of, sub, mul, neg, quotient}
 use Rattle.frac128.proofs.Rationals.{rationals}
 use Rattle.ring_laws.proofs.Sums.{sum}

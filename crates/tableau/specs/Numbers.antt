@@ -1,6 +1,6 @@
 -- The numbers of a tableau: the value of a row's basic variable, the reduced cost of a variable, and how far a variable can go. Each
 -- is made by steps in a named order, and is wide exactly where one of them is.
-use Rattle.std.specs.Prelude.{◌≡◌, ℕ, zero, suc, List, length, Option, Some, None, Result, Ok, Err, ℤ, pos}
+use Rattle.std.specs.Prelude.{ℕ, zero, suc, length, Option, Some, None, Result, Ok, Err, ℤ, pos}
 use Rattle.frac128.specs.declared.fraction.Wide.{Wide}
 use Rattle.frac128.specs.Fractions.{Fraction, product_of, difference_of, quotient_of}
 use Rattle.tableau.specs.declared.rests.Rest.{Rest}

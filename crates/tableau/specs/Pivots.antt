@@ -1,5 +1,5 @@
 -- The steps of a tableau as functions on plain data: a pivot, which is wide exactly where the step of one of its entries is, and a flip.
-use Rattle.std.specs.Prelude.{◌≡◌, ℕ, zero, suc, ◌==◌, Bool, if◌then◌else◌, List, [], ◌∷◌, length, Result, Ok, Err, slice_set}
+use Rattle.std.specs.Prelude.{ℕ, zero, suc, ◌==◌, if◌then◌else◌, List, [], ◌∷◌, length, Result, Ok, slice_set}
 use Rattle.frac128.specs.declared.fraction.Wide.{Wide}
 use Rattle.frac128.specs.Fractions.{Fraction, quotient_of}
 use Rattle.tableau.specs.declared.rests.Rest.{Rest}

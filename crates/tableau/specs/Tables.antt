@@ -1,5 +1,5 @@
 -- Tableaus as plain data: rows of fractions, a basic variable for each row, where each variable rests, and the variables of the node.
-use Rattle.std.specs.Prelude.{◌≡◌, ◌≢◌, ℕ, ◌<◌, ◌==◌, Bool, List, [], length, Option, Some, None, slice_index_or, ℤ, pos, unsigned_abs}
+use Rattle.std.specs.Prelude.{◌≡◌, ◌≢◌, ℕ, ◌<◌, ◌==◌, Bool, List, [], length, None, slice_index_or, ℤ, pos, unsigned_abs}
 use Rattle.frac128.specs.Fractions.{Fraction, IsFraction}
 use Rattle.tableau.specs.declared.rests.Rest.{Rest}
 use Rattle.tableau.specs.declared.rests.Rest.TheVariants.{Basic, Low, High, Zero}

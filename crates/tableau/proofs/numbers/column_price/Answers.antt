@@ -1,11 +1,11 @@
-use Rattle.std.proofs.Common.{arith, rules, ◌≡◌, ◌∙◌, sym, ap, refl, Ok, Err, ℕ, ◌+◌, length, Result, pos, List, [], ℤ}
+use Rattle.std.proofs.Common.{arith, rules, ◌≡◌, ◌∙◌, sym, ap, refl, Ok, Err, ℕ, ◌+◌, length, Result, List, [], ℤ}
 use Rattle.std.proofs.lemmas.List.{get_or_read_under}
 use Rattle.frac128.specs.Fractions.{Fraction}
 use Rattle.frac128.specs.declared.fraction.Wide.{Wide}
 use Rattle.tableau.specs.Tables.{at, entry, basic_at, variable_at, whole}
 use Rattle.frac128.specs.Rationals.{Rational, of, sub, mul}
 use Rattle.frac128.specs.Values.{value_of}
-use Rattle.tableau.specs.Numbers.{after_steps, less_product}
+use Rattle.tableau.specs.Numbers.{less_product}
 use Rattle.tableau.proofs.NumberLaws.{first_price, price_step}
 use Rattle.tableau.proofs.ListLaws.{after_steps-wide, after_steps-next, is_wide}
 use Rattle.tableau.proofs.numbers.column_price.Goals as goal
@@ -46,10 +46,10 @@ loop-i-preserved c =
     let cost_is : c.whole.result ≡ whole (cost i) = search rules in
     let number_is : value_of c.whole.result ≡ of (cost i) = search rules in
     let step : Ok c.in-Ok.less ≡ f i c.loop-i.price =
-        sym c.in-Ok.is ∙ c.lessened.ensures.exact ∙ ap (λ t. less_product c.loop-i.price t c.whole.result) entry_is ∙ ap (less_product c.loop-i.price (entry rows i c.args.var)) cost_is in
+    sym c.in-Ok.is ∙ c.lessened.ensures.exact ∙ ap (λ t. less_product c.loop-i.price t c.whole.result) entry_is ∙ ap (less_product c.loop-i.price (entry rows i c.args.var)) cost_is in
     let loss = c.in-Ok.ensures.value
-        ∙ ap (λ (t : Fraction). sub (value_of c.loop-i.price) (mul (value_of t) (value_of c.whole.result))) entry_is
-        ∙ ap (λ (z : Rational). sub (value_of c.loop-i.price) (mul (value_of (entry rows i c.args.var)) z)) number_is in
+    ∙ ap (λ (t : Fraction). sub (value_of c.loop-i.price) (mul (value_of t) (value_of c.whole.result))) entry_is
+    ∙ ap (λ (z : Rational). sub (value_of c.loop-i.price) (mul (value_of (entry rows i c.args.var)) z)) number_is in
     record {
       exact = after_steps-next f first c.loop-i.price i (Ok c.in-Ok.less) c.loop-i.invariant.exact step;
       number = price_step (of (variable_at c.args.variables.now c.args.var).cost) (λ i. mul (value_of (entry rows i c.args.var)) (of (cost i))) i (value_of c.loop-i.price) (value_of c.in-Ok.less) c.loop-i.invariant.number loss;

@@ -1,4 +1,4 @@
-use Rattle.std.proofs.Common.{◌≡◌, ℕ, Ok}
+use Rattle.std.proofs.Common.{◌≡◌, Ok}
 use Rattle.frac128.specs.Rationals.{of, sub, mul}
 use Rattle.frac128.specs.Values.{value_of}
 use Rattle.frac128.proofs.Rationals.{rationals}

@@ -5,7 +5,7 @@ use Rattle.frac128.specs.declared.fraction.Wide.{Wide}
 use Rattle.tableau.specs.Tables.{at, rest_at, variable_at, whole}
 use Rattle.frac128.specs.Rationals.{of, sub, mul}
 use Rattle.frac128.specs.Values.{value_of}
-use Rattle.tableau.specs.Numbers.{after_steps, less_resting, resting, side_or_zero}
+use Rattle.tableau.specs.Numbers.{less_resting, resting, side_or_zero}
 use Rattle.tableau.proofs.NumberLaws.{no_loss, value_step}
 use Rattle.tableau.proofs.ListLaws.{after_steps-wide, after_steps-next, is_wide}
 use Rattle.tableau.proofs.numbers.row_value.Goals as goal
@@ -36,11 +36,11 @@ loop-v-preserved c =
     let f : ℕ → Fraction → Result Fraction Wide = λ v x. less_resting x (at line v) (rest v) in
     let read = get_or_read_under line v (length line) c.index-line-v.result (whole (pos 0)) c.index-line-v.is c.loop-v-test.true refl in
     let step : Ok c.in-Ok.less ≡ f v c.loop-v.value =
-        sym c.in-Ok.is ∙ c.less_rest.ensures.exact ∙ ap (λ t. less_resting c.loop-v.value t c.resting_value.result) read
-        ∙ ap (λ (o : Option ℤ). less_resting c.loop-v.value (at line v) o) c.resting_value.ensures in
+    sym c.in-Ok.is ∙ c.less_rest.ensures.exact ∙ ap (λ t. less_resting c.loop-v.value t c.resting_value.result) read
+    ∙ ap (λ (o : Option ℤ). less_resting c.loop-v.value (at line v) o) c.resting_value.ensures in
     let loss = c.in-Ok.ensures.value
-        ∙ ap (λ (t : Fraction). sub (value_of c.loop-v.value) (mul (value_of t) (of (side_or_zero c.resting_value.result)))) read
-        ∙ ap (λ (o : Option ℤ). sub (value_of c.loop-v.value) (mul (value_of (at line v)) (of (side_or_zero o)))) c.resting_value.ensures in
+    ∙ ap (λ (t : Fraction). sub (value_of c.loop-v.value) (mul (value_of t) (of (side_or_zero c.resting_value.result)))) read
+    ∙ ap (λ (o : Option ℤ). sub (value_of c.loop-v.value) (mul (value_of (at line v)) (of (side_or_zero o)))) c.resting_value.ensures in
     record {
       exact = after_steps-next f (whole (pos 0)) c.loop-v.value v (Ok c.in-Ok.less) c.loop-v.invariant.exact step;
       number = value_step (λ v. mul (value_of (at line v)) (of (side_or_zero (rest v)))) v (value_of c.loop-v.value) (value_of c.in-Ok.less) c.loop-v.invariant.number loss;

@@ -1,4 +1,4 @@
-use Rattle.std.proofs.Common.{◌≡◌, ℕ, Ok, pos}
+use Rattle.std.proofs.Common.{◌≡◌, Ok, pos}
 use Rattle.frac128.specs.Rationals.{of, mul, neg}
 use Rattle.frac128.specs.Values.{value_of}
 use Rattle.frac128.proofs.Rationals.{rationals}

@@ -1,4 +1,4 @@
-use Rattle.std.proofs.Common.{arith, ◌≡◌, ◌∙◌, sym, ap, refl, pos, Ok, Err, ℕ, length, Result}
+use Rattle.std.proofs.Common.{arith, ◌≡◌, ◌∙◌, sym, ap, refl, pos, Err, ℕ, length, Result}
 use Rattle.std.proofs.lemmas.List.{get_or_read_under}
 use Rattle.frac128.specs.Fractions.{Fraction, quotient_of}
 use Rattle.frac128.specs.declared.fraction.Wide.{Wide}

@@ -1,11 +1,11 @@
-use Rattle.std.proofs.Common.{arith, ◌≡◌, ◌≢◌, ◌<◌, ◌∙◌, sym, ap, refl, Ok, Err, ℕ, length, Result, List, [], length-set, slice_set}
+use Rattle.std.proofs.Common.{arith, ◌≡◌, ◌∙◌, sym, ap, Ok, Err, ℕ, length, Result, List, [], length-set, slice_set}
 use Rattle.std.proofs.lemmas.List.{get_or_default, get_or-set_same, get_or-set_other}
 use Rattle.frac128.specs.Fractions.{Fraction, quotient_of}
 use Rattle.frac128.specs.declared.fraction.Wide.{Wide}
 use Rattle.tableau.specs.Tables.{at, line, entry}
 use Rattle.tableau.specs.Pivots.{all_below}
-use Rattle.tableau.specs.Changes.{is_changed, AreLessened, HasWideRow}
-use Rattle.tableau.proofs.RowLaws.{quotients_of, wide_pivot_row, wide_other_row, new_rows-are}
+use Rattle.tableau.specs.Changes.{AreLessened, HasWideRow}
+use Rattle.tableau.proofs.RowLaws.{wide_pivot_row, wide_other_row, new_rows-are}
 use Rattle.tableau.proofs.pivots.pivot_rows.Goals as goal
 
 -- the new pivot row from the row and the pivot that were read

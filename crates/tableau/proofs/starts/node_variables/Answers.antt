@@ -1,4 +1,4 @@
-use Rattle.std.proofs.Common.{arith, rules, refl, ◌≡◌, ◌<◌, ◌≤◌, ◌∙◌, sym, ap, ◌++◌, ◌∷◌, [], length, map, take, ℕ, ℤ, pos, List, get_or, append-nil}
+use Rattle.std.proofs.Common.{arith, rules, refl, ◌≡◌, ◌∙◌, sym, ap, length, map, take, ℤ, pos, List, get_or, append-nil}
 use Rattle.std.specs.List.{zip}
 use Rattle.std.specs.Int.{w64}
 use mir.Val.{SFits}
@@ -6,7 +6,6 @@ use Rattle.std.proofs.lemmas.Int.{to_z-of_z}
 use Rattle.std.proofs.lemmas.Slice.Zip.{get_or-zip}
 use Rattle.std.proofs.Math.Seq.{take-length}
 use Rattle.ip_defs.specs.declared.programs.Column.{Column}
-use Rattle.tableau.specs.declared.variables.Variable.{Variable}
 use Rattle.tableau.specs.Nodes.{column_variable}
 use Rattle.tableau.proofs.StartLaws.{length-zip, map-push}
 use Rattle.tableau.proofs.starts.node_variables.Goals as goal

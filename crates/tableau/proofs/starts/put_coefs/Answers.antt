@@ -1,5 +1,4 @@
-use Rattle.std.proofs.Common.{arith, ◌≡◌, ◌<◌, ◌∙◌, sym, ap, subst, length, length-set, ℕ, neg_ℤ, List}
-use Rattle.std.specs.Prelude.{slice_set}
+use Rattle.std.proofs.Common.{arith, ◌≡◌, ◌<◌, ◌∙◌, ap, length, length-set, neg_ℤ, List}
 use Rattle.std.proofs.lemmas.Int.{ints}
 use Rattle.frac128.specs.Fractions.{Fraction}
 use Rattle.ip_defs.specs.Limits.{number_at, value_at}

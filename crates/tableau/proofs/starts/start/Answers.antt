@@ -1,6 +1,5 @@
-use Rattle.std.proofs.Common.{arith, rules, ◌≡◌, ◌∙◌, sym, ap, subst, length, List, Result, Ok, Err, IfOk, ℤ}
+use Rattle.std.proofs.Common.{rules, ◌≡◌, sym, subst, Result, Ok, Err, IfOk}
 use Rattle.ip_defs.specs.declared.memory.Memory.{Memory}
-use Rattle.ip_defs.specs.declared.programs.Parts.{Parts}
 use Rattle.tableau.specs.Tables.{Table}
 use Rattle.tableau.specs.Nodes.{start_of, StandsFor, HasItsPoints}
 use Rattle.tableau.proofs.StartLaws.{start-stands, start-points}

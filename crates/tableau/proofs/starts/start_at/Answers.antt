@@ -1,10 +1,9 @@
-use Rattle.std.proofs.Common.{arith, refl, ◌≡◌, ◌+◌, ◌∙◌, sym, ap, subst, length, List, if◌then◌else◌, nat_lt}
+use Rattle.std.proofs.Common.{arith, ◌+◌, ◌∙◌, ap, length, List, if◌then◌else◌, nat_lt}
 use Rattle.frac128.specs.Fractions.{Fraction}
 use Rattle.ip_defs.specs.declared.programs.Column.{Column}
 use Rattle.ip_defs.specs.declared.programs.Row.{Row}
 use Rattle.tableau.specs.declared.rests.Rest.TheVariants.{Basic, Low}
 use Rattle.tableau.specs.declared.variables.Variable.{Variable}
-use Rattle.tableau.specs.Tables.{Table, IsTable}
 use Rattle.tableau.specs.Nodes.{listed, start_entry}
 use Rattle.tableau.proofs.ListLaws.{length-listed}
 use Rattle.tableau.proofs.StartLaws.{start-table, variable_count}

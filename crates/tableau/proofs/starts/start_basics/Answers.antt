@@ -1,4 +1,4 @@
-use Rattle.std.proofs.Common.{arith, ◌≡◌, ◌+◌}
+use Rattle.std.proofs.Common.{arith, ◌+◌}
 use Rattle.tableau.proofs.ListLaws.{listed-push}
 use Rattle.tableau.proofs.starts.start_basics.Goals as goal
 

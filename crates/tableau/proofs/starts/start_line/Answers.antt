@@ -1,4 +1,4 @@
-use Rattle.std.proofs.Common.{arith, ◌≡◌, ◌<◌, ◌+◌, ◌∙◌, sym, ap, length, Some, ℕ, ℤ, List, neg_ℤ}
+use Rattle.std.proofs.Common.{arith, ◌≡◌, ◌+◌, ◌∙◌, ap, length, Some, ℕ, ℤ, List, neg_ℤ}
 use Rattle.std.specs.Prelude.{slice_get, slice_set}
 use Rattle.frac128.specs.Fractions.{Fraction}
 use Rattle.ip_defs.specs.Program.{coefficient}

@@ -1,4 +1,4 @@
-use Rattle.std.proofs.Common.{arith, refl, ◌≡◌, nat_lt, if◌then◌else◌}
+use Rattle.std.proofs.Common.{nat_lt, if◌then◌else◌}
 use Rattle.tableau.specs.declared.rests.Rest.TheVariants.{Basic, Low}
 use Rattle.tableau.proofs.ListLaws.{listed-push}
 use Rattle.tableau.proofs.starts.start_rests.Goals as goal

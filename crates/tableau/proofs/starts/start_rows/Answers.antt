@@ -1,4 +1,4 @@
-use Rattle.std.proofs.Common.{arith, refl, ◌≡◌, ◌+◌, length}
+use Rattle.std.proofs.Common.{◌+◌, length}
 use Rattle.tableau.specs.Nodes.{listed, start_entry}
 use Rattle.tableau.proofs.ListLaws.{listed-push}
 use Rattle.tableau.proofs.starts.start_rows.Goals as goal

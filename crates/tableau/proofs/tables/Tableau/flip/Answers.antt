@@ -1,5 +1,4 @@
-use Rattle.std.proofs.Common.{arith, ◌≡◌, subst, sym}
-use Rattle.tableau.specs.Tables.{Table}
+use Rattle.std.proofs.Common.{subst, sym}
 use Rattle.tableau.specs.Nodes.{StandsFor, HasItsPoints}
 use Rattle.tableau.proofs.TableLaws.{flip_stands, flip_points}
 use Rattle.tableau.proofs.tables.Tableau.flip.Goals as goal

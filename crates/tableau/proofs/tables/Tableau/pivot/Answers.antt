@@ -1,4 +1,3 @@
-use Rattle.std.proofs.Common.{arith, ◌≡◌}
 use Rattle.tableau.proofs.TableLaws.{pivot_stands, pivot_points}
 use Rattle.tableau.proofs.tables.Tableau.pivot.Goals as goal
 

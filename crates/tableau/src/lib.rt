@@ -6,6 +6,7 @@
 #![tactic(auto)]
 
 mod fractions;
+mod lines;
 mod numbers;
 mod pivots;
 mod rests;

@@ -7,7 +7,7 @@ ghost use Rattle.tableau.specs.Tables.{at, line, entry, basic_at, rest_at, varia
 ghost use Rattle.tableau.specs.Numbers.{after_steps, less_product, less_resting, resting, side_or_zero, side_at};
 
 use crate::fractions::{lessened, whole};
-use crate::tables::Line;
+use crate::lines::Line;
 use crate::{Rest, Variable};
 use frac128::{Frac, Wide};
 

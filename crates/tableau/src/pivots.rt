@@ -5,7 +5,7 @@ ghost use Rattle.tableau.specs.Pivots.{all_below, new_rows};
 ghost use Rattle.tableau.specs.Changes.{is_changed, lessened_row, AreLessened, HasWideRow};
 
 use crate::fractions::{is_zero, lessened};
-use crate::tables::Line;
+use crate::lines::Line;
 use frac128::{Frac, Wide, div};
 use std::mem;
 

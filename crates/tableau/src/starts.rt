@@ -6,7 +6,7 @@ ghost use Rattle.tableau.specs.Tables.{at, line as line_of, whole as whole_of, I
 ghost use Rattle.tableau.specs.Nodes.{variables_of, listed, start_entry, start_of, StandsFor, HasItsPoints};
 
 use crate::fractions::whole;
-use crate::tables::Line;
+use crate::lines::Line;
 use crate::{Rest, Tableau, Variable};
 use ip_defs::{Area, Memory, Parts};
 use ip_model::IntModel;

@@ -1,13 +1,14 @@
-ghost use Rattle.std.specs.Prelude.{◌≡◌, ◌≢◌, ◌<◌, ◌+◌, ◌↔◌, IsTrue, IfOk, List, length, OnOk, OnErr, Ok, Err, None, pos, ℤ, slice_set};
+ghost use Rattle.std.specs.Prelude.{◌≡◌, ◌≢◌, ◌<◌, ◌+◌, ◌↔◌, IsTrue, IfOk, List, length, OnOk, OnErr, Ok, Err, None, pos, ℤ};
 ghost use Rattle.ip_defs.specs.declared.programs.Parts.{Parts};
 ghost use Rattle.tableau.specs.declared.rests.Rest.TheVariants.{Basic};
-ghost use Rattle.tableau.specs.Tables.{at as number_at, entry as entry_at, basic_at, rest_at, variable_at, CanRest, IsTable, IsRoom};
+ghost use Rattle.tableau.specs.Tables.{entry as entry_at, basic_at, rest_at, variable_at, CanRest, IsTable, IsRoom};
 ghost use Rattle.tableau.specs.Numbers.{value as value_of_row, price as price_of, ratio as ratio_of, side_at};
 ghost use Rattle.tableau.specs.Pivots.{after_pivot, after_flip};
 ghost use Rattle.tableau.specs.Nodes.{StandsFor, HasItsPoints};
 ghost use Rattle.tableau.specs.Meanings.{value_number, price_number, ratio_number};
 ghost use Rattle.frac128.specs.Values.{value_of};
 
+use crate::lines::Line;
 use crate::numbers::{column_price, named_side, row_value};
 use crate::pivots::pivot_rows;
 use crate::variables::can_rest_at;
@@ -15,56 +16,6 @@ use crate::{Rest, Steps, Variable};
 use frac128::{Frac, Wide, div, sub};
 use std::marker::Model;
 use std::sync::ledger::Ledger;
-
-/// A line of numbers, one for each variable.
-#[derive(Debug, Drop)]
-pub(crate) struct Line {
-    numbers: Vec<Frac>,
-}
-
-impl Model for Line {
-    ghost use Rattle.std.specs.Prelude.{List};
-    ghost use Rattle.frac128.specs.Fractions.{Fraction};
-
-    ghost Value = { List Fraction };
-
-    ghost view = { λ l. l.numbers.items };
-}
-
-impl Line {
-    /// The line of a vector.
-    pub(crate) fn new(numbers: Vec<Frac>) -> Line
-        ensures { result ≡ numbers.items }
-    {
-        Line { numbers }
-    }
-
-    /// The numbers, by variable.
-    #[inline]
-    pub(crate) fn as_slice(&self) -> &[Frac]
-        ensures { result.now ≡ self.now }
-    {
-        self.numbers.as_slice()
-    }
-
-    /// The number of a variable.
-    #[inline]
-    pub(crate) fn at(&self, var: usize) -> Frac
-        requires { var < length self.now }
-        ensures { result ≡ number_at self.now var }
-    {
-        self.numbers[var]
-    }
-
-    /// Puts a number in place of another.
-    #[inline]
-    pub(crate) fn set(&mut self, var: usize, number: Frac)
-        requires { var < length self.old }
-        ensures { self.new ≡ slice_set self.old var number }
-    {
-        self.numbers[var] = number;
-    }
-}
 
 /// A tableau of a node. Pivots and numbers take no memory: spare lines for the new rows are kept from the start.
 #[derive(Debug, Drop)]
@@ -186,7 +137,7 @@ impl Tableau {
     /// divided by the pivot, and each entry of another row loses its pivot-column entry times the new pivot-row entry. `Wide` comes
     /// exactly where one of these steps is wide; the tableau is then unchanged. It counts one step in each case.
     ///
-    /// A tableau that stands for a node does so afterwards. The bounded simplex method is Dantzig's.
+    /// A tableau that stands for a node does so afterwards. The simplex method with sides is Dantzig's (Linear Programming and Extensions, chapter 18).
     pub fn pivot<L: Ledger>(
         &mut self,
         row: u32,
@@ -239,7 +190,8 @@ impl Tableau {
         };
     }
 
-    /// The value of a row's basic variable, where the others rest.
+    /// The value of a row's basic variable where the others rest: 0 less each entry times resting value, over the variables that are not
+    /// basic by number. `Wide` comes exactly where one of these steps is wide.
     pub fn value(&self, row: u32) -> Result<Frac, Wide>
         requires { row < length self.now.rows }
         ensures exact { result ≡ value_of_row self.now row }
@@ -253,7 +205,8 @@ impl Tableau {
         )
     }
 
-    /// The reduced cost of a variable.
+    /// The reduced cost of a variable: its cost less each entry times the cost of the row's basic variable, over the rows by number.
+    /// `Wide` comes exactly where one of these steps is wide.
     pub fn price(&self, var: u32) -> Result<Frac, Wide>
         requires { var < length self.now.variables }
         ensures exact { result ≡ price_of self.now var }
@@ -267,7 +220,8 @@ impl Tableau {
         )
     }
 
-    /// How far a variable that is not basic can go until the row's basic variable meets one of its sides.
+    /// How far a variable that is not basic can go until the row's basic variable meets one of its sides: the row's value less the side,
+    /// divided by the entry. `Wide` comes exactly where one of these steps is wide.
     pub fn ratio(&self, row: u32, var: u32, side: Rest) -> Result<Frac, Wide>
         requires row { row < length self.now.rows }
         requires variable { var < length self.now.variables }

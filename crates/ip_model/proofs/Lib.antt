@@ -1,5 +1,6 @@
 pub mod LimitLaws
 pub mod PlaceLaws
+pub mod RowLaws
 pub mod ShapeLaws
 pub mod SizeLaws
 pub mod StepLaws

@@ -4,7 +4,8 @@ use Rattle.std.proofs.lemmas.Int.{ints, to_z-of_z}
 use mir.Val.{SFits}
 use Rattle.ip_defs.specs.Program.{at}
 use Rattle.ip_defs.specs.Limits.{number_at}
-use Rattle.leaf_cert.proofs.Rows.{fresh, row_step}
+use Rattle.ip_model.proofs.RowLaws.{fresh}
+use Rattle.leaf_cert.proofs.Rows.{row_step}
 use Rattle.leaf_cert.proofs.columns.add_row.Goals as goal
 
 pub plus_product-requires : goal.plus_product-requires

@@ -1,0 +1,10 @@
+pub mod EntryLaws
+pub mod Examples
+pub mod FractionLaws
+pub mod ListLaws
+pub mod NumberLaws
+pub mod PointLaws
+pub mod RowLaws
+pub mod StartLaws
+pub mod SystemLaws
+pub mod TableLaws

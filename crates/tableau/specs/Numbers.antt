@@ -1,0 +1,64 @@
+-- The numbers of a tableau: the value of a row's basic variable, the reduced cost of a variable, and how far a variable can go. Each
+-- is made by steps in a named order, and is wide exactly where one of them is.
+use Rattle.std.specs.Prelude.{ℕ, zero, suc, length, Option, Some, None, Result, Ok, Err, ℤ, pos}
+use Rattle.frac128.specs.declared.fraction.Wide.{Wide}
+use Rattle.frac128.specs.Fractions.{Fraction, product_of, difference_of, quotient_of}
+use Rattle.tableau.specs.declared.rests.Rest.{Rest}
+use Rattle.tableau.specs.declared.rests.Rest.TheVariants.{Basic, Low, High, Zero}
+use Rattle.tableau.specs.declared.variables.Variable.{Variable}
+use Rattle.tableau.specs.Tables.{Table, whole, entry, basic_at, rest_at, variable_at}
+
+-- a step on what is not wide
+abbrev pub and_then : {A B : Type 0} → Result A Wide → (A → Result B Wide) → Result B Wide
+and_then (Ok x) f = f x
+and_then (Err e) f = Err (record {})
+
+-- x less the product of f and g
+abbrev pub less_product : Fraction → Fraction → Fraction → Result Fraction Wide
+less_product x f g = and_then (product_of f g) (difference_of x)
+
+-- x after the steps 0 to n - 1
+abbrev pub after_steps : (ℕ → Fraction → Result Fraction Wide) → Fraction → ℕ → Result Fraction Wide
+after_steps f x zero = Ok x
+after_steps f x (suc n) = and_then (after_steps f x n) (f n)
+
+-- a side, 0 where it is absent
+abbrev pub side_or_zero : Option ℤ → ℤ
+side_or_zero None = pos 0
+side_or_zero (Some side) = side
+
+-- the value at which a variable rests, none for a basic one
+abbrev pub resting : Variable → Rest → Option ℤ
+resting x Basic = None
+resting x Low = Some (side_or_zero x.low)
+resting x High = Some (side_or_zero x.high)
+resting x Zero = Some (pos 0)
+
+-- x less an entry times the value at which its variable rests, where it is not basic
+abbrev pub less_resting : Fraction → Fraction → Option ℤ → Result Fraction Wide
+less_resting x t None = Ok x
+less_resting x t (Some z) = less_product x t (whole z)
+
+-- the value of a row's basic variable: 0 less each entry times resting value, over the variables by number
+abbrev pub value : Table → ℕ → Result Fraction Wide
+value T i = after_steps (λ v x. less_resting x (entry T.rows i v) (resting (variable_at T.variables v) (rest_at T.rests v))) (whole (pos 0)) (length T.variables)
+
+-- the cost of a variable
+abbrev pub cost_at : Table → ℕ → Fraction
+cost_at T v = whole (variable_at T.variables v).cost
+
+-- the reduced cost of a variable: its cost less each entry times the cost of the row's basic variable, over the rows by number
+abbrev pub price : Table → ℕ → Result Fraction Wide
+price T v = after_steps (λ i x. less_product x (entry T.rows i v) (cost_at T (basic_at T.basics i))) (cost_at T v) (length T.rows)
+
+-- the side of a variable that is named by a rest
+abbrev pub side_at : Variable → Rest → Option ℤ
+side_at x Basic = None
+side_at x Low = x.low
+side_at x High = x.high
+side_at x Zero = None
+
+-- how far a variable can go until the row's basic variable meets a side: its value less the side, divided by the entry
+abbrev pub ratio : Table → ℕ → ℕ → Rest → Result Fraction Wide
+ratio T i v side =
+    and_then (value T i) (λ x. and_then (difference_of x (whole (side_or_zero (side_at (variable_at T.variables (basic_at T.basics i)) side)))) (λ way. quotient_of way (entry T.rows i v)))

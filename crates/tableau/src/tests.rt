@@ -1,0 +1,384 @@
+ghost use Rattle.std.specs.Prelude.{◌≡◌, ◌<◌};
+
+use crate::{Rest, Steps, Tableau, start};
+use frac128::{Frac, Wide};
+use ip_defs::{Area, Coefs, Column, ColumnList, Memory, Name, Parts, Row, RowList};
+use ip_model::{IntModel, make, well_shaped};
+use std::alloc::Global;
+use std::marker::Brand;
+use std::process::Abort;
+use std::sync::ledger::{Blank, Ledger};
+
+fn column(alloc: Global, cost: i64, lo: i64, hi: i64) -> Column {
+    Column {
+        name: Name::new(String::new(alloc)),
+        cost,
+        lo,
+        hi,
+    }
+}
+
+fn row(alloc: Global, coefs: Vec<(u32, i64)>, low: Option<i64>, high: Option<i64>) -> Row {
+    Row {
+        name: Name::new(String::new(alloc)),
+        decimals: 0,
+        coefs: Coefs::from_vec(coefs),
+        low,
+        high,
+    }
+}
+
+/// A model of columns and rows, where it is well shaped and within the limits.
+fn model(alloc: Global, columns: Vec<Column>, rows: Vec<Row>) -> Option<IntModel> {
+    let parts = Parts {
+        objective: Name::new(String::new(alloc)),
+        cost_decimals: 0,
+        constant: 0,
+        columns: ColumnList::from_vec(columns),
+        rows: RowList::from_vec(rows),
+    };
+    if !well_shaped(&parts) {
+        return None;
+    }
+    make(parts).ok()
+}
+
+/// The tableau of a model over its own box.
+fn started(alloc: Global, model: &IntModel) -> Result<Option<Tableau>, Memory> {
+    let columns = model.parts().columns.as_slice();
+    let mut sides = Vec::new(alloc);
+    for column in columns {
+        sides.push((column.lo, column.hi))?;
+    }
+    let area = Area::from_vec(sides);
+    if area.as_slice().len() != columns.len() {
+        return Ok(None);
+    }
+    Ok(Some(start(alloc, model, &area)?))
+}
+
+/// Least -x where 2x <= 3, with x from 0 to 4.
+fn one_row(alloc: Global) -> Result<Option<Tableau>, Memory> {
+    let columns = vec![in alloc; column(alloc, -1, 0, 4)]?;
+    let rows = vec![in alloc; row(alloc, vec![in alloc; (0, 2)]?, None, Some(3))]?;
+    match model(alloc, columns, rows) {
+        Some(model) => started(alloc, &model),
+        None => Ok(None),
+    }
+}
+
+/// Least -5a - 4b - 3c with 2a + 3b + c <= 5, -3 <= 4a + b + 2c <= 11 and a row 3a + 4b + 2c without sides.
+fn three_rows(alloc: Global) -> Result<Option<Tableau>, Memory> {
+    let columns = vec![in alloc;
+        column(alloc, -5, 0, 10),
+        column(alloc, -4, 1, 10),
+        column(alloc, -3, -2, 7),
+    ]?;
+    let rows = vec![in alloc;
+        row(
+            alloc,
+            vec![in alloc; (0, 2), (1, 3), (2, 1)]?,
+            None,
+            Some(5)
+        ),
+        row(
+            alloc,
+            vec![in alloc; (0, 4), (1, 1), (2, 2)]?,
+            Some(-3),
+            Some(11)
+        ),
+        row(alloc, vec![in alloc; (0, 3), (1, 4), (2, 2)]?, None, None),
+    ]?;
+    match model(alloc, columns, rows) {
+        Some(model) => started(alloc, &model),
+        None => Ok(None),
+    }
+}
+
+/// Three rows of three coefficients of 32 bits each, with one of them to choose.
+fn long_rows(alloc: Global, chosen: i64) -> Result<Option<Tableau>, Memory> {
+    let columns = vec![in alloc;
+        column(alloc, 1, 0, 1),
+        column(alloc, 1, 0, 1),
+        column(alloc, 1, 0, 1),
+    ]?;
+    let first = vec![in alloc;
+        (0, 2_328_301_503),
+        (1, -1_102_351_748),
+        (2, -3_300_186_631),
+    ]?;
+    let second = vec![in alloc; (0, 3_279_809_026), (1, -1_248_415_223), (2, 3_072_532_668)]?;
+    let third = vec![in alloc; (0, -2_955_669_566), (1, chosen), (2, 2_820_594_775)]?;
+    let rows = vec![in alloc;
+        row(alloc, first, Some(0), Some(1)),
+        row(alloc, second, Some(0), Some(1)),
+        row(alloc, third, Some(0), Some(1)),
+    ]?;
+    match model(alloc, columns, rows) {
+        Some(model) => started(alloc, &model),
+        None => Ok(None),
+    }
+}
+
+/// The parts of a fraction, and 0, 0 for a wide answer.
+fn parts(answer: Result<Frac, Wide>) -> (i128, i128) {
+    match answer {
+        Ok(value) => (value.num(), value.den()),
+        Err(Wide) => (0, 0),
+    }
+}
+
+/// What a tableau tells of a row and a variable: the entry, the row's basic variable, where the variable rests, the row's value and
+/// the variable's price.
+fn seen(
+    tableau: &Tableau,
+    row: u32,
+    var: u32,
+) -> Option<((i128, i128), u32, Rest, (i128, i128), (i128, i128))> {
+    if !tableau.has(row, var) {
+        return None;
+    }
+    Some((
+        parts(Ok(tableau.entry(row, var))),
+        tableau.basic(row),
+        tableau.rest(var),
+        parts(tableau.value(row)),
+        parts(tableau.price(var)),
+    ))
+}
+
+/// The ratio of a row and a variable at a side, where it may be asked.
+fn ratio(tableau: &Tableau, row: u32, var: u32, side: Rest) -> Option<(i128, i128)> {
+    if !tableau.has(row, var) || side == Rest::Basic || side == Rest::Zero {
+        return None;
+    }
+    let basic = tableau.basic(row);
+    if tableau.rest(var) == Rest::Basic
+        || tableau.entry(row, var).num() == 0
+        || !tableau.can_rest(basic, side)
+    {
+        return None;
+    }
+    Some(parts(tableau.ratio(row, var, side)))
+}
+
+/// A pivot, where it may be made: whether it is not wide.
+fn pivot<L: Ledger>(
+    tableau: &mut Tableau,
+    row: u32,
+    var: u32,
+    leaving: Rest,
+    steps: &mut Steps<L>,
+) -> Option<bool> {
+    if !tableau.has(row, var) {
+        return None;
+    }
+    let basic = tableau.basic(row);
+    if tableau.rest(var) == Rest::Basic
+        || tableau.entry(row, var).num() == 0
+        || !tableau.can_rest(basic, leaving)
+    {
+        return None;
+    }
+    Some(tableau.pivot(row, var, leaving, steps).is_ok())
+}
+
+/// A flip, where it may be made.
+fn flip<L: Ledger>(tableau: &mut Tableau, var: u32, steps: &mut Steps<L>) -> bool {
+    if !tableau.has(0, var)
+        || !tableau.can_rest(var, Rest::Low)
+        || !tableau.can_rest(var, Rest::High)
+    {
+        return false;
+    }
+    let rest = tableau.rest(var);
+    if !tableau.can_rest(var, rest) {
+        return false;
+    }
+    tableau.flip(var, steps);
+    true
+}
+
+/// All entries, row by row, of a tableau of so many rows and variables.
+fn entries(
+    alloc: Global,
+    tableau: &Tableau,
+    rows: u32,
+    variables: u32,
+) -> Result<Vec<(i128, i128)>, Memory> {
+    let mut all = Vec::new(alloc);
+    for row in 0..rows {
+        for var in 0..variables {
+            if tableau.has(row, var) {
+                all.push(parts(Ok(tableau.entry(row, var))))?;
+            }
+        }
+    }
+    Ok(all)
+}
+
+#[test]
+fn the_worked_row(rt: HostRuntime) -> Result<(), Memory> {
+    worked_row::<Brand, HostRuntime>(&rt, rt.alloc(), Blank::new(1))
+}
+
+fn worked_row<L: Ledger, R: Abort>(rt: &R, alloc: Global, blank: Blank) -> Result<(), Memory>
+    requires name { blank.name ≡ L.name }
+    requires parts { blank.parts ≡ L.parts }
+    requires some { 0 < L.parts }
+{
+    let mut steps = Steps::<L>::new(blank);
+    let Some(mut tableau) = one_row(alloc)? else {
+        assert!(rt; false, "the model is within the limits");
+        return Ok(());
+    };
+    assert_eq!(rt;
+        seen(&tableau, 0, 0),
+        Some(((-2, 1), 1, Rest::Low, (0, 1), (-1, 1)))
+    );
+    assert_eq!(rt;
+        seen(&tableau, 0, 1),
+        Some(((1, 1), 1, Rest::Basic, (0, 1), (0, 1)))
+    );
+    assert_eq!(rt; ratio(&tableau, 0, 0, Rest::High), Some((3, 2)));
+    assert_eq!(rt; ratio(&tableau, 0, 0, Rest::Low), None);
+    assert_eq!(rt; pivot(&mut tableau, 0, 0, Rest::Low, &mut steps), None);
+    assert_eq!(rt;
+        pivot(&mut tableau, 0, 0, Rest::High, &mut steps),
+        Some(true)
+    );
+    assert_eq!(rt;
+        seen(&tableau, 0, 1),
+        Some(((-1, 2), 0, Rest::High, (3, 2), (-1, 2)))
+    );
+    assert_eq!(rt;
+        seen(&tableau, 0, 0),
+        Some(((1, 1), 0, Rest::Basic, (3, 2), (0, 1)))
+    );
+    assert_eq!(rt;
+        pivot(&mut tableau, 0, 1, Rest::High, &mut steps),
+        Some(true)
+    );
+    assert_eq!(rt;
+        seen(&tableau, 0, 0),
+        Some(((-2, 1), 1, Rest::High, (8, 1), (-1, 1)))
+    );
+    assert!(rt; seen(&tableau, 1, 0).is_none() && seen(&tableau, 0, 2).is_none());
+    Ok(())
+}
+
+#[test]
+fn steps_of_three_rows(rt: HostRuntime) -> Result<(), Memory> {
+    three_steps::<Brand, HostRuntime>(&rt, rt.alloc(), Blank::new(1))
+}
+
+fn three_steps<L: Ledger, R: Abort>(rt: &R, alloc: Global, blank: Blank) -> Result<(), Memory>
+    requires name { blank.name ≡ L.name }
+    requires parts { blank.parts ≡ L.parts }
+    requires some { 0 < L.parts }
+{
+    let mut steps = Steps::<L>::new(blank);
+    let Some(mut tableau) = three_rows(alloc)? else {
+        assert!(rt; false, "the model is within the limits");
+        return Ok(());
+    };
+    assert_eq!(rt;
+        seen(&tableau, 1, 1),
+        Some(((-1, 1), 4, Rest::Low, (-3, 1), (-4, 1)))
+    );
+    assert_eq!(rt;
+        pivot(&mut tableau, 0, 0, Rest::High, &mut steps),
+        Some(true)
+    );
+    assert_eq!(rt;
+        seen(&tableau, 2, 1),
+        Some(((1, 2), 5, Rest::Low, (6, 1), (7, 2)))
+    );
+    assert!(rt; flip(&mut tableau, 1, &mut steps) && !flip(&mut tableau, 0, &mut steps));
+    assert_eq!(rt;
+        seen(&tableau, 0, 1),
+        Some(((3, 2), 0, Rest::High, (-23, 2), (7, 2)))
+    );
+    // the slack of the row without sides leaves to 0, and to no side
+    assert_eq!(rt; pivot(&mut tableau, 2, 2, Rest::Low, &mut steps), None);
+    assert_eq!(rt;
+        pivot(&mut tableau, 2, 2, Rest::Zero, &mut steps),
+        Some(true)
+    );
+    assert_eq!(rt;
+        seen(&tableau, 2, 5),
+        Some(((-2, 1), 2, Rest::Zero, (-5, 1), (-1, 1)))
+    );
+    assert_eq!(rt;
+        pivot(&mut tableau, 1, 1, Rest::Low, &mut steps),
+        Some(true)
+    );
+    assert_eq!(rt;
+        seen(&tableau, 2, 3),
+        Some(((13, 5), 2, Rest::High, (-62, 5), (1, 5)))
+    );
+    assert_eq!(rt;
+        pivot(&mut tableau, 2, 5, Rest::High, &mut steps),
+        Some(true)
+    );
+    assert_eq!(rt; ratio(&tableau, 0, 3, Rest::Low), Some((-49, 1)));
+    let all = entries(alloc, &tableau, 3, 6)?;
+    let want = [
+        (1, 1),
+        (0, 1),
+        (1, 2),
+        (1, 10),
+        (-3, 10),
+        (0, 1),
+        (0, 1),
+        (1, 1),
+        (0, 1),
+        (-2, 5),
+        (1, 5),
+        (0, 1),
+        (0, 1),
+        (0, 1),
+        (-1, 2),
+        (-13, 10),
+        (-1, 10),
+        (1, 1),
+    ];
+    assert_eq!(rt; all.as_slice(), &want[..]);
+    Ok(())
+}
+
+#[test]
+fn a_pivot_wide_by_one_bit(rt: HostRuntime) -> Result<(), Memory> {
+    wide_pivot::<Brand, HostRuntime>(&rt, rt.alloc(), Blank::new(1))
+}
+
+fn wide_pivot<L: Ledger, R: Abort>(rt: &R, alloc: Global, blank: Blank) -> Result<(), Memory>
+    requires name { blank.name ≡ L.name }
+    requires parts { blank.parts ≡ L.parts }
+    requires some { 0 < L.parts }
+{
+    let mut steps = Steps::<L>::new(blank);
+    for (chosen, fits) in [(-2_693_312_722, false), (-2_687_021_266, true)] {
+        let Some(mut tableau) = long_rows(alloc, chosen)? else {
+            assert!(rt; false, "the model is within the limits");
+            return Ok(());
+        };
+        assert_eq!(rt;
+            pivot(&mut tableau, 0, 0, Rest::Low, &mut steps),
+            Some(true)
+        );
+        let before = entries(alloc, &tableau, 3, 6)?;
+        let (basic, rest) = (seen(&tableau, 1, 1), seen(&tableau, 2, 4));
+        assert_eq!(rt;
+            pivot(&mut tableau, 1, 1, Rest::Low, &mut steps),
+            Some(fits)
+        );
+        let after = entries(alloc, &tableau, 3, 6)?;
+        assert_eq!(rt; before.as_slice() == after.as_slice(), !fits, "at {chosen}");
+        assert_eq!(rt;
+            basic == seen(&tableau, 1, 1) && rest == seen(&tableau, 2, 4),
+            !fits
+        );
+    }
+    Ok(())
+}

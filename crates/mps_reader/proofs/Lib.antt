@@ -1,3 +1,4 @@
+pub mod BoundLaws
 pub mod ClampLaws
 pub mod ColumnLaws
 pub mod ColumnLineLaws
@@ -7,14 +8,20 @@ pub mod FaultLaws
 pub mod FieldLaws
 pub mod FinishLaws
 pub mod GrowthLaws
+pub mod LimitedLaws
 pub mod LineLaws
 pub mod ModelLaws
 pub mod NameLaws
 pub mod OpenLaws
 pub mod PlaceLaws
+pub mod ReaderLaws
+pub mod RoundingLaws
 pub mod RowLaws
 pub mod SectionLaws
 pub mod SetLaws
 pub mod StayLaws
 pub mod TableLaws
 pub mod TakingLaws
+pub mod TextLaws
+pub mod WholeLaws
+pub mod WrittenLaws

@@ -1,12 +1,12 @@
 -- The places of names in a list that grows at its end.
-use Rattle.std.specs.Prelude.{◌≡◌, ℕ, zero, suc, ◌+◌, nat_lt, nat_le, Bool, true, false, cond, List, [], ◌∷◌, ◌++◌, length, map, position, slice_get, Option, None, Some, option_map, ◌||◌, not, bytes_eq, string_bytes, if◌then◌else◌, refl}
+use Rattle.std.specs.Prelude.{◌≡◌, ℕ, zero, suc, ◌+◌, ◌-◌, nat_lt, nat_le, Bool, true, false, cond, List, [], ◌∷◌, ◌++◌, length, map, position, slice_get, Option, None, Some, option_map, ◌||◌, not, bytes_eq, string_bytes, if◌then◌else◌, refl}
 use Rattle.std.specs.List.{list_any, position_or_len}
 use Rattle.std.specs.Option.{option_or, is_some, is_none}
 use Rattle.std.specs.String.{string_eq}
 use Rattle.std.proofs.Common.{String, Global, sym, ◌∙◌, ap, arith}
 use Rattle.std.proofs.lemmas.Bool.{le-ltb, lt-ltb, ltb-false, ltb-true}
 use Rattle.std.proofs.lemmas.Slice.Eq.{bytes_eq-Decides}
-use Rattle.ip_defs.specs.Lists.{is_among, where_true}
+use Rattle.ip_defs.specs.Lists.{is_among, last_of}
 use Rattle.mps_reader.specs.Progress.{AreApart}
 use Rattle.mps_reader.proofs.GrowthLaws.{true_not_false, or_none, map-append}
 use Rattle.mps_reader.proofs.SectionLaws.{any_of_map}
@@ -95,6 +95,14 @@ apart_more names name apart new i other there = get_of_more names name i other (
         ∙ ap (option_map (λ k. length names + k)) (position_cons (bytes_eq name) name [] ∙ ap (λ t. if t then Some 0 else None) (bytes_same name))
         ∙ ap Some (omega (arith, e)))
 
+pub bytes_turned : (a b : List ℕ) → bytes_eq a b ≡ bytes_eq b a
+bytes_turned a b = by (bytes_eq a b) (bytes_eq b a) refl refl
+  where
+    by : (t u : Bool) → bytes_eq a b ≡ t → bytes_eq b a ≡ u → bytes_eq a b ≡ bytes_eq b a
+    by true u e f = e ∙ sym ((bytes_eq-Decides b a).1 (sym ((bytes_eq-Decides a b).0 e)))
+    by false true e f = absurd (true_not_false (sym ((bytes_eq-Decides a b).1 (sym ((bytes_eq-Decides b a).0 f))) ∙ e))
+    by false false e f = e ∙ sym f
+
 -- where a set of names finds one
 pub place_of_name : (keys : List (String Global)) (name : List ℕ) → position (λ k. bytes_eq name (string_bytes k)) keys ≡ position (bytes_eq name) (map string_bytes keys)
 place_of_name [] name = refl
@@ -117,3 +125,12 @@ name_added keys s name is none =
         ∙ ap (λ n. list_any (bytes_eq n) (map string_bytes keys)) is
         ∙ sym (place_where_any (bytes_eq name) (map string_bytes keys))
         ∙ ap is_some (sym (place_of_name keys name) ∙ none)
+
+-- the last element by its number
+pub last_by_number : {A : Type 0} (xs : List A) → last_of xs ≡ slice_get xs (length xs - 1)
+last_by_number [] = refl
+last_by_number (x ∷ []) = refl
+last_by_number (x ∷ y ∷ xs) =
+    let here : length (y ∷ xs) - 1 ≡ length xs = omega arith in
+    let there : length (x ∷ y ∷ xs) - 1 ≡ suc (length xs) = omega arith in
+    last_by_number (y ∷ xs) ∙ ap (slice_get (y ∷ xs)) here ∙ sym (ap (slice_get (x ∷ y ∷ xs)) there)

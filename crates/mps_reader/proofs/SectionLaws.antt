@@ -1,5 +1,5 @@
 -- The order of the sections.
-use Rattle.std.specs.Prelude.{◌≡◌, ℕ, nat_lt, Bool, true, false, cond, if◌then◌else◌, List, [], ◌∷◌, ◌++◌, map, Option, None, Some, not, ◌&&◌, ◌||◌, bytes_eq, codes, refl}
+use Rattle.std.specs.Prelude.{◌≡◌, ℕ, nat_lt, Bool, true, false, cond, if◌then◌else◌, List, [], ◌∷◌, ◌++◌, map, Option, None, Some, option_map, not, ◌&&◌, ◌||◌, bytes_eq, codes, refl}
 use Rattle.std.specs.List.{list_all, list_any}
 use Rattle.std.specs.Option.{option_map_or, is_none}
 use Rattle.std.proofs.Common.{sym, ◌∙◌, ap, subst, arith}
@@ -158,27 +158,87 @@ pub no_right : {A : Type 0} (xs ys : List A) → xs ++ ys ≡ [] → ys ≡ []
 no_right [] ys h = h
 no_right (x ∷ xs) ys h = absurd (cc h)
 
-pub in_order : (ls : List Line) → all_line_faults ls ≡ [] → AreInOrder (words_of ls)
-in_order ls none = by_last (λ ks. all_line_faults ks ≡ [] → AreInOrder (words_of ks)) (λ e last later is h. absurd (none_is is)) more ls none
+-- what holds of no words, and of one more where it may come after the others, holds of the words of lines without a fault
+by_words : (P : List (List ℕ) → Type 0) → P [] → ((words : List (List ℕ)) (word : List ℕ) → P words → may_come words word ≡ true → P (words ++ word ∷ [])) → (ls : List Line) → all_line_faults ls ≡ [] → P (words_of ls)
+by_words P none one_more ls right = by_last (λ ks. all_line_faults ks ≡ [] → P (words_of ks)) (λ e. none) more ls right
   where
-    none_is : {last : List ℕ} → None ≡ Some last → ⊥
-    none_is e = cc e
+    may : (n : ℕ) (t : Bool) → when (not t) (SectionOrder n) ≡ [] → t ≡ true
+    may n true h = refl
+    may n false h = absurd (cc h)
 
-    may : (before : List Line) (l : Line) (t : Bool) → when (not t) (SectionOrder l.number) ≡ [] → t ≡ true
-    may before l true h = refl
-    may before l false h = absurd (cc h)
-
-    by : (before : List Line) (l : Line) (t : Bool) → l.is_item ≡ t → line_faults before l ≡ [] → AreInOrder (words_of before) → AreInOrder (words_of (before ++ l ∷ []))
-    by before l true item right h = subst AreInOrder (sym (words_stay before l item)) h
+    by : (before : List Line) (l : Line) (t : Bool) → l.is_item ≡ t → line_faults before l ≡ [] → P (words_of before) → P (words_of (before ++ l ∷ []))
+    by before l true item right h = subst P (sym (words_stay before l item)) h
     by before l false item right h =
         let no_fault : section_faults before l ≡ [] = sym (ap (λ t. if t then item_faults before l else section_faults before l) item) ∙ right in
         let order = no_right (when (is_none (place_of l.section)) (UnknownSection l.number)) (when (not (may_come (words_of before) l.section)) (SectionOrder l.number)) no_fault in
-        subst AreInOrder (sym (words_grow before l item)) (order-add (words_of before) l.section (may before l (may_come (words_of before) l.section) order))
+        subst P (sym (words_grow before l item)) (one_more (words_of before) l.section h (may l.number (may_come (words_of before) l.section) order))
 
-    more : (before : List Line) (l : Line) → (all_line_faults before ≡ [] → AreInOrder (words_of before)) → all_line_faults (before ++ l ∷ []) ≡ [] → AreInOrder (words_of (before ++ l ∷ []))
+    more : (before : List Line) (l : Line) → (all_line_faults before ≡ [] → P (words_of before)) → all_line_faults (before ++ l ∷ []) ≡ [] → P (words_of (before ++ l ∷ []))
     more before l h e =
         let both = sym (faults-add before l) ∙ e in
         by before l l.is_item refl (no_right (all_line_faults before) (line_faults before l) both) (h (no_left (all_line_faults before) (line_faults before l) both))
+
+pub in_order : (ls : List Line) → all_line_faults ls ≡ [] → AreInOrder (words_of ls)
+in_order ls none = by_words AreInOrder (λ last later is h. absurd (cc is)) (λ words word h come. order-add words word come) ls none
+
+-- ROWS came where a later section did
+abbrev HaveRows : List (List ℕ) → Type 0
+HaveRows words = (word : List ℕ) → is_among word words ≡ true → is_before (codes "ROWS") word ≡ true → is_among (codes "ROWS") words ≡ true
+
+pub or_left_true : (a b : Bool) → a ≡ true → (a || b) ≡ true
+or_left_true true b h = refl
+or_left_true false b h = absurd (true_not_false (sym h))
+
+or_right_true : (a b : Bool) → b ≡ true → (a || b) ≡ true
+or_right_true true b h = refl
+or_right_true false b h = h
+
+rows_before : (words : List (List ℕ)) (word : List ℕ) → may_come words word ≡ true → is_before (codes "ROWS") word ≡ true → is_among (codes "ROWS") words ≡ true
+rows_before words word come after =
+    second (list_all (λ w. is_before w word) words) (is_before (codes "ROWS") word) (is_among (codes "ROWS") words) (not (is_before (codes "COLUMNS") word) || is_among (codes "COLUMNS") words) come after
+  where
+    second : (a b c d : Bool) → (a && (not b || c) && d) ≡ true → b ≡ true → c ≡ true
+    second true true true d h e = refl
+    second true true false d h e = absurd (true_not_false (sym h))
+    second true false c d h e = absurd (true_not_false (sym e))
+    second false b c d h e = absurd (true_not_false (sym h))
+
+pub have_rows : (ls : List Line) → all_line_faults ls ≡ [] → HaveRows (words_of ls)
+have_rows ls none = by_words HaveRows (λ word there after. there) more ls none
+  where
+    more : (words : List (List ℕ)) (last : List ℕ) → HaveRows words → may_come words last ≡ true → HaveRows (words ++ last ∷ [])
+    more words last h come word there after =
+        among-add (codes "ROWS") last words
+        ∙ or_left_true (is_among (codes "ROWS") words) (bytes_eq (codes "ROWS") last) (by (is_among word words) (bytes_eq word last) refl refl (sym (among-add word last words) ∙ there))
+      where
+        by : (t u : Bool) → is_among word words ≡ t → bytes_eq word last ≡ u → (is_among word words || bytes_eq word last) ≡ true → is_among (codes "ROWS") words ≡ true
+        by true u e f either = h word e after
+        by false true e f either = rows_before words last come (ap (is_before (codes "ROWS")) (sym ((bytes_eq-Decides word last).0 f)) ∙ after)
+        by false false e f either = absurd (true_not_false (sym either ∙ or_false (is_among word words) (bytes_eq word last) e f))
+
+-- ---- the last section
+
+pub last_of_map : {A B : Type 0} (f : A → B) (xs : List A) → last_of (map f xs) ≡ option_map f (last_of xs)
+last_of_map f [] = refl
+last_of_map f (x ∷ []) = refl
+last_of_map f (x ∷ y ∷ xs) = last_of_map f (y ∷ xs)
+
+pub last_word_is : (ls : List Line) (sections : List Section) → SectionsStand ls sections → last_of (words_of ls) ≡ option_map section_word (last_of sections)
+last_word_is ls sections h = ap last_of (sym h.words) ∙ last_of_map section_word sections
+
+pub last_is_among : (words : List (List ℕ)) (word : List ℕ) → last_of words ≡ Some word → is_among word words ≡ true
+last_is_among [] word h = absurd (cc h)
+last_is_among (w ∷ []) word h = or_left_true (bytes_eq word w) false ((bytes_eq-Decides word w).1 (cc h))
+last_is_among (w ∷ v ∷ words) word h = or_right_true (bytes_eq word w) (is_among word (v ∷ words)) (last_is_among (v ∷ words) word h)
+
+pub none_is_among : (words : List (List ℕ)) (word : List ℕ) → last_of words ≡ None → is_among word words ≡ false
+none_is_among [] word h = refl
+none_is_among (w ∷ []) word h = absurd (cc h)
+none_is_among (w ∷ v ∷ words) word h = absurd (none_of v words h)
+  where
+    none_of : (v : List ℕ) (ws : List (List ℕ)) → last_of (v ∷ ws) ≡ None → ⊥
+    none_of v [] e = cc e
+    none_of v (w ∷ ws) e = none_of w ws e
 
 -- a section later than the last one has no line
 pub later_is_empty : (ls : List Line) (d : Draft) (last later : List ℕ) → Stands ls d → last_of (words_of ls) ≡ Some last → is_before last later ≡ true → items_of later ls ≡ []

@@ -1,7 +1,9 @@
 pub mod Below
+pub mod BoundWords
 pub mod Clamps
 pub mod Drafted
 pub mod Finished
 pub mod How
 pub mod Progress
+pub mod Reading
 pub mod Taking

@@ -1,3 +1,14 @@
+ghost use Rattle.std.specs.Prelude.{◌≡◌, ℕ, ◌||◌, ◌&&◌, ◌<◌, [], List, None, Some, true, false, codes, length, map, not, position, bytes_eq, string_bytes, slice_get, slice_set, OnOk, IfSome};
+ghost use Rattle.std.specs.Option.{MatchOption};
+ghost use Rattle.decimals.specs.Decimals.{IsBelowLarge};
+ghost use Rattle.ip_defs.specs.Lists.{is_among, last_of, where_true};
+ghost use Rattle.ip_defs.specs.Numbers.{is_large, number_of};
+ghost use Rattle.ip_defs.specs.Records.{Line, bound_column, bound_kind, bound_set, bound_text, takes_none, takes_number as takes_number_of, words_of};
+ghost use Rattle.ip_defs.specs.TextModels.{is_negative_number, no_number, rounded_down as rounded_down_of, rounded_up as rounded_up_of};
+ghost use Rattle.mps_reader.specs.BoundWords.{Says, after_bound as after_bound_of, bound_word, has_right_count, integer_words, lower_of, numbered_words, plain_words, upper_of};
+ghost use Rattle.mps_reader.specs.declared.draft.ColumnDraft.{ColumnDraft as ColumnDraftOf};
+ghost use Rattle.mps_reader.specs.Progress.{IsTaken, Stands, item};
+
 use crate::draft::{ColumnDraft, Draft, UpperBound};
 use crate::rounding::{rounded_down, rounded_up};
 use crate::sets::keep_set;
@@ -28,8 +39,19 @@ pub enum BoundKind {
     Binary,
 }
 
+/// The fields of a line of BOUNDS after its kind. The set is empty where none is named. The text is that of the number, where the
+/// kind takes one.
+#[derive(Clone, Copy)]
+struct BoundFields<'a> {
+    set: &'a str,
+    column: &'a str,
+    text: &'a str,
+}
+
 /// The kind of a bound that a word names.
-fn kind_of(word: &str) -> Option<BoundKind> {
+fn kind_of(word: &str) -> Option<BoundKind>
+    ensures { MatchOption result ((is_among word.now numbered_words || is_among word.now plain_words) ≡ false) (λ k. bound_word k ≡ word.now) }
+{
     match word {
         "LO" => Some(BoundKind::Lower),
         "LI" => Some(BoundKind::LowerInteger),
@@ -44,16 +66,10 @@ fn kind_of(word: &str) -> Option<BoundKind> {
     }
 }
 
-/// The kind of a line of BOUNDS: its first field.
-fn kind_in(fields: &[&str]) -> Option<BoundKind> {
-    match fields.first() {
-        Some(word) => kind_of(word),
-        None => None,
-    }
-}
-
 /// Whether a kind takes a number.
-fn takes_number(kind: BoundKind) -> bool {
+fn takes_number(kind: BoundKind) -> bool
+    ensures { result ≡ is_among (bound_word kind) numbered_words }
+{
     match kind {
         BoundKind::Lower
         | BoundKind::LowerInteger
@@ -65,15 +81,25 @@ fn takes_number(kind: BoundKind) -> bool {
 }
 
 /// Whether a bound of a kind names a column integer.
-fn names_integer(kind: BoundKind) -> bool {
+fn names_integer(kind: BoundKind) -> bool
+    ensures { result ≡ is_among (bound_word kind) integer_words }
+{
     match kind {
         BoundKind::LowerInteger | BoundKind::UpperInteger | BoundKind::Binary => true,
-        _ => false,
+        BoundKind::Lower
+        | BoundKind::Upper
+        | BoundKind::Fixed
+        | BoundKind::Free
+        | BoundKind::NoLower
+        | BoundKind::NoUpper => false,
     }
 }
 
 /// What a number says as a lower side: none where it is Large and negative.
-fn lower_side(number: Number) -> Option<i128> {
+fn lower_side(number: Number) -> Option<i128>
+    requires { IsBelowLarge number }
+    ensures { result ≡ where_true (not (is_large number && is_negative_number number)) (rounded_up_of number) }
+{
     match number {
         Number::Large { negative: true } => None,
         _ => Some(rounded_up(number)),
@@ -81,7 +107,10 @@ fn lower_side(number: Number) -> Option<i128> {
 }
 
 /// What a number says as an upper side: none where it is Large and positive.
-fn upper_side(number: Number) -> Option<i128> {
+fn upper_side(number: Number) -> Option<i128>
+    requires { IsBelowLarge number }
+    ensures { result ≡ where_true (not (is_large number && not (is_negative_number number))) (rounded_down_of number) }
+{
     match number {
         Number::Large { negative: false } => None,
         _ => Some(rounded_down(number)),
@@ -89,52 +118,70 @@ fn upper_side(number: Number) -> Option<i128> {
 }
 
 /// Whether a number is negative.
-fn is_negative(number: Number) -> bool {
+fn is_negative(number: Number) -> bool
+    ensures { result ≡ is_negative_number number }
+{
     match number {
         Number::Dec { units, .. } => units < 0,
         Number::Large { negative } => negative,
     }
 }
 
-/// An upper side by another kind than UP or UI.
-fn plain_upper(side: Option<i128>) -> UpperBound {
-    UpperBound {
-        side,
-        is_negative: false,
+/// What a bound of a kind says as a lower side.
+fn lower_said(kind: BoundKind, number: Number) -> Option<Option<i128>>
+    requires { IsBelowLarge number }
+    ensures { result ≡ lower_of (bound_word kind) number }
+{
+    match kind {
+        BoundKind::Lower | BoundKind::LowerInteger | BoundKind::Fixed => Some(lower_side(number)),
+        BoundKind::Free | BoundKind::NoLower => Some(None),
+        BoundKind::Binary => Some(Some(0)),
+        BoundKind::Upper | BoundKind::UpperInteger | BoundKind::NoUpper => None,
     }
 }
 
 /// What a bound of a kind says as an upper side.
-fn upper_said(kind: BoundKind, number: Number) -> Option<UpperBound> {
+fn upper_said(kind: BoundKind, number: Number) -> Option<UpperBound>
+    requires { IsBelowLarge number }
+    ensures { result ≡ upper_of (bound_word kind) number }
+{
     match kind {
         BoundKind::Upper | BoundKind::UpperInteger => Some(UpperBound {
             side: upper_side(number),
             is_negative: is_negative(number),
         }),
-        BoundKind::Fixed => Some(plain_upper(upper_side(number))),
-        BoundKind::Free | BoundKind::NoUpper => Some(plain_upper(None)),
-        BoundKind::Binary => Some(plain_upper(Some(1))),
+        BoundKind::Fixed => Some(UpperBound {
+            side: upper_side(number),
+            is_negative: false,
+        }),
+        BoundKind::Free | BoundKind::NoUpper => Some(UpperBound {
+            side: None,
+            is_negative: false,
+        }),
+        BoundKind::Binary => Some(UpperBound {
+            side: Some(1),
+            is_negative: false,
+        }),
         BoundKind::Lower | BoundKind::LowerInteger | BoundKind::NoLower => None,
     }
 }
 
 /// What a bound of a kind says of its column; the number counts where the kind takes one.
-fn said_by(kind: BoundKind, number: Number) -> ColumnDraft {
-    let lower = match kind {
-        BoundKind::Lower | BoundKind::LowerInteger | BoundKind::Fixed => Some(lower_side(number)),
-        BoundKind::Free | BoundKind::NoLower => Some(None),
-        BoundKind::Binary => Some(Some(0)),
-        BoundKind::Upper | BoundKind::UpperInteger | BoundKind::NoUpper => None,
-    };
+fn said_by(kind: BoundKind, number: Number) -> ColumnDraft
+    requires { IsBelowLarge number }
+    ensures { Says (bound_word kind) number result }
+{
     ColumnDraft {
         is_integer: names_integer(kind),
-        lower,
+        lower: lower_said(kind, number),
         upper: upper_said(kind, number),
     }
 }
 
 /// A column after one more bound.
-fn after_bound(column: ColumnDraft, said: ColumnDraft) -> ColumnDraft {
+fn after_bound(column: ColumnDraft, said: ColumnDraft) -> ColumnDraft
+    ensures { result ≡ after_bound_of column said }
+{
     ColumnDraft {
         is_integer: column.is_integer || said.is_integer,
         lower: said.lower.or(column.lower),
@@ -142,61 +189,108 @@ fn after_bound(column: ColumnDraft, said: ColumnDraft) -> ColumnDraft {
     }
 }
 
-/// Whether a line of BOUNDS with a kind and so many fields names a set.
-fn names_set(kind: BoundKind, count: usize) -> bool {
-    if takes_number(kind) {
-        count == 4
-    } else {
-        count >= 3
-    }
-}
-
-/// Whether a line of BOUNDS with a kind has so many fields.
-fn has_count(kind: BoundKind, count: usize) -> bool {
-    let least = if takes_number(kind) { 3 } else { 2 };
-    least <= count && count <= 4
-}
-
 /// The number of a bound, 0 where its kind takes none. None comes where it takes one and the text is none.
-fn number_in(kind: BoundKind, text: &str) -> Option<Number> {
+fn number_in(kind: BoundKind, text: &str) -> Option<Number>
+    ensures none { is_among (bound_word kind) numbered_words ≡ true → result ≡ number_of text.now }
+    ensures some { is_among (bound_word kind) numbered_words ≡ false → result ≡ Some no_number }
+    ensures below { IfSome result IsBelowLarge }
+{
     if takes_number(kind) {
         read_number(text)
     } else {
-        Some(Number::Dec { units: 0, decimals: 0 })
+        Some(Number::Dec {
+            units: 0,
+            decimals: 0,
+        })
     }
 }
 
-/// Takes a line of BOUNDS. `BoundKind` comes first, then `FieldCount`, then `UnknownColumn`, then `Number`.
+/// The fields of a line of BOUNDS after its kind. None comes where the kind does not have that number of fields.
+fn fields_after<'a>(kind: BoundKind, fields: &[&'a str]) -> Option<BoundFields<'a>>
+    ensures { (l : Line) → bound_kind l ≡ bound_word kind → l.fields ≡ map (λ f. f.now) fields.now → MatchOption result (has_right_count l ≡ false) (λ b. (has_right_count l ≡ true) × (bound_set l ≡ b.set.now) × (bound_column l ≡ b.column.now) × (bound_text l ≡ b.text.now)) }
+{
+    match (takes_number(kind), fields) {
+        (true, [_, column, text]) => Some(BoundFields {
+            set: "",
+            column,
+            text,
+        }),
+        (true, [_, set, column, text]) => Some(BoundFields { set, column, text }),
+        (false, [_, column]) => Some(BoundFields {
+            set: "",
+            column,
+            text: column,
+        }),
+        (false, [_, set, column]) => Some(BoundFields {
+            set,
+            column,
+            text: column,
+        }),
+        (false, [_, set, column, text]) => Some(BoundFields { set, column, text }),
+        _ => None,
+    }
+}
+
+/// The kind of a line of BOUNDS: its first field.
+fn kind_in(fields: &[&str]) -> Option<BoundKind>
+    ensures { (l : Line) → l.fields ≡ map (λ f. f.now) fields.now → MatchOption result ((takes_number_of l || takes_none l) ≡ false) (λ k. bound_kind l ≡ bound_word k) }
+{
+    match fields {
+        [] => None,
+        [word, ..] => kind_of(word),
+    }
+}
+
+/// Notes a bound of a column, where there is one of that number.
+fn note_bound(columns: &mut Vec<ColumnDraft>, column: usize, said: ColumnDraft)
+    ensures { (c : ColumnDraftOf) → slice_get columns.old.items column ≡ Some c → columns.new.items ≡ slice_set columns.old.items column (after_bound_of c said) }
+{
+    if let Some(before) = columns.get_mut(column) {
+        *before = after_bound(*before, said);
+    }
+}
+
+/// Takes a bound of a right kind. `UnknownColumn` comes first, then `Number`.
+fn take_bound(
+    alloc: Global,
+    draft: &mut Draft,
+    line: u32,
+    kind: BoundKind,
+    bound: BoundFields<'_>,
+) -> Result<(), MpsError>
+    ensures { (before : List Line) (fields : List (List ℕ)) → Stands before draft.old → is_among (codes "ROWS") (words_of before) ≡ true → is_among (codes "BOUNDS") (words_of before) ≡ true → bound_kind (item (codes "BOUNDS") line fields) ≡ bound_word kind → has_right_count (item (codes "BOUNDS") line fields) ≡ true → bound_set (item (codes "BOUNDS") line fields) ≡ bound.entry.set.now → bound_column (item (codes "BOUNDS") line fields) ≡ bound.entry.column.now → bound_text (item (codes "BOUNDS") line fields) ≡ bound.entry.text.now → IsTaken before (item (codes "BOUNDS") line fields) draft.new result }
+{
+    let column = match draft.columns.names.get_index_of(bound.column) {
+        Some(column) => column,
+        None => return Err(MpsError::UnknownColumn { line }),
+    };
+    let number = match number_in(kind, bound.text) {
+        Some(number) => number,
+        None => return Err(MpsError::Number { line }),
+    };
+    if keep_set(alloc, &mut draft.sets.bounds, bound.set)? {
+        note_bound(&mut draft.columns.columns, column, said_by(kind, number));
+    }
+    Ok(())
+}
+
+/// Takes a line of BOUNDS: a kind, a set where one is named, a column, and a number where the kind takes one. `BoundKind` comes first,
+/// then `FieldCount`, then the faults of the bound.
 pub fn take_bound_line(
     alloc: Global,
     draft: &mut Draft,
     line: u32,
     fields: &[&str],
-) -> Result<(), MpsError> {
+) -> Result<(), MpsError>
+    ensures { (before : List Line) → Stands before draft.old → is_among (codes "ROWS") (words_of before) ≡ true → last_of (words_of before) ≡ Some (codes "BOUNDS") → IsTaken before (item (codes "BOUNDS") line (map (λ f. f.now) fields.now)) draft.new result }
+{
     let kind = match kind_in(fields) {
         Some(kind) => kind,
         None => return Err(MpsError::BoundKind { line }),
     };
-    let count = fields.len();
-    if !has_count(kind, count) {
-        return Err(MpsError::FieldCount { line });
-    }
-    let (set, column) = if names_set(kind, count) {
-        (fields[1], fields[2])
-    } else {
-        ("", fields[1])
+    let bound = match fields_after(kind, fields) {
+        Some(bound) => bound,
+        None => return Err(MpsError::FieldCount { line }),
     };
-    let column = match draft.columns.names.get_index_of(column) {
-        Some(column) => column,
-        None => return Err(MpsError::UnknownColumn { line }),
-    };
-    let number = match number_in(kind, fields[count - 1]) {
-        Some(number) => number,
-        None => return Err(MpsError::Number { line }),
-    };
-    if keep_set(alloc, &mut draft.sets.bounds, set)? {
-        let before = draft.columns.columns[column];
-        draft.columns.columns[column] = after_bound(before, said_by(kind, number));
-    }
-    Ok(())
+    take_bound(alloc, draft, line, kind, bound)
 }

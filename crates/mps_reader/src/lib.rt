@@ -10,6 +10,7 @@ mod entries;
 mod fields;
 mod finish;
 mod lines;
+
 mod reader;
 mod right_sides;
 mod rounding;
@@ -17,6 +18,8 @@ mod row_list;
 mod rows;
 mod sections;
 mod sets;
+mod texts;
 mod whole;
 
 pub use ip_defs::{How, MpsError, Side};
+pub use texts::read;

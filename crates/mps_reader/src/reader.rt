@@ -1,3 +1,10 @@
+ghost use Rattle.std.specs.Prelude.{◌≡◌, ℕ, ◌≤◌, ◌^◌, List, false, codes, length, map};
+ghost use Rattle.std.specs.List.{list_any};
+ghost use Rattle.ip_defs.specs.Lists.{is_among};
+ghost use Rattle.ip_defs.specs.Records.{Line, lines_of, opens_end, without_return, words_of};
+ghost use Rattle.mps_reader.specs.Progress.{IsTaken, Stands, item};
+ghost use Rattle.mps_reader.specs.Reading.{IsDraftOf, IsLineTaken, last_section as last_word_of, lines_by};
+
 use crate::bounds::take_bound_line;
 use crate::columns::take_column_line;
 use crate::draft::Draft;
@@ -5,7 +12,7 @@ use crate::fields::fields_of;
 use crate::lines::{cut_return, is_comment, is_indented, lines_in};
 use crate::right_sides::take_set_line;
 use crate::rows::take_row_line;
-use crate::sections::{Section, take_section};
+use crate::sections::{Section, last_section, take_section};
 use ip_defs::MpsError;
 use std::alloc::Global;
 
@@ -16,16 +23,21 @@ fn take_item(
     draft: &mut Draft,
     line: u32,
     fields: &[&str],
-) -> Result<(), MpsError> {
-    match draft.sections.last() {
-        Some(Section::Rows) => take_row_line(alloc, draft, line, fields),
-        Some(Section::Columns) => take_column_line(alloc, draft, line, fields),
-        Some(Section::RightSides) => {
-            take_set_line(alloc, draft, Section::RightSides, line, fields)
-        }
-        Some(Section::Ranges) => take_set_line(alloc, draft, Section::Ranges, line, fields),
-        Some(Section::Bounds) => take_bound_line(alloc, draft, line, fields),
-        Some(Section::Name | Section::End) | None => Err(MpsError::SectionOrder { line }),
+) -> Result<(), MpsError>
+    ensures { (before : List Line) → Stands before draft.old → is_among (codes "ENDATA") (words_of before) ≡ false → IsTaken before (item (last_word_of (words_of before)) line (map (λ f. f.now) fields.now)) draft.new result }
+{
+    let section = match last_section(draft.sections.as_slice()) {
+        Some(section) => section,
+        None => return Err(MpsError::SectionOrder { line }),
+    };
+    match section {
+        Section::Name => Err(MpsError::SectionOrder { line }),
+        Section::Rows => take_row_line(alloc, draft, line, fields),
+        Section::Columns => take_column_line(alloc, draft, line, fields),
+        Section::RightSides => take_set_line(alloc, draft, Section::RightSides, line, fields),
+        Section::Ranges => take_set_line(alloc, draft, Section::Ranges, line, fields),
+        Section::Bounds => take_bound_line(alloc, draft, line, fields),
+        Section::End => Err(MpsError::SectionOrder { line }),
     }
 }
 
@@ -35,7 +47,9 @@ fn take_line(
     draft: &mut Draft,
     number: u32,
     text: &str,
-) -> Result<bool, MpsError> {
+) -> Result<bool, MpsError>
+    ensures { (ps : List (ℕ × List ℕ)) → Stands (lines_by ps) draft.old → list_any opens_end ps ≡ false → IsLineTaken ps (number, without_return text.now) draft.new result }
+{
     let text = cut_return(text);
     if is_comment(text) {
         return Ok(false);
@@ -46,21 +60,32 @@ fn take_line(
         None => return Ok(false),
     };
     if is_indented(text) {
-        take_item(alloc, draft, number, fields.as_slice())?;
-        return Ok(false);
+        return match take_item(alloc, draft, number, fields.as_slice()) {
+            Ok(()) => Ok(false),
+            Err(error) => Err(error),
+        };
     }
-    take_section(draft, number, word)?;
-    Ok(*word == "ENDATA")
+    match take_section(draft, number, word) {
+        Ok(()) => Ok(*word == "ENDATA"),
+        Err(error) => Err(error),
+    }
 }
 
 /// Goes once through the lines of a text, up to the ENDATA line. The error is the first fault of the lines.
-pub fn draft_of(alloc: Global, text: &str) -> Result<Draft, MpsError> {
+pub fn draft_of(alloc: Global, text: &str) -> Result<Draft, MpsError>
+    requires { length text.now ≤ 2 ^ 31 }
+    ensures { IsDraftOf (lines_of text.now) result }
+{
     let lines = lines_in(alloc, text)?;
     let mut draft = Draft::new(alloc);
     let mut number: u32 = 0;
     for line in lines.as_slice() {
-        number = number.saturating_add(1);
-        if take_line(alloc, &mut draft, number, line)? {
+        number += 1;
+        let ended = match take_line(alloc, &mut draft, number, line) {
+            Ok(ended) => ended,
+            Err(error) => return Err(error),
+        };
+        if ended {
             return Ok(draft);
         }
     }

@@ -1,31 +1,69 @@
+ghost use Rattle.std.specs.Prelude.{◌≡◌, ◌+◌, ◌^◌, ◌/◌, ◌<◌};
+ghost use Rattle.decimals.specs.Decimals.{IsBelowLarge};
+ghost use Rattle.ip_defs.specs.Numbers.{signed as signed_of};
+ghost use Rattle.ip_defs.specs.TextModels.{rounded_down as rounded_down_of, rounded_up as rounded_up_of};
+
 use ip_defs::Number;
 
-/// 10^20, which stands for a Large number.
-const LARGE: i128 = 100_000_000_000_000_000_000;
+/// 10^20 written units, which a Large number stands for.
+const LARGE: u128 = 100_000_000_000_000_000_000;
 
-/// A Large number as a side, which passes each limit.
-fn large_side(negative: bool) -> i128 {
-    if negative { -LARGE } else { LARGE }
-}
-
-/// The whole number below a number that is nearest to it.
-pub fn rounded_down(number: Number) -> i128 {
-    match number {
-        Number::Dec { units, decimals } => match 10_i128.checked_pow(decimals) {
-            Some(tens) => units.div_euclid(tens),
-            None => if units < 0 { -1 } else { 0 },
-        },
-        Number::Large { negative } => large_side(negative),
+/// A size with its sign.
+fn signed(negative: bool, size: u128) -> i128
+    requires { size < 2 ^ 127 }
+    ensures { result ≡ signed_of negative size }
+{
+    if negative {
+        -(size as i128)
+    } else {
+        size as i128
     }
 }
 
-/// The whole number above a number that is nearest to it.
-pub fn rounded_up(number: Number) -> i128 {
+/// The whole part of `size / 10^decimals`, which is below 10^20.
+fn whole_part(size: u128, decimals: u32) -> u128
+    requires { size < 10 ^ (20 + decimals) }
+    ensures value { result ≡ size / 10 ^ decimals }
+    ensures small { result < 10 ^ 20 }
+{
+    match 10_u128.checked_pow(decimals) {
+        Some(tens) => size / tens,
+        None => 0,
+    }
+}
+
+/// A number rounded down.
+pub fn rounded_down(number: Number) -> i128
+    requires { IsBelowLarge number }
+    ensures { result ≡ rounded_down_of number }
+{
     match number {
-        Number::Dec { units, decimals } => match 10_i128.checked_pow(decimals) {
-            Some(tens) => -(-units).div_euclid(tens),
-            None => if units > 0 { 1 } else { 0 },
-        },
-        Number::Large { negative } => large_side(negative),
+        Number::Dec { units, decimals } => {
+            let size = units.unsigned_abs();
+            if units < 0 {
+                signed(true, whole_part(size - 1, decimals) + 1)
+            } else {
+                signed(false, whole_part(size, decimals))
+            }
+        }
+        Number::Large { negative } => signed(negative, LARGE),
+    }
+}
+
+/// A number rounded up.
+pub fn rounded_up(number: Number) -> i128
+    requires { IsBelowLarge number }
+    ensures { result ≡ rounded_up_of number }
+{
+    match number {
+        Number::Dec { units, decimals } => {
+            let size = units.unsigned_abs();
+            if units > 0 {
+                signed(false, whole_part(size - 1, decimals) + 1)
+            } else {
+                signed(true, whole_part(size, decimals))
+            }
+        }
+        Number::Large { negative } => signed(negative, LARGE),
     }
 }

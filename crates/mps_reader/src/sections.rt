@@ -1,7 +1,7 @@
 ghost use Rattle.std.specs.Prelude.{◌≡◌, ℕ, ◌∷◌, ◌||◌, List, None, Some, bytes_eq, map, not};
 ghost use Rattle.std.specs.Option.{MatchOption};
 ghost use Rattle.std.specs.List.{list_all};
-ghost use Rattle.ip_defs.specs.Lists.{is_among};
+ghost use Rattle.ip_defs.specs.Lists.{is_among, last_of};
 ghost use Rattle.ip_defs.specs.Records.{Line};
 ghost use Rattle.ip_defs.specs.Faults.{is_before as is_before_of, may_come as may_come_of, place_of};
 ghost use Rattle.mps_reader.specs.Progress.{IsTaken, Stands, opening, section_word};
@@ -94,6 +94,13 @@ fn may_come(sections: &[Section], section: Section) -> bool
     are_before(sections, section)
         && has_needed(sections, Section::Rows, section)
         && has_needed(sections, Section::Columns, section)
+}
+
+/// The last one of sections.
+pub fn last_section(sections: &[Section]) -> Option<Section>
+    ensures { result ≡ last_of sections.now }
+{
+    sections.last().copied()
 }
 
 /// Takes a section line. `UnknownSection` comes where its word is none of the seven, then `SectionOrder` where it may not come now.

@@ -1,0 +1,164 @@
+-- Going through the lines of a text.
+use Rattle.std.specs.Prelude.{◌≡◌, ℕ, suc, ◌+◌, Bool, true, false, cond, List, [], ◌∷◌, ◌++◌, length, map, filter, flat_map, Option, None, Some, option_map, unwrap_or, not, ◌&&◌, ◌||◌, nat_le, bytes_eq, codes, slice_get, slice_index_or, take, drop, if◌then◌else◌, Result, Ok, Err, refl}
+use Rattle.std.specs.Option.{option_or, option_map_or, is_some}
+use Rattle.std.specs.List.{list_any, slice_split, enumerate_from}
+use Rattle.std.proofs.Common.{sym, ◌∙◌, ap, subst, arith}
+use Rattle.std.proofs.lemmas.Bool.{le-leb}
+use Rattle.ip_defs.specs.Lists.{first_of, last_of, is_among, when, with_earlier, after_those, through_first}
+use Rattle.ip_defs.specs.Records.{Line, items_of, words_of, first_field, opens, opens_end, last_word, line_of, lines_of, numbered, fields_of, is_end, is_star, is_blank, begins_with, without_return}
+use Rattle.ip_defs.specs.Faults.{all_line_faults, line_faults, item_faults, is_before}
+use Rattle.ip_defs.specs.declared.texts.MpsError.{MpsError}
+use Rattle.ip_defs.specs.declared.texts.MpsError.TheVariants.{SectionOrder}
+use Rattle.mps_reader.specs.declared.sections.Section.{Section}
+use Rattle.mps_reader.specs.declared.draft.Draft.{Draft}
+use Rattle.mps_reader.specs.Progress.{section_word, Stands, IsTaken, IsFirstFault, item, opening}
+use Rattle.mps_reader.specs.Reading.{is_read, lines_by, last_section, IsDraftOf, IsLineTaken}
+use Rattle.mps_reader.proofs.GrowthLaws.{true_not_false, append_nil, append_assoc, faults-add, filter-append, map-append, last_word-add, lines-add, with_earlier-add, through-append, flat_map-append, enumerate-append}
+use Rattle.mps_reader.proofs.StayLaws.{by_last, words_stay, words_grow}
+use Rattle.mps_reader.proofs.PlaceLaws.{bytes_turned}
+use Rattle.mps_reader.proofs.SectionLaws.{in_order, have_rows, last_word_is, last_is_among, last_of_map, none_is_among, later_is_empty}
+
+-- ---- a data line by its section
+
+pub at_section : (before : List Line) (n : ℕ) (fields : List (List ℕ)) (new : Draft) (result : Result (Unit {0}) MpsError) (word : List ℕ) → last_of (words_of before) ≡ Some word
+    → IsTaken before (item word n fields) new result → IsTaken before (item (last_section (words_of before)) n fields) new result
+at_section before n fields new result word last h = subst (λ w. IsTaken before (item w n fields) new result) (sym (ap (λ o. unwrap_or o []) last)) h
+
+-- before ROWS it is out of order
+pub before_rows : (before : List Line) (word : List ℕ) (n : ℕ) (fields : List (List ℕ)) → is_among (codes "ROWS") (words_of before) ≡ false → first_of (line_faults before (item word n fields)) ≡ Some (SectionOrder n)
+before_rows before word n fields none = lead (is_among (codes "ROWS") (words_of before)) (SectionOrder n) _ none
+  where
+    lead : (t : Bool) (e : MpsError) (rest : List MpsError) → t ≡ false → first_of (when (not t) e ++ rest) ≡ Some e
+    lead true e rest h = absurd (true_not_false h)
+    lead false e rest h = refl
+
+-- what is known of the lines before a data line by the last section
+pub record BelongsTo (before : List Line) (s : Section) : Type 0 where
+  pub last : last_of (words_of before) ≡ Some (section_word s)
+  pub there : is_among (section_word s) (words_of before) ≡ true
+  pub rows : is_before (codes "ROWS") (section_word s) ≡ true → is_among (codes "ROWS") (words_of before) ≡ true
+  pub later : (word : List ℕ) → is_before (section_word s) word ≡ true → is_among word (words_of before) ≡ false
+  pub none_later : (word : List ℕ) → is_before (section_word s) word ≡ true → items_of word before ≡ []
+
+pub belongs : (before : List Line) (d : Draft) (o : Option Section) (s : Section) → Stands before d → o ≡ last_of d.sections.items → o ≡ Some s → BelongsTo before s
+belongs before d o s h is e =
+    let last : last_of (words_of before) ≡ Some (section_word s) = last_word_is before d.sections.items h.sections ∙ ap (option_map section_word) (sym is ∙ e) in
+    let there = last_is_among (words_of before) (section_word s) last in
+    record {
+      last = last;
+      there = there;
+      rows = λ after. have_rows before h.no_fault (section_word s) there after;
+      later = λ word after. in_order before h.no_fault (section_word s) word last after;
+      none_later = λ word after. later_is_empty before d (section_word s) word h last after;
+    }
+
+-- ---- the lines that numbered lines say
+
+abbrev field_when : Bool → ℕ × List ℕ → List (List ℕ)
+field_when t p = when t (first_field p)
+
+-- the words of sections are the first fields of section lines
+pub words_are : (ps : List (ℕ × List ℕ)) → words_of (lines_by ps) ≡ map first_field (filter opens ps)
+words_are ps = by_last (λ qs. words_of (lines_by qs) ≡ map first_field (filter opens qs)) refl more ps
+  where
+    by : (qs : List (ℕ × List ℕ)) (p : ℕ × List ℕ) (t : Bool) → opens p ≡ t → words_of (lines_by qs) ≡ map first_field (filter opens qs) → words_of (lines_by qs ++ line_of (qs, p) ∷ []) ≡ map first_field (filter opens qs) ++ field_when t p
+    by qs p true e h =
+        words_grow (lines_by qs) (line_of (qs, p)) (ap not e)
+        ∙ ap (λ w. words_of (lines_by qs) ++ w ∷ []) (last_word-add qs p ∙ ap (λ t. if t then first_field p else last_word qs) e)
+        ∙ ap (λ ws. ws ++ first_field p ∷ []) h
+    by qs p false e h = words_stay (lines_by qs) (line_of (qs, p)) (ap not e) ∙ h ∙ sym (append_nil (map first_field (filter opens qs)))
+
+    one : (p : ℕ × List ℕ) (t : Bool) → field_when t p ≡ map first_field (cond t (p ∷ []) [])
+    one p true = refl
+    one p false = refl
+
+    more : (qs : List (ℕ × List ℕ)) (p : ℕ × List ℕ) → words_of (lines_by qs) ≡ map first_field (filter opens qs) → words_of (lines_by (qs ++ p ∷ [])) ≡ map first_field (filter opens (qs ++ p ∷ []))
+    more qs p h =
+        ap words_of (lines-add qs p)
+        ∙ by qs p (opens p) refl h
+        ∙ ap (λ ws. map first_field (filter opens qs) ++ ws) (one p (opens p))
+        ∙ sym (map-append first_field (filter opens qs) (filter opens (p ∷ [])))
+        ∙ ap (map first_field) (sym (filter-append opens qs (p ∷ [])))
+
+-- the word of the last section is that of the last section line
+pub last_word_of : (ps : List (ℕ × List ℕ)) → last_section (words_of (lines_by ps)) ≡ last_word ps
+last_word_of ps = ap last_section (words_are ps) ∙ ap (λ o. unwrap_or o []) (last_of_map first_field (filter opens ps)) ∙ by (last_of (filter opens ps))
+  where
+    by : (o : Option (ℕ × List ℕ)) → unwrap_or (option_map first_field o) [] ≡ option_map_or first_field o []
+    by None = refl
+    by (Some p) = refl
+
+-- ENDATA is a word where one of the lines is the ENDATA line
+pub ended_where : (ps : List (ℕ × List ℕ)) → is_among (codes "ENDATA") (words_of (lines_by ps)) ≡ list_any opens_end ps
+ended_where ps = ap (is_among (codes "ENDATA")) (words_are ps) ∙ all ps
+  where
+    by : (p : ℕ × List ℕ) (qs : List (ℕ × List ℕ)) (t : Bool) → is_among (codes "ENDATA") (map first_field (cond t (p ∷ filter opens qs) (filter opens qs))) ≡ ((t && bytes_eq (codes "ENDATA") (first_field p)) || is_among (codes "ENDATA") (map first_field (filter opens qs)))
+    by p qs true = refl
+    by p qs false = refl
+
+    all : (qs : List (ℕ × List ℕ)) → is_among (codes "ENDATA") (map first_field (filter opens qs)) ≡ list_any opens_end qs
+    all [] = refl
+    all (p ∷ qs) =
+        by p qs (opens p)
+        ∙ ap (λ t. (opens p && t) || is_among (codes "ENDATA") (map first_field (filter opens qs))) (bytes_turned (codes "ENDATA") (first_field p))
+        ∙ ap (λ t. opens_end p || t) (all qs)
+
+item_line : (ps : List (ℕ × List ℕ)) (p : ℕ × List ℕ) → opens p ≡ false → line_of (ps, p) ≡ item (last_section (words_of (lines_by ps))) p.0 (fields_of p.1)
+item_line ps p e =
+    ap (λ t. made (not t) (last_word (ps ++ p ∷ []))) e
+    ∙ ap (made true) (last_word-add ps p ∙ ap (λ t. if t then first_field p else last_word ps) e ∙ sym (last_word_of ps))
+  where
+    made : Bool → List ℕ → Line
+    made t word = record { number = p.0; is_item = t; section = word; fields = fields_of p.1 }
+
+opening_line : (ps : List (ℕ × List ℕ)) (p : ℕ × List ℕ) → opens p ≡ true → line_of (ps, p) ≡ opening p.0 (fields_of p.1) (first_field p)
+opening_line ps p e =
+    ap (λ t. made (not t) (last_word (ps ++ p ∷ []))) e
+    ∙ ap (made false) (last_word-add ps p ∙ ap (λ t. if t then first_field p else last_word ps) e)
+  where
+    made : Bool → List ℕ → Line
+    made t word = record { number = p.0; is_item = t; section = word; fields = fields_of p.1 }
+
+-- ---- taking a numbered line
+
+pub skipped : (ps : List (ℕ × List ℕ)) (p : ℕ × List ℕ) (d : Draft) → is_read p ≡ false → Stands (lines_by ps) d → IsLineTaken ps p d (Ok false)
+skipped ps p d e h = (ap (λ t. t && opens_end p) (sym e), subst (λ qs. Stands (lines_by qs) d) (sym (ap (λ t. ps ++ when t p) e ∙ append_nil ps)) h)
+
+-- a line that is read, said as l
+pub read_as : (ps : List (ℕ × List ℕ)) (p : ℕ × List ℕ) (l : Line) (new : Draft) → is_read p ≡ true → line_of (ps, p) ≡ l → Stands (lines_by ps ++ l ∷ []) new → IsLineTaken ps p new (Ok (opens_end p))
+read_as ps p l new e is h =
+    (ap (λ t. t && opens_end p) (sym e), subst (λ ls. Stands ls new) (sym (ap (λ t. lines_by (ps ++ when t p)) e ∙ lines-add ps p ∙ ap (λ k. lines_by ps ++ k ∷ []) is)) h)
+
+pub refused_as : (ps : List (ℕ × List ℕ)) (p : ℕ × List ℕ) (l : Line) (d new : Draft) (error : MpsError) → is_read p ≡ true → line_of (ps, p) ≡ l → Stands (lines_by ps) d → IsFirstFault (line_faults (lines_by ps) l) error → IsLineTaken ps p new (Err error)
+refused_as ps p l d new error e is h fault =
+    subst (λ fs. IsFirstFault fs error)
+      (sym (ap all_line_faults (ap (λ t. lines_by (ps ++ when t p)) e ∙ lines-add ps p ∙ ap (λ k. lines_by ps ++ k ∷ []) is) ∙ faults-add (lines_by ps) l ∙ ap (λ fs. fs ++ line_faults (lines_by ps) l) h.no_fault))
+      fault
+
+pub item_said : (ps : List (ℕ × List ℕ)) (p : ℕ × List ℕ) (fields : List (List ℕ)) → begins_with is_blank p.1 ≡ true → fields_of p.1 ≡ fields → line_of (ps, p) ≡ item (last_section (words_of (lines_by ps))) p.0 fields
+item_said ps p fields e is = item_line ps p (ap not e) ∙ ap (item (last_section (words_of (lines_by ps))) p.0) is
+
+pub opening_said : (ps : List (ℕ × List ℕ)) (p : ℕ × List ℕ) (word : List ℕ) (others : List (List ℕ)) → begins_with is_blank p.1 ≡ false → fields_of p.1 ≡ word ∷ others → line_of (ps, p) ≡ opening p.0 (word ∷ others) word
+opening_said ps p word others e is =
+    opening_line ps p (ap not e) ∙ ap (λ fs. opening p.0 fs (slice_index_or fs 0 [])) is
+
+-- a list that has an element at its head
+pub head_is : {A : Type 0} (xs : List A) (x : A) → slice_get xs 0 ≡ Some x → (ys : List A) × (xs ≡ x ∷ ys)
+head_is [] x h = absurd (cc h)
+head_is (y ∷ ys) x h = (ys, ap (λ z. z ∷ ys) (cc h))
+
+-- a line of a word and others that is no comment is read
+pub is_read_by : (p : ℕ × List ℕ) (word : List ℕ) (others : List (List ℕ)) → begins_with is_star p.1 ≡ false → fields_of p.1 ≡ word ∷ others → is_read p ≡ true
+is_read_by p word others star is = ap (λ fs. nat_le 1 (length fs) && not (begins_with is_star p.1)) is ∙ ap (λ t. some && not t) star ∙ there
+  where
+    some : Bool
+    some = nat_le 1 (length (word ∷ others))
+
+    there : (some && true) ≡ true
+    there = ap (λ t. t && true) (le-leb 1 (length (word ∷ others)) (omega arith))
+
+pub item_is_no_end : (p : ℕ × List ℕ) → begins_with is_blank p.1 ≡ true → opens_end p ≡ false
+item_is_no_end p e = ap (λ t. not t && bytes_eq (first_field p) (codes "ENDATA")) e
+
+pub end_by_word : (p : ℕ × List ℕ) (word : List ℕ) (others : List (List ℕ)) → begins_with is_blank p.1 ≡ false → fields_of p.1 ≡ word ∷ others → opens_end p ≡ bytes_eq word (codes "ENDATA")
+end_by_word p word others e is = ap (λ t. not t && bytes_eq (first_field p) (codes "ENDATA")) e ∙ ap (λ fs. bytes_eq (slice_index_or fs 0 []) (codes "ENDATA")) is

@@ -1,0 +1,175 @@
+-- The lines of a text, taken one by one.
+use Rattle.std.specs.Prelude.{◌≡◌, ℕ, ◌+◌, ◌<◌, ◌≤◌, Bool, true, false, cond, List, [], ◌∷◌, ◌++◌, length, map, filter, flat_map, Option, None, Some, option_map, not, ◌&&◌, ◌||◌, take, drop, slice_get, if◌then◌else◌, Result, Ok, Err, refl}
+use Rattle.std.specs.Option.{option_or}
+use Rattle.std.specs.List.{list_any, slice_split, enumerate_from}
+use Rattle.std.proofs.Common.{sym, ◌∙◌, ap, subst, arith, get_or}
+use Rattle.std.proofs.lemmas.List.{take_more, take-append-drop, length-map, length-take-le}
+use Rattle.std.proofs.lemmas.Option.{slice_get_within, slice_get-map, slice_get-get_or, get_or_from_slice_get}
+use Rattle.std.proofs.lemmas.List.Splits.{length-slice_split}
+use Rattle.std.proofs.lemmas.List.Sums.{count_by-le-length}
+use Rattle.std.proofs.lemmas.List.Folds.{list_any-append}
+use Rattle.ip_defs.specs.Lists.{first_of, when, with_earlier, after_those, through_first}
+use Rattle.ip_defs.specs.Records.{Line, opens_end, line_of, lines_of, numbered, is_end, without_return}
+use Rattle.ip_defs.specs.Faults.{all_line_faults, line_faults}
+use Rattle.ip_defs.specs.declared.texts.MpsError.{MpsError}
+use Rattle.ip_defs.specs.declared.texts.MpsError.TheVariants as Out
+use Rattle.mps_reader.specs.declared.draft.Draft.{Draft}
+use Rattle.mps_reader.specs.Progress.{Stands, IsFirstFault}
+use Rattle.mps_reader.specs.Reading.{is_read, lines_by, IsDraftOf, IsLineTaken}
+use Rattle.mps_reader.proofs.GrowthLaws.{true_not_false, append_nil, append_assoc, filter-append, map-append, through-append, flat_map-append, enumerate-append, first_of-append}
+use Rattle.mps_reader.proofs.SectionLaws.{and_left, and_right, or_false}
+
+-- the lines that are read of the lines of a text, from a number on
+abbrev pub read_from : ℕ → List (List ℕ) → List (ℕ × List ℕ)
+read_from n xs = filter is_read (enumerate_from n (map without_return xs))
+
+pub read_append : (n : ℕ) (xs ys : List (List ℕ)) → read_from n (xs ++ ys) ≡ read_from n xs ++ read_from (n + length xs) ys
+read_append n xs ys =
+    ap (λ k. filter is_read (enumerate_from n k)) (map-append without_return xs ys)
+    ∙ ap (filter is_read) (enumerate-append n (map without_return xs) (map without_return ys))
+    ∙ filter-append is_read (enumerate_from n (map without_return xs)) (enumerate_from (n + length (map without_return xs)) (map without_return ys))
+    ∙ ap (λ k. read_from n xs ++ filter is_read (enumerate_from (n + k) (map without_return ys))) (length-map xs without_return)
+
+pub read_one : (n : ℕ) (x : List ℕ) → read_from n (x ∷ []) ≡ when (is_read (n, without_return x)) (n, without_return x)
+read_one n x = by (is_read p)
+  where
+    p : ℕ × List ℕ
+    p = (n, without_return x)
+
+    by : (t : Bool) → cond t (p ∷ []) [] ≡ when t p
+    by true = refl
+    by false = refl
+
+-- ---- up to the ENDATA line
+
+through_none : {A : Type 0} (test : A → Bool) (xs : List A) → list_any test xs ≡ false → through_first test xs ≡ xs
+through_none test xs none = ap (through_first test) (sym (append_nil xs)) ∙ through-append test xs [] none ∙ append_nil xs
+
+-- what comes after an element, or nothing where it is the last one
+through_next : {A : Type 0} (test : A → Bool) (x : A) (xs : List A) → (ys : List A) × (through_first test (x ∷ xs) ≡ x ∷ ys)
+through_next {A} test x xs = by (test x) refl
+  where
+    by : (t : Bool) → test x ≡ t → (ys : List A) × (through_first test (x ∷ xs) ≡ x ∷ ys)
+    by true e = ([], ap (λ t. if t then x ∷ [] else x ∷ through_first test xs) e)
+    by false e = (through_first test xs, ap (λ t. if t then x ∷ [] else x ∷ through_first test xs) e)
+
+-- ---- the first fault of lines is that of those before
+
+after_append : {A : Type 0} (before xs ys : List A) → after_those before (xs ++ ys) ≡ after_those before xs ++ after_those (before ++ xs) ys
+after_append before [] ys = ap (λ b. after_those b ys) (sym (append_nil before))
+after_append before (x ∷ xs) ys = ap (λ l. (before, x) ∷ l) (after_append (before ++ x ∷ []) xs ys ∙ ap (λ b. after_those (before ++ x ∷ []) xs ++ after_those b ys) (append_assoc before (x ∷ []) xs))
+
+lines_append : (ps qs : List (ℕ × List ℕ)) → lines_by (ps ++ qs) ≡ lines_by ps ++ map line_of (after_those ps qs)
+lines_append ps qs = ap (map line_of) (after_append [] ps qs) ∙ map-append line_of (with_earlier ps) (after_those ps qs)
+
+faults_append : (ls ks : List Line) → all_line_faults (ls ++ ks) ≡ all_line_faults ls ++ flat_map (λ p. line_faults p.0 p.1) (after_those ls ks)
+faults_append ls ks = ap (flat_map (λ p. line_faults p.0 p.1)) (after_append [] ls ks) ∙ flat_map-append (λ p. line_faults p.0 p.1) (with_earlier ls) (after_those ls ks)
+
+-- a first fault stays, whatever lines follow
+fault_stays : (ps qs : List (ℕ × List ℕ)) (e : MpsError) → first_of (all_line_faults (lines_by ps)) ≡ Some e → first_of (all_line_faults (lines_by (ps ++ qs))) ≡ Some e
+fault_stays ps qs e h =
+    ap (λ ls. first_of (all_line_faults ls)) (lines_append ps qs)
+    ∙ ap first_of (faults_append (lines_by ps) (map line_of (after_those ps qs)))
+    ∙ first_of-append (all_line_faults (lines_by ps)) (flat_map (λ p. line_faults p.0 p.1) (after_those (lines_by ps) (map line_of (after_those ps qs))))
+    ∙ ap (λ o. option_or o (first_of (flat_map (λ p. line_faults p.0 p.1) (after_those (lines_by ps) (map line_of (after_those ps qs)))))) h
+
+refusal_stays : (ps qs : List (ℕ × List ℕ)) (e : MpsError) → IsFirstFault (all_line_faults (lines_by ps)) e → IsFirstFault (all_line_faults (lines_by (ps ++ qs))) e
+refusal_stays ps qs Out.Memory h = tt
+refusal_stays ps qs e h = fault_stays ps qs e h
+
+-- ---- the lines of a text so far
+
+-- one more line
+pub one_more : (xs : List (List ℕ)) (i : ℕ) (x : List ℕ) → slice_get xs i ≡ Some x
+    → read_from 1 (take (i + 1) xs) ≡ read_from 1 (take i xs) ++ when (is_read (i + 1, without_return x)) (i + 1, without_return x)
+one_more xs i x at =
+    let within = slice_get_within xs i x at in
+    ap (read_from 1) (take_more xs i x within ∙ ap (λ y. take i xs ++ y ∷ []) (get_or_from_slice_get xs i x x at))
+    ∙ read_append 1 (take i xs) (x ∷ [])
+    ∙ ap (λ k. read_from 1 (take i xs) ++ read_from k (x ∷ [])) (ap (λ n. 1 + n) (length-take-le i xs (omega (arith, within))) ∙ omega arith)
+    ∙ ap (λ ps. read_from 1 (take i xs) ++ ps) (read_one (i + 1) x)
+
+-- the lines so far and others are all
+pub some_and_others : (xs : List (List ℕ)) (j : ℕ) → (ys : List (ℕ × List ℕ)) × (read_from 1 xs ≡ read_from 1 (take j xs) ++ ys)
+some_and_others xs j = (read_from (1 + length (take j xs)) (drop j xs), ap (read_from 1) (sym (take-append-drop j xs)) ∙ read_append 1 (take j xs) (drop j xs))
+
+-- lines are read up to the ENDATA line, so far as it did not come
+up_to : (done : List (ℕ × List ℕ)) (p : ℕ × List ℕ) (t : Bool) (ys : List (ℕ × List ℕ)) → list_any opens_end done ≡ false
+    → (zs : List (ℕ × List ℕ)) × (through_first opens_end ((done ++ when t p) ++ ys) ≡ (done ++ when t p) ++ zs)
+up_to done p true ys going =
+    let next = through_next opens_end p ys in
+    (next.0, ap (through_first opens_end) (append_assoc done (p ∷ []) ys) ∙ through-append opens_end done (p ∷ ys) going ∙ ap (λ k. done ++ k) next.1 ∙ sym (append_assoc done (p ∷ []) next.0))
+up_to done p false ys going =
+    (through_first opens_end ys, ap (λ k. through_first opens_end (k ++ ys)) (append_nil done) ∙ through-append opens_end done ys going ∙ ap (λ k. k ++ through_first opens_end ys) (sym (append_nil done)))
+
+-- what the lines of a text say
+abbrev pub said_by : List (List ℕ) → List Line
+said_by xs = lines_by (through_first opens_end (read_from 1 xs))
+
+-- the ENDATA line is the last one
+pub at_end : (xs : List (List ℕ)) (i : ℕ) (x : List ℕ) → slice_get xs i ≡ Some x → list_any opens_end (read_from 1 (take i xs)) ≡ false
+    → (is_read (i + 1, without_return x) && opens_end (i + 1, without_return x)) ≡ true
+    → lines_by (read_from 1 (take i xs) ++ when (is_read (i + 1, without_return x)) (i + 1, without_return x)) ≡ said_by xs
+at_end xs i x at going ended =
+    ap lines_by (ap (λ t. done ++ when t p) read
+        ∙ sym (ap (λ t. done ++ (if t then p ∷ [] else p ∷ through_first opens_end others.0)) ends)
+        ∙ sym (through-append opens_end done (p ∷ others.0) going)
+        ∙ ap (through_first opens_end) (sym (append_assoc done (p ∷ []) others.0)
+            ∙ sym (ap (λ k. k ++ others.0) (one_more xs i x at ∙ ap (λ t. done ++ when t p) read))
+            ∙ sym others.1))
+  where
+    p : ℕ × List ℕ
+    p = (i + 1, without_return x)
+
+    done : List (ℕ × List ℕ)
+    done = read_from 1 (take i xs)
+
+    others : (ys : List (ℕ × List ℕ)) × (read_from 1 xs ≡ read_from 1 (take (i + 1) xs) ++ ys)
+    others = some_and_others xs (i + 1)
+
+    read : is_read p ≡ true
+    read = and_left (is_read p) (opens_end p) ended
+
+    ends : opens_end p ≡ true
+    ends = and_right (is_read p) (opens_end p) ended
+
+-- without one all lines are read
+pub all_read : (xs : List (List ℕ)) → list_any opens_end (read_from 1 xs) ≡ false → lines_by (read_from 1 xs) ≡ said_by xs
+all_read xs going = ap lines_by (sym (through_none opens_end (read_from 1 xs) going))
+
+-- the fault of a line is the first one of the text
+pub refused_at : (xs : List (List ℕ)) (i : ℕ) (x : List ℕ) (e : MpsError) → slice_get xs i ≡ Some x → list_any opens_end (read_from 1 (take i xs)) ≡ false
+    → IsFirstFault (all_line_faults (lines_by (read_from 1 (take i xs) ++ when (is_read (i + 1, without_return x)) (i + 1, without_return x)))) e → IsFirstFault (all_line_faults (said_by xs)) e
+refused_at xs i x e at going fault =
+    subst (λ ps. IsFirstFault (all_line_faults (lines_by ps)) e)
+        (sym rest.1 ∙ ap (through_first opens_end) (sym (others.1 ∙ ap (λ k. k ++ others.0) (one_more xs i x at))))
+        (refusal_stays (done ++ when (is_read p) p) rest.0 e fault)
+  where
+    p : ℕ × List ℕ
+    p = (i + 1, without_return x)
+
+    done : List (ℕ × List ℕ)
+    done = read_from 1 (take i xs)
+
+    others : (ys : List (ℕ × List ℕ)) × (read_from 1 xs ≡ read_from 1 (take (i + 1) xs) ++ ys)
+    others = some_and_others xs (i + 1)
+
+    rest : (zs : List (ℕ × List ℕ)) × (through_first opens_end ((done ++ when (is_read p) p) ++ others.0) ≡ (done ++ when (is_read p) p) ++ zs)
+    rest = up_to done p (is_read p) others.0 going
+
+-- it goes on where the line is not the ENDATA line
+pub goes_on : (done : List (ℕ × List ℕ)) (p : ℕ × List ℕ) → list_any opens_end done ≡ false → (is_read p && opens_end p) ≡ false → list_any opens_end (done ++ when (is_read p) p) ≡ false
+goes_on done p going here = list_any-append opens_end done (when (is_read p) p) ∙ or_false (list_any opens_end done) (list_any opens_end (when (is_read p) p)) going (by (is_read p) here)
+  where
+    by : (t : Bool) → (t && opens_end p) ≡ false → list_any opens_end (when t p) ≡ false
+    by true e = or_false (opens_end p) false e refl
+    by false e = refl
+
+-- ---- places in a list that a function is applied to
+
+pub item_at : {A B : Type 0} (f : A → B) (xs : List A) (i : ℕ) (d : A) → i < length xs → slice_get (map f xs) i ≡ Some (f (get_or xs i d))
+item_at f xs i d within = slice_get-map f xs i ∙ ap (option_map f) (slice_get-get_or xs i d within)
+
+-- a text has at most one line more than it has bytes
+pub few_lines : (text : List ℕ) → length (slice_split is_end text) ≤ length text + 1
+few_lines text = omega (arith, length-slice_split is_end text, count_by-le-length is_end text)

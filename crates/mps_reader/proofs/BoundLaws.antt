@@ -106,7 +106,7 @@ right_kind : (before : List Line) (n : ℕ) (fields : List (List ℕ)) (k : Boun
 right_kind before n fields k there is =
     bound_faults_are before n fields there
     ∙ ap (λ t. when (not t) (WrongKind n) ++ when (not (has_right_count (bound_item n fields))) (FieldCount n) ++ when (not (has_column before (bound_column (bound_item n fields)))) (UnknownColumn n) ++ when (takes_number (bound_item n fields) && not (is_number (bound_text (bound_item n fields)))) (NoNumber n))
-        (ap (λ w. is_among w numbered_words || is_among w plain_words) is ∙ known_bound k)
+    (ap (λ w. is_among w numbered_words || is_among w plain_words) is ∙ known_bound k)
 
 pub wrong_count : (before : List Line) (n : ℕ) (fields : List (List ℕ)) (k : BoundKind) → is_among (codes "ROWS") (words_of before) ≡ true → bound_kind (bound_item n fields) ≡ bound_word k
     → has_right_count (bound_item n fields) ≡ false → first_of (line_faults before (bound_item n fields)) ≡ Some (FieldCount n)
@@ -151,7 +151,7 @@ column_named ls name = by_last (λ ks. is_among name (column_names ks) ≡ has_c
         ∙ list_any-append (bytes_eq name) (column_names ks) (when (is_new_column ks k) (column_name k))
         ∙ ap (λ t. t || is_among name (when (is_new_column ks k) (column_name k))) h
         ∙ alone k (λ cs. (has_column ks name || is_among name (when (nat_le 1 (length cs) && not (has_column ks (column_name k))) (column_name k))) ≡ (has_column ks name || names_it cs))
-            refl (known (has_column ks (column_name k)) refl)
+        refl (known (has_column ks (column_name k)) refl)
         ∙ sym (grown ks k)
       where
         known : (t : Bool) → has_column ks (column_name k) ≡ t → (has_column ks name || is_among name (when (not t) (column_name k))) ≡ (has_column ks name || names_it (k ∷ []))
@@ -227,20 +227,20 @@ column_with : (before : List Line) (n : ℕ) (fields : List (List ℕ)) (name : 
     → LineSays (bound_item n fields) s → ColumnStands before name c → ColumnStands (before ++ bound_item n fields ∷ []) name (after_bound c s)
 column_with before n fields name c s counts says h = record {
   integer =
-    ap (λ t. t || s.is_integer) h.integer ∙ ap (λ t. is_integer before name || t) says.integer
-    ∙ or_assoc (begins_integer before name) (names_integer (bounds_on before name)) (kind_is (codes "BV" ∷ codes "LI" ∷ codes "UI" ∷ []) l)
-    ∙ sym (ap (λ ps. list_any (λ p. bytes_eq (column_name p.1) name && in_force p.0) ps || names_integer (bounds_on after name)) (first_lines_stay before l refl)
-        ∙ ap (λ ks. begins_integer before name || names_integer ks) on
-        ∙ ap (λ t. begins_integer before name || t) (list_any-append (kind_is (codes "BV" ∷ codes "LI" ∷ codes "UI" ∷ [])) (bounds_on before name) (l ∷ [])
-            ∙ ap (λ t. names_integer (bounds_on before name) || t) (or_nothing (kind_is (codes "BV" ∷ codes "LI" ∷ codes "UI" ∷ []) l))));
+      ap (λ t. t || s.is_integer) h.integer ∙ ap (λ t. is_integer before name || t) says.integer
+      ∙ or_assoc (begins_integer before name) (names_integer (bounds_on before name)) (kind_is (codes "BV" ∷ codes "LI" ∷ codes "UI" ∷ []) l)
+      ∙ sym (ap (λ ps. list_any (λ p. bytes_eq (column_name p.1) name && in_force p.0) ps || names_integer (bounds_on after name)) (first_lines_stay before l refl)
+      ∙ ap (λ ks. begins_integer before name || names_integer ks) on
+      ∙ ap (λ t. begins_integer before name || t) (list_any-append (kind_is (codes "BV" ∷ codes "LI" ∷ codes "UI" ∷ [])) (bounds_on before name) (l ∷ [])
+      ∙ ap (λ t. names_integer (bounds_on before name) || t) (or_nothing (kind_is (codes "BV" ∷ codes "LI" ∷ codes "UI" ∷ []) l))));
   lower =
-    ap (λ o. or_else s.lower o) h.lower ∙ ap (λ o. or_else o (option_map lower_by (lower_entry before name))) says.lower
-    ∙ sym (mapped_else lower_by (where_true (sets_lower l) l) (lower_entry before name))
-    ∙ ap (option_map lower_by) (sym (last_more sets_lower (bounds_on before name) l) ∙ ap (λ ks. last_of (filter sets_lower ks)) (sym on));
+      ap (λ o. or_else s.lower o) h.lower ∙ ap (λ o. or_else o (option_map lower_by (lower_entry before name))) says.lower
+      ∙ sym (mapped_else lower_by (where_true (sets_lower l) l) (lower_entry before name))
+      ∙ ap (option_map lower_by) (sym (last_more sets_lower (bounds_on before name) l) ∙ ap (λ ks. last_of (filter sets_lower ks)) (sym on));
   upper =
-    ap (λ o. or_else s.upper o) h.upper ∙ ap (λ o. or_else o (option_map upper_said (upper_entry before name))) says.upper
-    ∙ sym (mapped_else upper_said (where_true (sets_upper l) l) (upper_entry before name))
-    ∙ ap (option_map upper_said) (sym (last_more sets_upper (bounds_on before name) l) ∙ ap (λ ks. last_of (filter sets_upper ks)) (sym on));
+      ap (λ o. or_else s.upper o) h.upper ∙ ap (λ o. or_else o (option_map upper_said (upper_entry before name))) says.upper
+      ∙ sym (mapped_else upper_said (where_true (sets_upper l) l) (upper_entry before name))
+      ∙ ap (option_map upper_said) (sym (last_more sets_upper (bounds_on before name) l) ∙ ap (λ ks. last_of (filter sets_upper ks)) (sym on));
 }
   where
     l : Line
@@ -291,11 +291,11 @@ pub columns_noted : (before : List Line) (n : ℕ) (fields : List (List ℕ)) (c
     → BoundsStand before cs → BoundsStand (before ++ bound_item n fields ∷ []) new
 columns_noted before n fields cs new place s kept count apart found says noted h j name c at there =
     get_of_set cs place (after_bound old.0 s) j c (ColumnStands (before ++ l ∷ []) name c) (sym (ap (λ xs. slice_get xs j) (noted old.0 old.1)) ∙ there)
-      (λ e f. subst (ColumnStands (before ++ l ∷ []) name) f
-          (column_with before n fields name old.0 s
-            (ap (λ t. t && bytes_eq (bound_column l) name) kept ∙ ap (bytes_eq (bound_column l)) (sym (get_or_from_slice_get names place name [] (ap (slice_get names) (sym e) ∙ named))) ∙ is.1)
-            says (h place name old.0 (ap (slice_get names) (sym e) ∙ named) old.1)))
-      (λ e f. column_without before n fields name c (ap (λ t. t && bytes_eq (bound_column l) name) kept ∙ other (bytes_eq (bound_column l) name) refl e) (h j name c named f))
+    (λ e f. subst (ColumnStands (before ++ l ∷ []) name) f
+    (column_with before n fields name old.0 s
+    (ap (λ t. t && bytes_eq (bound_column l) name) kept ∙ ap (bytes_eq (bound_column l)) (sym (get_or_from_slice_get names place name [] (ap (slice_get names) (sym e) ∙ named))) ∙ is.1)
+    says (h place name old.0 (ap (slice_get names) (sym e) ∙ named) old.1)))
+    (λ e f. column_without before n fields name c (ap (λ t. t && bytes_eq (bound_column l) name) kept ∙ other (bytes_eq (bound_column l) name) refl e) (h j name c named f))
   where
     l : Line
     l = bound_item n fields
@@ -323,7 +323,7 @@ pub columns_kept : (before : List Line) (n : ℕ) (fields : List (List ℕ)) (cs
     → BoundsStand before cs → BoundsStand (before ++ bound_item n fields ∷ []) cs
 columns_kept before n fields cs dropped h j name c at there =
     column_without before n fields name c (ap (λ t. t && bytes_eq (bound_column (bound_item n fields)) name) dropped)
-      (h j name c (ap (λ ns. slice_get ns j) (sym (column_names_stay before (bound_item n fields) refl)) ∙ at) there)
+    (h j name c (ap (λ ns. slice_get ns j) (sym (column_names_stay before (bound_item n fields) refl)) ∙ at) there)
 
 -- a draft stands for a bound too, once its columns and its kept set do
 pub bound_stands : (before : List Line) (d new : Draft) (n : ℕ) (fields : List (List ℕ)) → Stands before d → line_faults before (bound_item n fields) ≡ [] → is_among (codes "BOUNDS") (words_of before) ≡ true
@@ -341,7 +341,7 @@ bound_stands before d new n fields h right there sections rows names in_integers
       sections = subst (λ s. SectionsStand after s.items) (sym sections) (sections_stay before l d.sections.items refl there h.sections);
       rows = subst (RowsStand after) (sym rows) (rows_stand_stay before l d.rows refl h.rows);
       entries = subst (λ t. EntriesStand (kept_entries (codes "COLUMNS") after) (kept_entries (codes "RHS") after) (kept_entries (codes "RANGES") after) (column_names after) (map row_name (row_lines after)) t.rows.items) (sym rows)
-        (entries_stay before l d.rows.rows.items refl refl refl refl h.entries);
+          (entries_stay before l d.rows.rows.items refl refl refl refl h.entries);
       columns = record {
         names = ap (λ s. map string_bytes s.keys) names ∙ columns.names;
         count = count ∙ columns.count;

@@ -90,10 +90,10 @@ pub apart_more : (names : List (List ℕ)) (name : List ℕ) → AreApart names 
 apart_more names name apart new i other there = get_of_more names name i other (position (bytes_eq other) (names ++ name ∷ []) ≡ Some i) there
     (λ e. position_append (bytes_eq other) names (name ∷ []) ∙ ap (λ o. option_or o (option_map (λ k. length names + k) (position (bytes_eq other) (name ∷ [])))) (apart i other e))
     (λ e f. ap (λ k. position (bytes_eq k) (names ++ name ∷ [])) (sym f)
-        ∙ position_append (bytes_eq name) names (name ∷ [])
-        ∙ ap (λ o. option_or o (option_map (λ k. length names + k) (position (bytes_eq name) (name ∷ [])))) (no_place (bytes_eq name) names new)
-        ∙ ap (option_map (λ k. length names + k)) (position_cons (bytes_eq name) name [] ∙ ap (λ t. if t then Some 0 else None) (bytes_same name))
-        ∙ ap Some (omega (arith, e)))
+    ∙ position_append (bytes_eq name) names (name ∷ [])
+    ∙ ap (λ o. option_or o (option_map (λ k. length names + k) (position (bytes_eq name) (name ∷ [])))) (no_place (bytes_eq name) names new)
+    ∙ ap (option_map (λ k. length names + k)) (position_cons (bytes_eq name) name [] ∙ ap (λ t. if t then Some 0 else None) (bytes_same name))
+    ∙ ap Some (omega (arith, e)))
 
 pub bytes_turned : (a b : List ℕ) → bytes_eq a b ≡ bytes_eq b a
 bytes_turned a b = by (bytes_eq a b) (bytes_eq b a) refl refl

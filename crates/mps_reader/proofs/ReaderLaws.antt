@@ -132,8 +132,8 @@ read_as ps p l new e is h =
 pub refused_as : (ps : List (ℕ × List ℕ)) (p : ℕ × List ℕ) (l : Line) (d new : Draft) (error : MpsError) → is_read p ≡ true → line_of (ps, p) ≡ l → Stands (lines_by ps) d → IsFirstFault (line_faults (lines_by ps) l) error → IsLineTaken ps p new (Err error)
 refused_as ps p l d new error e is h fault =
     subst (λ fs. IsFirstFault fs error)
-      (sym (ap all_line_faults (ap (λ t. lines_by (ps ++ when t p)) e ∙ lines-add ps p ∙ ap (λ k. lines_by ps ++ k ∷ []) is) ∙ faults-add (lines_by ps) l ∙ ap (λ fs. fs ++ line_faults (lines_by ps) l) h.no_fault))
-      fault
+    (sym (ap all_line_faults (ap (λ t. lines_by (ps ++ when t p)) e ∙ lines-add ps p ∙ ap (λ k. lines_by ps ++ k ∷ []) is) ∙ faults-add (lines_by ps) l ∙ ap (λ fs. fs ++ line_faults (lines_by ps) l) h.no_fault))
+    fault
 
 pub item_said : (ps : List (ℕ × List ℕ)) (p : ℕ × List ℕ) (fields : List (List ℕ)) → begins_with is_blank p.1 ≡ true → fields_of p.1 ≡ fields → line_of (ps, p) ≡ item (last_section (words_of (lines_by ps))) p.0 fields
 item_said ps p fields e is = item_line ps p (ap not e) ∙ ap (item (last_section (words_of (lines_by ps))) p.0) is

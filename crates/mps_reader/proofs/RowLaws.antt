@@ -94,10 +94,10 @@ rows_grow before t new n k kind name is fresh w h =
     let count : length t.rows.items ≡ length (row_lines before) = sym (length-map t.rows.items (λ r. kind_word r.kind)) ∙ ap length h.kinds ∙ length-map (row_lines before) row_kind in record {
       names = w.names ∙ ap (λ ns. ns ++ name ∷ []) h.names ∙ sym (map-append row_name (row_lines before) (row_item n kind name ∷ [])) ∙ ap (map row_name) more;
       kinds = ap (map (λ r. kind_word r.kind)) w.rows ∙ map-append (λ r. kind_word r.kind) t.rows.items (w.row ∷ [])
-        ∙ ap (λ ks. ks ++ kind_word w.row.kind ∷ []) h.kinds ∙ ap (λ kd. map row_kind (row_lines before) ++ kd ∷ []) (ap kind_word w.is_new.kind_is ∙ is)
-        ∙ sym (map-append row_kind (row_lines before) (row_item n kind name ∷ [])) ∙ ap (map row_kind) more;
+          ∙ ap (λ ks. ks ++ kind_word w.row.kind ∷ []) h.kinds ∙ ap (λ kd. map row_kind (row_lines before) ++ kd ∷ []) (ap kind_word w.is_new.kind_is ∙ is)
+          ∙ sym (map-append row_kind (row_lines before) (row_item n kind name ∷ [])) ∙ ap (map row_kind) more;
       objective = w.objective ∙ ap (λ kd. or_else t.objective (where_true (bytes_eq kd (codes "N")) (length t.rows.items))) is
-        ∙ objective_more before t.objective (length t.rows.items) n kind name h.objective count ∙ ap (position is_free) more;
+          ∙ objective_more before t.objective (length t.rows.items) n kind name h.objective count ∙ ap (position is_free) more;
       apart = subst AreApart (sym (map-append row_name (row_lines before) (row_item n kind name ∷ [])) ∙ ap (map row_name) more) (apart_more (names_of before) name h.apart fresh);
     }
 
@@ -128,13 +128,13 @@ entries_grow : (names : List (List ℕ)) (name : List ℕ) (rows : List RowDraft
     → EntriesStand [] [] [] [] names rows → EntriesStand [] [] [] [] (names ++ name ∷ []) (rows ++ r ∷ [])
 entries_grow names name rows kind r count new h i other s at there =
     get_of_more names name i other (RowStands [] [] [] [] other s) at
-      (λ old. get_of_more rows r i s (RowStands [] [] [] [] other s) there (λ e. h i other s old e) (λ e f. subst (λ k. RowStands [] [] [] [] other k) f (new_row_stands kind r other new)))
-      (λ e f. get_of_more rows r i s (RowStands [] [] [] [] other s) there (λ g. absurd (omega (arith, e, count, slice_get_within rows i s g))) (λ g k. subst (λ k. RowStands [] [] [] [] other k) k (new_row_stands kind r other new)))
+    (λ old. get_of_more rows r i s (RowStands [] [] [] [] other s) there (λ e. h i other s old e) (λ e f. subst (λ k. RowStands [] [] [] [] other k) f (new_row_stands kind r other new)))
+    (λ e f. get_of_more rows r i s (RowStands [] [] [] [] other s) there (λ g. absurd (omega (arith, e, count, slice_get_within rows i s g))) (λ g k. subst (λ k. RowStands [] [] [] [] other k) k (new_row_stands kind r other new)))
 
 entries_moved : {e e' r r' g g' : List Entry} {c c' n n' : List (List ℕ)} {x x' : List RowDraft} → e ≡ e' → r ≡ r' → g ≡ g' → c ≡ c' → n ≡ n' → x ≡ x' → EntriesStand e r g c n x → EntriesStand e' r' g' c' n' x'
 entries_moved {e} {e'} {r} {r'} {g} {g'} {c} {c'} {n} {n'} {x} {x'} a b i j k l h =
     subst (λ z. EntriesStand z r' g' c' n' x') a (subst (λ z. EntriesStand e z g' c' n' x') b (subst (λ z. EntriesStand e r z c' n' x') i
-      (subst (λ z. EntriesStand e r g z n' x') j (subst (λ z. EntriesStand e r g c z x') k (subst (λ z. EntriesStand e r g c n z) l h)))))
+    (subst (λ z. EntriesStand e r g z n' x') j (subst (λ z. EntriesStand e r g c z x') k (subst (λ z. EntriesStand e r g c n z) l h)))))
 
 -- a draft stands for a row too, once its table has it
 pub row_stands : (before : List Line) (d : Draft) (new : RowTable) (n : ℕ) (k : RowKind) (kind name : List ℕ) → Stands before d
@@ -156,8 +156,8 @@ row_stands before d new n k kind name h there last is fresh plain w =
       sections = sections_stay before l d.sections.items refl there h.sections;
       rows = rows_grow before d.rows new n k kind name is fresh w h.rows;
       entries = entries_moved (sym (no_entries (codes "COLUMNS") after columns)) (sym (no_entries (codes "RHS") after right_sides)) (sym (no_entries (codes "RANGES") after ranges)) (sym (no_columns after columns))
-        (sym (map-append row_name (row_lines before) (l ∷ [])) ∙ ap (map row_name) (sym (rows_more before n kind name))) (sym w.rows)
-        (entries_grow (names_of before) name d.rows.rows.items k w.row count w.is_new
+          (sym (map-append row_name (row_lines before) (l ∷ [])) ∙ ap (map row_name) (sym (rows_more before n kind name))) (sym w.rows)
+          (entries_grow (names_of before) name d.rows.rows.items k w.row count w.is_new
           (entries_moved (no_entries (codes "COLUMNS") before old_columns) (no_entries (codes "RHS") before old_right_sides) (no_entries (codes "RANGES") before old_ranges) (no_columns before old_columns) refl refl h.entries));
       columns = columns_stand_stay before l d.columns refl h.columns;
       bounds = bounds_stand_stay before l d.columns.columns.items refl refl h.bounds;

@@ -112,11 +112,11 @@ pub at_end : (xs : List (List ℕ)) (i : ℕ) (x : List ℕ) → slice_get xs i 
     → lines_by (read_from 1 (take i xs) ++ when (is_read (i + 1, without_return x)) (i + 1, without_return x)) ≡ said_by xs
 at_end xs i x at going ended =
     ap lines_by (ap (λ t. done ++ when t p) read
-        ∙ sym (ap (λ t. done ++ (if t then p ∷ [] else p ∷ through_first opens_end others.0)) ends)
-        ∙ sym (through-append opens_end done (p ∷ others.0) going)
-        ∙ ap (through_first opens_end) (sym (append_assoc done (p ∷ []) others.0)
-            ∙ sym (ap (λ k. k ++ others.0) (one_more xs i x at ∙ ap (λ t. done ++ when t p) read))
-            ∙ sym others.1))
+    ∙ sym (ap (λ t. done ++ (if t then p ∷ [] else p ∷ through_first opens_end others.0)) ends)
+    ∙ sym (through-append opens_end done (p ∷ others.0) going)
+    ∙ ap (through_first opens_end) (sym (append_assoc done (p ∷ []) others.0)
+    ∙ sym (ap (λ k. k ++ others.0) (one_more xs i x at ∙ ap (λ t. done ++ when t p) read))
+    ∙ sym others.1))
   where
     p : ℕ × List ℕ
     p = (i + 1, without_return x)
@@ -142,8 +142,8 @@ pub refused_at : (xs : List (List ℕ)) (i : ℕ) (x : List ℕ) (e : MpsError) 
     → IsFirstFault (all_line_faults (lines_by (read_from 1 (take i xs) ++ when (is_read (i + 1, without_return x)) (i + 1, without_return x)))) e → IsFirstFault (all_line_faults (said_by xs)) e
 refused_at xs i x e at going fault =
     subst (λ ps. IsFirstFault (all_line_faults (lines_by ps)) e)
-        (sym rest.1 ∙ ap (through_first opens_end) (sym (others.1 ∙ ap (λ k. k ++ others.0) (one_more xs i x at))))
-        (refusal_stays (done ++ when (is_read p) p) rest.0 e fault)
+    (sym rest.1 ∙ ap (through_first opens_end) (sym (others.1 ∙ ap (λ k. k ++ others.0) (one_more xs i x at))))
+    (refusal_stays (done ++ when (is_read p) p) rest.0 e fault)
   where
     p : ℕ × List ℕ
     p = (i + 1, without_return x)

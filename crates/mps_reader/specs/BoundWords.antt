@@ -40,16 +40,16 @@ has_right_count l = nat_le (if takes_number l then 3 else 2) (length l.fields) &
 abbrev pub lower_of : List ℕ → Number → Option (Option ℤ)
 lower_of kind n =
     where_true (is_among kind (codes "LO" ∷ codes "LI" ∷ codes "FX" ∷ codes "FR" ∷ codes "MI" ∷ codes "BV" ∷ []))
-        (if is_among kind (codes "BV" ∷ []) then Some (pos 0) else (where_true (is_among kind numbered_words && not (is_large n && is_negative_number n)) (rounded_up n)))
+    (if is_among kind (codes "BV" ∷ []) then Some (pos 0) else (where_true (is_among kind numbered_words && not (is_large n && is_negative_number n)) (rounded_up n)))
 
 -- the same as an upper side, and whether it is UP or UI with a negative number
 abbrev pub upper_of : List ℕ → Number → Option UpperBound
 upper_of kind n =
     where_true (is_among kind (codes "UP" ∷ codes "UI" ∷ codes "FX" ∷ codes "FR" ∷ codes "PL" ∷ codes "BV" ∷ []))
-        (record {
-          side = if is_among kind (codes "BV" ∷ []) then Some (pos 1) else (where_true (is_among kind numbered_words && not (is_large n && not (is_negative_number n))) (rounded_down n));
-          is_negative = is_among kind (codes "UP" ∷ codes "UI" ∷ []) && is_negative_number n;
-        })
+    (record {
+      side = if is_among kind (codes "BV" ∷ []) then Some (pos 1) else (where_true (is_among kind numbered_words && not (is_large n && not (is_negative_number n))) (rounded_down n));
+      is_negative = is_among kind (codes "UP" ∷ codes "UI" ∷ []) && is_negative_number n;
+    })
 
 -- what a bound of a kind and a number says of its column
 pub record Says (kind : List ℕ) (n : Number) (s : ColumnDraft) : Type 0 where

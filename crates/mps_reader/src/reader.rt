@@ -18,12 +18,7 @@ use std::alloc::Global;
 
 /// Takes a data line, which belongs to the last section. `SectionOrder` comes where ROWS is missing; the other faults are those of its
 /// section.
-fn take_item(
-    alloc: Global,
-    draft: &mut Draft,
-    line: u32,
-    fields: &[&str],
-) -> Result<(), MpsError>
+fn take_item(alloc: Global, draft: &mut Draft, line: u32, fields: &[&str]) -> Result<(), MpsError>
     ensures { (before : List Line) → Stands before draft.old → is_among (codes "ENDATA") (words_of before) ≡ false → IsTaken before (item (last_word_of (words_of before)) line (map (λ f. f.now) fields.now)) draft.new result }
 {
     let section = match last_section(draft.sections.as_slice()) {
@@ -42,12 +37,7 @@ fn take_item(
 }
 
 /// Takes a line of a text, and tells whether it is the ENDATA line. Comments and lines without a field are skipped.
-fn take_line(
-    alloc: Global,
-    draft: &mut Draft,
-    number: u32,
-    text: &str,
-) -> Result<bool, MpsError>
+fn take_line(alloc: Global, draft: &mut Draft, number: u32, text: &str) -> Result<bool, MpsError>
     ensures { (ps : List (ℕ × List ℕ)) → Stands (lines_by ps) draft.old → list_any opens_end ps ≡ false → IsLineTaken ps (number, without_return text.now) draft.new result }
 {
     let text = cut_return(text);

@@ -46,12 +46,7 @@ fn objective_with(objective: Option<usize>, kind: RowKind, place: usize) -> Opti
 }
 
 /// Adds a row with a new name. The first free one is the objective.
-fn add_row(
-    alloc: Global,
-    table: &mut RowTable,
-    kind: RowKind,
-    name: &str,
-) -> Result<(), AllocError>
+fn add_row(alloc: Global, table: &mut RowTable, kind: RowKind, name: &str) -> Result<(), AllocError>
     requires { position (λ k. bytes_eq name.now (string_bytes k)) table.old.names.keys ≡ None }
     ensures { OnOk result (IsWithRow table.old table.new kind name.now) }
 {

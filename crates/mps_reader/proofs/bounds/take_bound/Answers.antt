@@ -33,23 +33,24 @@ returns c before fields h rows there kind right set column text =
     let d = c.args.draft.now in
     let items = items_of (codes "BOUNDS") before in
     let kept = c.in_ok-keep_set.ensures.kept
-        ∙ ap (λ o. Some (unwrap_or o c.args.bound.set.now)) h.sets.bounds
-        ∙ ap (λ w. Some (unwrap_or (option_map bound_set (first_of items)) w)) (sym set)
-        ∙ kept_set_more items l in
+    ∙ ap (λ o. Some (unwrap_or o c.args.bound.set.now)) h.sets.bounds
+    ∙ ap (λ w. Some (unwrap_or (option_map bound_set (first_of items)) w)) (sym set)
+    ∙ kept_set_more items l in
     let same = c.in_ok-keep_set.ensures.same
-        ∙ ap (λ o. bytes_eq (unwrap_or o c.args.bound.set.now) c.args.bound.set.now) h.sets.bounds
-        ∙ ap (λ w. bytes_eq (unwrap_or (option_map bound_set (first_of items)) w) w) (sym set)
-        ∙ of_kept_set items l in
+    ∙ ap (λ o. bytes_eq (unwrap_or o c.args.bound.set.now) c.args.bound.set.now) h.sets.bounds
+    ∙ ap (λ w. bytes_eq (unwrap_or (option_map bound_set (first_of items)) w) w) (sym set)
+    ∙ of_kept_set items l in
     elim c.if-branch.branch [
-      then-branch w ↦
-        (let says = line_says l c.args.kind c.in-Some-number_in.number w.said_by.result kind (number_counts l c.args.kind c.args.bound.text.now c.number_in.result c.in-Some-number_in.number kind text c.number_in.ensures.none c.in-Some-number_in.is) w.said_by.ensures in
-        subst (Stands (before ++ l ∷ [])) (sym w.draft-is)
+      | then-branch w ↦
+          (let says = line_says l c.args.kind c.in-Some-number_in.number w.said_by.result kind (number_counts l c.args.kind c.args.bound.text.now c.number_in.result c.in-Some-number_in.number kind text c.number_in.ensures.none c.in-Some-number_in.is) w.said_by.ensures in
+          subst (Stands (before ++ l ∷ [])) (sym w.draft-is)
           (bound_stands before d _ c.args.line fields h no_faults there refl refl refl refl refl refl refl
-            (noted_count d.columns.columns.items w.note_bound.new.columns.items (column_names before) (bound_column l) c.in-Some.column w.said_by.result h.columns.count found w.note_bound.ensures)
-            (columns_noted before c.args.line fields d.columns.columns.items w.note_bound.new.columns.items c.in-Some.column w.said_by.result (sym same ∙ w.if-branch.true) h.columns.count h.columns.apart found says w.note_bound.ensures h.bounds)
-            kept))
-    | else-branch w ↦
-        subst (Stands (before ++ l ∷ [])) (sym w.draft-is)
+          (noted_count d.columns.columns.items w.note_bound.new.columns.items (column_names before) (bound_column l) c.in-Some.column w.said_by.result h.columns.count found w.note_bound.ensures)
+          (columns_noted before c.args.line fields d.columns.columns.items w.note_bound.new.columns.items c.in-Some.column w.said_by.result (sym same ∙ w.if-branch.true) h.columns.count h.columns.apart found says w.note_bound.ensures h.bounds)
+          kept))
+      | else-branch w ↦
+          subst (Stands (before ++ l ∷ [])) (sym w.draft-is)
           (bound_stands before d _ c.args.line fields h no_faults there refl refl refl refl refl refl refl refl
-            (columns_kept before c.args.line fields d.columns.columns.items (sym same ∙ w.if-branch.false) h.bounds)
-            kept) ]
+          (columns_kept before c.args.line fields d.columns.columns.items (sym same ∙ w.if-branch.false) h.bounds)
+          kept)
+    ]

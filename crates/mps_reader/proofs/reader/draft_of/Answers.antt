@@ -57,10 +57,11 @@ loop-line-preserved c =
     let inv = c.loop-line.invariant in
     let taken : IsLineTaken done (i + 1, without_return x) c.take_line.new.draft c.take_line.result = subst (λ n. IsLineTaken done (n + 1, without_return x) c.take_line.new.draft c.take_line.result) inv.0 (c.take_line.ensures done inv.2 inv.1) in
     let ok = subst (IsLineTaken done (i + 1, without_return x) c.take_line.new.draft) c.in-Ok.is taken in
-    let more = sym (one_more xs i x at) in
-    ( ap (λ n. n + 1) inv.0
-    , subst (λ ps. list_any opens_end ps ≡ false) more (goes_on done (i + 1, without_return x) inv.1 (sym ok.0 ∙ c.if-ended.false))
-    , subst (λ ps. Stands (lines_by ps) c.take_line.new.draft) more ok.1 )
+    let more = sym (one_more xs i x at) in (
+      ap (λ n. n + 1) inv.0,
+      subst (λ ps. list_any opens_end ps ≡ false) more (goes_on done (i + 1, without_return x) inv.1 (sym ok.0 ∙ c.if-ended.false)),
+      subst (λ ps. Stands (lines_by ps) c.take_line.new.draft) more ok.1,
+    )
 
 pub returns : goal.returns
 returns c =

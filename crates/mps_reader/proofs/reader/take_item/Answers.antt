@@ -29,17 +29,17 @@ returns-in-Rows c before h going =
 pub returns-in-Columns : goal.returns-in-Columns
 returns-in-Columns c before h going =
     let b = belongs before c.args.draft.now c.last_section.result Columns h (c.last_section.ensures ∙ ap last_of c.as_slice.ensures.value) (c.in-Some.is ∙ ap Some c.in-Columns.is) in
-    at_section before _ _ _ _ (codes "COLUMNS") b.last (c.take_column_line.ensures before h b.there (b.rows refl) b.last (b.none_later (codes "RHS") refl) (b.none_later (codes "RANGES") refl) (b.none_later (codes "BOUNDS") refl))
+    at_section before _ _ _ _ (codes "COLUMNS") b.last (c.take_column_line.ensures before h b.there (b.rows refl) (b.none_later (codes "BOUNDS") refl))
 
 pub returns-in-RightSides : goal.returns-in-RightSides
 returns-in-RightSides c before h going =
     let b = belongs before c.args.draft.now c.last_section.result RightSides h (c.last_section.ensures ∙ ap last_of c.as_slice.ensures.value) (c.in-Some.is ∙ ap Some c.in-RightSides.is) in
-    at_section before _ _ _ _ (codes "RHS") b.last (c.take_set_line.ensures before h b.there (b.rows refl) b.last)
+    at_section before _ _ _ _ (codes "RHS") b.last (c.take_set_line.ensures before h refl b.there (b.rows refl))
 
 pub returns-in-Ranges : goal.returns-in-Ranges
 returns-in-Ranges c before h going =
     let b = belongs before c.args.draft.now c.last_section.result Ranges h (c.last_section.ensures ∙ ap last_of c.as_slice.ensures.value) (c.in-Some.is ∙ ap Some c.in-Ranges.is) in
-    at_section before _ _ _ _ (codes "RANGES") b.last (c.take_set_line-in-Ranges.ensures before h b.there (b.rows refl) b.last)
+    at_section before _ _ _ _ (codes "RANGES") b.last (c.take_set_line-in-Ranges.ensures before h refl b.there (b.rows refl))
 
 pub returns-in-Bounds : goal.returns-in-Bounds
 returns-in-Bounds c before h going =

@@ -22,8 +22,9 @@ returns-then-is_indented c ps h going =
     let l = item (last_section (words_of (lines_by ps))) c.args.number (map (λ f. f.now) c.as_slice.result.now) in
     let taken : IsTaken (lines_by ps) l c.take_item.new.draft c.take_item.result = c.take_item.ensures (lines_by ps) h (ended_where ps ∙ going) in
     elim c.match-take_item.branch [
-        in-Ok w ↦ subst (IsLineTaken ps p c.take_item.new.draft) (ap Ok (item_is_no_end p blank) ∙ sym w.result-is) (read_as ps p l c.take_item.new.draft read said (subst (IsTaken (lines_by ps) l c.take_item.new.draft) w.in-Ok.is taken))
-      | in-Err w ↦ subst (IsLineTaken ps p c.take_item.new.draft) (sym w.result-is) (refused_as ps p l c.args.draft.now c.take_item.new.draft w.in-Err.error read said h (subst (IsTaken (lines_by ps) l c.take_item.new.draft) w.in-Err.is taken)) ]
+      | in-Ok w ↦ subst (IsLineTaken ps p c.take_item.new.draft) (ap Ok (item_is_no_end p blank) ∙ sym w.result-is) (read_as ps p l c.take_item.new.draft read said (subst (IsTaken (lines_by ps) l c.take_item.new.draft) w.in-Ok.is taken))
+      | in-Err w ↦ subst (IsLineTaken ps p c.take_item.new.draft) (sym w.result-is) (refused_as ps p l c.args.draft.now c.take_item.new.draft w.in-Err.error read said h (subst (IsTaken (lines_by ps) l c.take_item.new.draft) w.in-Err.is taken))
+    ]
 
 pub returns-in-Ok-take_section : goal.returns-in-Ok-take_section
 returns-in-Ok-take_section c ps h going =

@@ -25,4 +25,4 @@ returns c before d is h there last =
     let rows = subst (RowsStand before) is h.rows in
     let found = sym (found_name before c.args.table.now c.args.name.now rows) ∙ ap is_some (sym c.get_index_of.ensures.index) ∙ sym c.is_some.ensures ∙ c.if-is_some.false in
     row_stands before d c.add_row.new.table c.args.line c.in-Some.kind c.args.kind.now c.args.name.now h there last c.in-Some.ensures found (sym c.eq.ensures ∙ c.if-eq.false)
-      (subst (λ t. IsWithRow t c.add_row.new.table c.in-Some.kind c.args.name.now) (sym is) c.in_ok-add_row.ensures)
+    (subst (λ t. IsWithRow t c.add_row.new.table c.in-Some.kind c.args.name.now) (sym is) c.in_ok-add_row.ensures)

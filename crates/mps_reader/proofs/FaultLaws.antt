@@ -51,3 +51,28 @@ faults_at f names others cs later name c named is = ap (λ ns. column_faults f n
 pub answers_later : (here rest : List MpsError) (r : Result (Unit {0}) MpsError) → first_of here ≡ None → AnswersFaults rest r → AnswersFaults (here ++ rest) r
 answers_later here rest (Ok done) none h = first_later here rest none ∙ h
 answers_later here rest (Err e) none h = subst (λ o. IsFirst o e) (sym (first_later here rest none)) h
+
+-- the first fault is an answer, and so is want of memory
+pub first_is : (o : Option MpsError) (e : MpsError) → o ≡ Some e → IsFirst o e
+first_is o Out.NotBuilt h = h
+first_is o Out.NotUtf8 h = h
+first_is o (Out.SectionOrder a) h = h
+first_is o (Out.UnknownSection a) h = h
+first_is o (Out.FieldCount a) h = h
+first_is o (Out.RowKind a) h = h
+first_is o (Out.TwiceRow a) h = h
+first_is o (Out.UnknownRow a) h = h
+first_is o (Out.SplitColumn a) h = h
+first_is o (Out.TwiceEntry a) h = h
+first_is o (Out.Number a) h = h
+first_is o (Out.Marker a) h = h
+first_is o (Out.BoundKind a) h = h
+first_is o (Out.UnknownColumn a) h = h
+first_is o (Out.Continuous a) h = h
+first_is o (Out.NoBound a b) h = h
+first_is o (Out.NegativeUpper a) h = h
+first_is o (Out.Limit a) h = h
+first_is o Out.NoObjective h = h
+first_is o Out.NoEnd h = h
+first_is o (Out.Digits a) h = h
+first_is o Out.Memory h = tt

@@ -117,3 +117,7 @@ mapped_at f (z ∷ zs) zero x y within is at = ap f is ∙ some_same (f z) y at
     some_same : {B : Type 0} (a b : B) → Some a ≡ Some b → a ≡ b
     some_same a b e = cc
 mapped_at f (z ∷ zs) (suc i) x y within is at = mapped_at f zs i x y (omega arith) is at
+
+pub mapped_count : {A B : Type 0} (f : A → B) (xs : List A) → length (map f xs) ≡ length xs
+mapped_count f [] = refl
+mapped_count f (x ∷ xs) = ap suc (mapped_count f xs)

@@ -8,6 +8,7 @@ pub mod FaultLaws
 pub mod FieldLaws
 pub mod FinishLaws
 pub mod GrowthLaws
+pub mod LimitedLaws
 pub mod LineLaws
 pub mod ModelLaws
 pub mod NameLaws
@@ -22,3 +23,5 @@ pub mod StayLaws
 pub mod TableLaws
 pub mod TakingLaws
 pub mod TextLaws
+pub mod WholeLaws
+pub mod WrittenLaws

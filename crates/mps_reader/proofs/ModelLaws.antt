@@ -60,7 +60,7 @@ row_is ls how name kind r word s =
     made d es sides = record { name = name; decimals = d; coefs = drafted_coefs d es; low = sides.0; high = sides.1 }
 
 -- the rows that are not free, from a place on
-rows_are : (ls : List Line) (how : How) (ks : List Line) (rs : List RowDraft) → map (λ r. kind_word r.kind) rs ≡ map row_kind ks
+pub rows_are : (ls : List Line) (how : How) (ks : List Line) (rs : List RowDraft) → map (λ r. kind_word r.kind) rs ≡ map row_kind ks
     → ((i : ℕ) (name : List ℕ) (r : RowDraft) → slice_get (map row_name ks) i ≡ Some name → slice_get rs i ≡ Some r → RowStands (kept_entries (codes "COLUMNS") ls) (kept_entries (codes "RHS") ls) (kept_entries (codes "RANGES") ls) (column_names ls) name r)
     → drafted_rows how (map row_name ks) rs ≡ map (λ l. row_from ls how (row_kind l) (row_name l)) (filter (λ l. not (is_free l)) ks)
 rows_are ls how [] rs kinds s = refl
@@ -142,7 +142,7 @@ column_is ls how row k name c cost is s =
     made o low high = record { name = name; cost = units k (unwrap_or o no_number); lo = unwrap_or low (box_low how); hi = unwrap_or high (box_high how) }
 
 -- the columns, from one on
-columns_are : (ls : List Line) (how : How) (row : List ℕ) (k j : ℕ) (costs : List (ℕ × Number)) (names : List (List ℕ)) (cs : List ColumnDraft)
+pub columns_are : (ls : List Line) (how : How) (row : List ℕ) (k j : ℕ) (costs : List (ℕ × Number)) (names : List (List ℕ)) (cs : List ColumnDraft)
     → costs ≡ filter_map (placed (kept_entries (codes "COLUMNS") ls) row) (enumerate_from j names) → length names ≡ length cs
     → ((i : ℕ) (name : List ℕ) (c : ColumnDraft) → slice_get names i ≡ Some name → slice_get cs i ≡ Some c → ColumnStands ls name c)
     → drafted_columns how k j costs names cs ≡ map (column_from ls how row k) names

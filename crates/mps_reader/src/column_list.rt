@@ -11,8 +11,8 @@ use crate::clamps::clamped;
 use crate::draft::ColumnDraft;
 use crate::row_list::{NO_NUMBER, name_of};
 use decimals::units;
-use ip_defs::{Column, How, MpsError, Number};
-use std::alloc::Global;
+use ip_defs::{Column, How, Number};
+use std::alloc::{AllocError, Global};
 
 /// The lower side of a column: 0 where no bound is for it, and none where its last bound takes it away.
 pub fn lower_of(column: &ColumnDraft) -> Option<i128>
@@ -56,7 +56,7 @@ fn box_high(how: How) -> i128
 }
 
 /// A column of the model.
-fn column_of(alloc: Global, name: &str, column: &ColumnDraft, cost: Option<Number>, decimals: u8, how: How) -> Result<Column, MpsError>
+fn column_of(alloc: Global, name: &str, column: &ColumnDraft, cost: Option<Number>, decimals: u8, how: How) -> Result<Column, AllocError>
     requires how { IsHow how }
     requires decimals { decimals ≤ 9 }
     requires below { ForSome cost IsBelowLarge }
@@ -94,7 +94,7 @@ pub fn column_list(
     costs: &[(usize, Number)],
     decimals: u8,
     how: How,
-) -> Result<Vec<Column>, MpsError>
+) -> Result<Vec<Column>, AllocError>
     requires how { IsHow how }
     requires decimals { decimals ≤ 9 }
     requires below { AreBelowLarge costs.now }

@@ -22,7 +22,7 @@ use crate::whole::{Rule, check_columns};
 use decimals::units;
 use ip_defs::{How, Limit, Listed, MpsError, Parts, What};
 use ip_model::{IntModel, make};
-use std::alloc::Global;
+use std::alloc::{AllocError, Global};
 
 /// The most columns of a model.
 const MOST_COLUMNS: usize = 4_096;
@@ -73,7 +73,7 @@ fn constant_of(row: &RowDraft, decimals: u8) -> i64
 }
 
 /// The parts of a draft with its objective, each number clamped.
-fn parts_of(alloc: Global, draft: &Draft, objective: usize, how: How) -> Result<Parts, MpsError>
+fn parts_of(alloc: Global, draft: &Draft, objective: usize, how: How) -> Result<Parts, AllocError>
     requires how { IsHow how }
     requires counts { HasCounts draft.now }
     requires below { AreRowsBelow draft.now.rows.rows.items }
@@ -118,7 +118,7 @@ fn model_within(alloc: Global, draft: &Draft, objective: usize, how: How) -> Res
     requires counts { HasCounts draft.now }
     requires below { length draft.now.columns.columns.items ≤ 4096 → AreRowsBelow draft.now.rows.rows.items }
     requires objective { objective < length draft.now.rows.rows.items }
-    requires shaped { (name : List ℕ) (r : RowDraft) → slice_get (row_names draft.now) objective ≡ Some name → slice_get draft.now.rows.rows.items objective ≡ Some r → IsWellShaped (clamped_parts (drafted_model draft.now how name r)) }
+    requires shaped { (name : List ℕ) × (r : RowDraft) × (slice_get (row_names draft.now) objective ≡ Some name) × (slice_get draft.now.rows.rows.items objective ≡ Some r) × IsWellShaped (clamped_parts (drafted_model draft.now how name r)) }
     ensures { (name : List ℕ) (r : RowDraft) → slice_get (row_names draft.now) objective ≡ Some name → slice_get draft.now.rows.rows.items objective ≡ Some r → IsLimited (drafted_model draft.now how name r) result }
 {
     if draft.columns.columns.len() > MOST_COLUMNS {
@@ -129,5 +129,38 @@ fn model_within(alloc: Global, draft: &Draft, objective: usize, how: How) -> Res
             },
         });
     }
-    limited(parts_of(alloc, draft, objective, how)?)
+    match parts_of(alloc, draft, objective, how) {
+        Ok(parts) => limited(parts),
+        Err(_) => Err(MpsError::Memory),
+    }
+}
+
+/// The model of a draft with its objective, or the first fault of its columns and limits.
+fn model_with(alloc: Global, draft: &Draft, objective: usize, how: How) -> Result<IntModel, MpsError>
+    requires how { IsHow how }
+    requires counts { HasCounts draft.now }
+    requires below { length draft.now.columns.columns.items ≤ 4096 → AreRowsBelow draft.now.rows.rows.items }
+    requires objective { objective < length draft.now.rows.rows.items }
+    requires shaped { (name : List ℕ) × (r : RowDraft) × (slice_get (row_names draft.now) objective ≡ Some name) × (slice_get draft.now.rows.rows.items objective ≡ Some r) × IsWellShaped (clamped_parts (drafted_model draft.now how name r)) }
+    ensures { (name : List ℕ) (r : RowDraft) → slice_get (row_names draft.now) objective ≡ Some name → slice_get draft.now.rows.rows.items objective ≡ Some r → IsDrafted draft.now how name r result }
+{
+    match check_draft(alloc, draft, how) {
+        Ok(()) => model_within(alloc, draft, objective, how),
+        Err(error) => Err(error),
+    }
+}
+
+/// The model of a draft of all lines, or the first fault of the whole: no ENDATA, no objective, then the columns, then the limits.
+pub fn model_of(alloc: Global, draft: &Draft, how: How) -> Result<IntModel, MpsError>
+    requires how { IsHow how }
+    requires stands { (ls : List Line) × Stands ls draft.now }
+    ensures { (ls : List Line) → Stands ls draft.now → IsFinished ls how result }
+{
+    if !has_end(draft.sections.as_slice()) {
+        return Err(MpsError::NoEnd);
+    }
+    match draft.rows.objective {
+        Some(objective) => model_with(alloc, draft, objective, how),
+        None => Err(MpsError::NoObjective),
+    }
 }

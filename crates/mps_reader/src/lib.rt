@@ -17,6 +17,8 @@ mod row_list;
 mod rows;
 mod sections;
 mod sets;
+mod texts;
 mod whole;
 
 pub use ip_defs::{How, MpsError, Side};
+pub use texts::read;

@@ -11,7 +11,7 @@ ghost use Rattle.mps_reader.specs.Progress.{kind_word};
 use crate::clamps::{clamped, clamped_above, clamped_below};
 use crate::draft::{RowDraft, RowKind};
 use decimals::units;
-use ip_defs::{How, Listed, MpsError, Name, Number, Row};
+use ip_defs::{How, Listed, Name, Number, Row};
 use std::alloc::{AllocError, Global};
 
 /// A name of a model.
@@ -156,7 +156,7 @@ pub const NO_NUMBER: Number = Number::Dec {
 };
 
 /// A row of the model.
-fn row_of(alloc: Global, name: &str, row: &RowDraft, how: How) -> Result<Row, MpsError>
+fn row_of(alloc: Global, name: &str, row: &RowDraft, how: How) -> Result<Row, AllocError>
     requires digits { how.digits ≤ 9 }
     requires below { IsRowBelow row.now }
     ensures { IfOk result (λ r. r ≡ clamped_row (drafted_row how name.now row.now)) }
@@ -174,7 +174,7 @@ fn row_of(alloc: Global, name: &str, row: &RowDraft, how: How) -> Result<Row, Mp
 }
 
 /// The rows of the model: those that are not free.
-pub fn row_list(alloc: Global, names: &[String], rows: &[RowDraft], how: How) -> Result<Vec<Row>, MpsError>
+pub fn row_list(alloc: Global, names: &[String], rows: &[RowDraft], how: How) -> Result<Vec<Row>, AllocError>
     requires digits { how.digits ≤ 9 }
     requires below { AreRowsBelow rows.now }
     requires names { length names.now ≡ length rows.now }

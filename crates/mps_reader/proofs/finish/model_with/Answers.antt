@@ -1,0 +1,11 @@
+use Rattle.std.proofs.Common.{sym, ap, ◌∙◌, ◌≡◌, ◌++◌, List, [], subst, Some, None}
+use Rattle.std.specs.Prelude.{Result, Ok, Err, map}
+use Rattle.ip_defs.specs.Lists.{first_of}
+use Rattle.ip_defs.specs.Faults.{limit_faults}
+use Rattle.ip_defs.specs.declared.programs.Parts.{Parts}
+use Rattle.mps_reader.specs.Drafted.{drafted_column_faults, drafted_model}
+use Rattle.mps_reader.proofs.WholeLaws.{drafted_is}
+use Rattle.mps_reader.proofs.finish.model_with.Goals as goal
+
+pub returns-in-Ok : goal.returns-in-Ok
+returns-in-Ok c name r named at = drafted_is c.args.draft.now c.args.how name r c.model_within.result c.in-Ok.ensures (c.model_within.ensures name r named at)

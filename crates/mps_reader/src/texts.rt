@@ -1,0 +1,26 @@
+ghost use Rattle.std.specs.Prelude.{◌≤◌, ◌^◌, length};
+ghost use Rattle.ip_defs.specs.Runs.{ReadMeets};
+ghost use Rattle.mps_reader.specs.How.{IsHow};
+
+use crate::finish::model_of;
+use crate::reader::draft_of;
+use ip_defs::{How, MpsError};
+use ip_model::IntModel;
+use std::alloc::Global;
+
+/// The model of an MPS text, or its first refusal. A text that is not UTF-8 is refused first; then the first line with a fault, then a
+/// text without ENDATA, then one without an objective, then the columns by number, then the limits. Only `Memory` says nothing of the
+/// text.
+pub fn read(alloc: Global, text: &[u8], how: How) -> Result<IntModel, MpsError>
+    requires length { length text.now ≤ 2 ^ 31 }
+    requires how { IsHow how }
+    ensures { ReadMeets text.now how result }
+{
+    match str::from_utf8(text) {
+        Ok(text) => match draft_of(alloc, text) {
+            Ok(draft) => model_of(alloc, &draft, how),
+            Err(error) => Err(error),
+        },
+        Err(_) => Err(MpsError::NotUtf8),
+    }
+}

@@ -10,7 +10,6 @@ mod entries;
 mod fields;
 mod finish;
 mod lines;
-
 mod reader;
 mod right_sides;
 mod rounding;

@@ -18,7 +18,7 @@ use Rattle.mps_reader.specs.Progress.{EntriesStand, SetsStand, Stands, IsTaken, 
 use Rattle.mps_reader.specs.Taking.{IsDone, RowsHave, Owns, AreEntriesTaken, IsSetLine, IsSetKept, owner_word, set_owner, faults_after}
 use Rattle.mps_reader.proofs.GrowthLaws.{true_not_false, items_of-add}
 use Rattle.mps_reader.proofs.StayLaws.{items_stay, column_names_stay, sections_stay, columns_stand_stay, bounds_stand_stay}
-use Rattle.mps_reader.proofs.NameLaws.{name_self}
+use Rattle.mps_reader.proofs.PlaceLaws.{bytes_same}
 use Rattle.mps_reader.proofs.TakingLaws.{IsDone_map}
 use Rattle.mps_reader.proofs.LineLaws.{rows_begin, rows_end, pair_faults_are, no_fault_more, taken}
 

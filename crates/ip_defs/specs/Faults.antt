@@ -1,6 +1,6 @@
 -- What is wrong with an MPS text, in the order in which refusals are answered: line by line, each line judged from itself and the
 -- lines before it; then the end of the text, the objective, the columns, and the limits of the model.
-use Rattle.std.specs.Prelude.{ℕ, ◌==◌, nat_lt, nat_le, Bool, false, ◌&&◌, ◌||◌, not, if◌then◌else◌, List, [], ◌∷◌, ◌++◌, length, map, flat_map, position, Option, Some, bytes_eq, codes, ℤ, neg_ℤ}
+use Rattle.std.specs.Prelude.{◌≡◌, ℕ, ◌==◌, nat_lt, nat_le, Bool, false, ◌&&◌, ◌||◌, not, if◌then◌else◌, List, [], ◌∷◌, ◌++◌, length, map, flat_map, position, Option, Some, bytes_eq, codes, ℤ, neg_ℤ}
 use Rattle.std.specs.List.{list_any, list_all}
 use Rattle.std.specs.Option.{option_map_or, is_none}
 use Rattle.std.specs.Str.{is_utf8}
@@ -14,6 +14,7 @@ use Rattle.ip_defs.specs.declared.texts.How.{How}
 use Rattle.ip_defs.specs.declared.programs.Parts.{Parts}
 use Rattle.ip_defs.specs.declared.texts.Side.TheVariants.{Lower, Upper}
 use Rattle.ip_defs.specs.declared.texts.MpsError.{MpsError}
+use Rattle.ip_defs.specs.declared.texts.MpsError.TheVariants as Out
 use Rattle.ip_defs.specs.declared.texts.MpsError.TheVariants.{NotUtf8, SectionOrder, UnknownSection, FieldCount, RowKind, TwiceRow, UnknownRow, SplitColumn, TwiceEntry, Number, Marker, BoundKind, UnknownColumn, Continuous, NoBound, NegativeUpper, Limit, NoObjective, NoEnd, Digits}
 
 -- section lines
@@ -157,3 +158,8 @@ mps_fault text how = if is_utf8 text then first_of (faults_of_lines (lines_of te
 -- the model of a text, where it has no fault
 abbrev pub model_of : List ℕ → How → Parts
 model_of text how = model_from (lines_of text) how
+
+-- an error is the first fault; want of memory is free
+abbrev pub IsFirst : Option MpsError → MpsError → Type 0
+IsFirst o Out.Memory = Unit {0}
+IsFirst o e = o ≡ Some e

@@ -1,16 +1,13 @@
 -- What a run answers to words and files, and what its shelf and its sink show of it.
-use Rattle.std.specs.Prelude.{◌≡◌, ◌⊎◌, ℕ, List, take, length, nat_lt, Option, None, Some, codes, ℤ, Result, Ok, Err}
+use Rattle.std.specs.Prelude.{◌≡◌, ℕ, List, take, length, nat_lt, Option, None, Some, codes, ℤ, Result, Ok, Err}
 use Rattle.std.specs.Option.{MatchOption, ForSome}
 use Rattle.std.specs.Bool.{MatchBool}
-use Rattle.ip_defs.specs.Program.{IsLeast, IsEmpty}
-use Rattle.ip_defs.specs.Faults.{mps_fault, model_of}
-use Rattle.ip_defs.specs.Limits.{IsWithinLimits}
-use Rattle.ip_defs.specs.Texts.{optimum_lines, refusal_text, refused_model}
+use Rattle.ip_defs.specs.Faults.{IsFirst, mps_fault, model_of}
+use Rattle.ip_defs.specs.Texts.{canonical_text, is_printable, refusal_text, refused_model}
 use Rattle.ip_defs.specs.Words.{Word, request_of, usage_text}
 use Rattle.ip_defs.specs.Files.{Files, file_of, Agrees, Keeps, Takes, KeepsOthers}
 use Rattle.ip_defs.specs.declared.texts.How.{How}
 use Rattle.ip_defs.specs.declared.texts.MpsError.{MpsError}
-use Rattle.ip_defs.specs.declared.texts.MpsError.TheVariants as Out
 use Rattle.ip_defs.specs.declared.programs.Parts.{Parts}
 use Rattle.ip_defs.specs.declared.runs.Request.{Request}
 use Rattle.ip_defs.specs.declared.runs.Request.TheVariants.{Solve, Show}
@@ -35,31 +32,10 @@ refuses_model why = says Refused (refused_model why)
 abbrev pub longest_model : ℕ
 longest_model = 16777216
 
--- ---- the answers that the commands owe to a model file of at most that length
-
--- a least point, or none where no point is feasible
-abbrev pub Solves : Parts → Option (List ℤ) → Type 0
-Solves m (Some x) = IsLeast m x
-Solves m None = IsEmpty m
-
 -- how a request asks its model to be read
 abbrev pub how_of : Request → How
 how_of (Solve model tree nodes depth pivots digits box_side) = record { digits = digits; box_side = box_side }
 how_of (Show model digits box_side) = record { digits = digits; box_side = box_side }
-
--- `solve`: the first refusal of the text, or the text of a least point or of emptiness of its model
-abbrev pub IsSolveAnswer : Request → List ℕ → Answer → Type 0
-IsSolveAnswer q bytes a =
-    MatchOption (mps_fault bytes (how_of q))
-    ((o : Option (List ℤ)) × Solves (model_of bytes (how_of q)) o × (a ≡ says Answered (optimum_lines (model_of bytes (how_of q)) o)))
-    (λ e. a ≡ refuses_model (refusal_text e))
-
--- what is proved of the answer today, while the reader is not proved exact: it is the text of a least point of a model within the
--- limits, or of the emptiness of one, or it is the line of a refusal
-abbrev pub IsAnswerOrRefusal : Request → List ℕ → Answer → Type 0
-IsAnswerOrRefusal q bytes a =
-    ((m : Parts) × IsWithinLimits m × ((o : Option (List ℤ)) × Solves m o × (a ≡ says Answered (optimum_lines m o))))
-    ⊎ ((e : MpsError) × (a ≡ refuses_model (refusal_text e)))
 
 -- ---- the run relation, over what is owed to the model file
 
@@ -69,10 +45,10 @@ AnswersModel IsRight fs name a =
     (bytes : List ℕ) × (file_of fs name ≡ Some bytes)
     × MatchBool (nat_lt longest_model (length bytes)) (a ≡ refuses_model (codes "too long")) (IsRight bytes a)
 
--- the answer to a request; no command but `solve` is built, so nothing answers another
+-- the answer to a request
 abbrev pub AnswersRequest : (Request → List ℕ → Answer → Type 0) → Files → Answer → Request → Type 0
 AnswersRequest IsRight fs a (Solve model tree nodes depth pivots digits box_side) = AnswersModel (IsRight (Solve model tree nodes depth pivots digits box_side)) fs model a
-AnswersRequest IsRight fs a (Show model digits box_side) = ⊥
+AnswersRequest IsRight fs a (Show model digits box_side) = AnswersModel (IsRight (Show model digits box_side)) fs model a
 
 -- words, files and an answer: the usage line where the words are no request, else an answer to the request
 abbrev pub IsRunOf : (Request → List ℕ → Answer → Type 0) → List Word → Files → Answer → Type 0
@@ -137,5 +113,4 @@ RunMeets IsRun o Wide = IsAnswered IsRun o Wide
 -- ---- what `read` owes: the model of the text, or its first refusal; want of memory is free
 abbrev pub ReadMeets : List ℕ → How → Result Parts MpsError → Type 0
 ReadMeets text how (Ok m) = (mps_fault text how ≡ None) × (m ≡ model_of text how)
-ReadMeets text how (Err Out.Memory) = Unit {0}
-ReadMeets text how (Err e) = mps_fault text how ≡ Some e
+ReadMeets text how (Err e) = IsFirst (mps_fault text how) e

@@ -1,7 +1,7 @@
 -- The model of a text: each number is looked up in the whole list of what the text writes.
-use Rattle.std.specs.Prelude.{ℕ, ◌+◌, ◌-◌, ◌^◌, ◌==◌, max, Bool, ◌&&◌, ◌||◌, not, if◌then◌else◌, List, [], ◌∷◌, ◌++◌, map, filter, filter_map, find, fold, Option, None, Some, option_map, unwrap_or, bytes_eq, codes, ℤ, pos, neg_ℤ, ◌+ℤ◌, ◌-ℤ◌, ◌*ℤ◌}
+use Rattle.std.specs.Prelude.{◌≤◌, ◌≤ℤ◌, ℕ, ◌+◌, ◌-◌, ◌^◌, ◌==◌, max, Bool, ◌&&◌, ◌||◌, not, if◌then◌else◌, List, [], ◌∷◌, ◌++◌, map, filter, filter_map, find, fold, Option, None, Some, option_map, unwrap_or, bytes_eq, codes, ℤ, pos, neg_ℤ, ◌+ℤ◌, ◌-ℤ◌, ◌*ℤ◌}
 use Rattle.std.specs.List.{enumerate_from, list_any}
-use Rattle.std.specs.Option.{option_map_or}
+use Rattle.std.specs.Option.{option_map_or, ForSome}
 use Rattle.std.specs.Int.{int_div_euclid}
 use Rattle.std.specs.Int.RustNames.{unsigned_abs}
 use Rattle.std.specs.Int.Signed.{lt_z}
@@ -75,6 +75,11 @@ lower_side ls name = option_map_or lower_by (lower_entry ls name) (Some (pos 0))
 
 abbrev pub upper_side : List Line → List ℕ → Option ℤ
 upper_side ls name = option_map_or upper_by (upper_entry ls name) None
+
+-- how a text may be asked to be read: at most nine decimals, and a box side between 0 and 2^24 where one is given
+pub record IsHow (how : How) : Type 0 where
+  pub digits : how.digits ≤ 9
+  pub box_side : ForSome how.box_side (λ b. (pos 0 ≤ℤ b) × (b ≤ℤ pos (2 ^ 24)))
 
 abbrev pub box_low : How → ℤ
 box_low how = option_map_or neg_ℤ how.box_side (pos 0)

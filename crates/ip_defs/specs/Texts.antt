@@ -16,7 +16,7 @@ use Rattle.ip_defs.specs.declared.texts.Side.TheVariants.{Lower, Upper}
 use Rattle.ip_defs.specs.declared.limits.What as What
 use Rattle.ip_defs.specs.declared.limits.What.TheVariants as Whats
 use Rattle.ip_defs.specs.declared.texts.MpsError.{MpsError}
-use Rattle.ip_defs.specs.declared.texts.MpsError.TheVariants.{NotBuilt, NotUtf8, SectionOrder, UnknownSection, FieldCount, RowKind, TwiceRow, UnknownRow, SplitColumn, TwiceEntry, Number, Marker, BoundKind, UnknownColumn, Continuous, NoBound, NegativeUpper, Limit, NoObjective, NoEnd, Digits, Memory}
+use Rattle.ip_defs.specs.declared.texts.MpsError.TheVariants.{NotUtf8, SectionOrder, UnknownSection, FieldCount, RowKind, TwiceRow, UnknownRow, SplitColumn, TwiceEntry, Number, Marker, BoundKind, UnknownColumn, Continuous, NoBound, NegativeUpper, Limit, NoObjective, NoEnd, Digits, Memory}
 
 abbrev pub newline : List ℕ
 newline = 10 ∷ []
@@ -36,17 +36,13 @@ abbrev pub optimum_lines : Parts → Option (List ℤ) → List ℕ
 optimum_lines m None = codes "empty" ++ newline
 optimum_lines m (Some x) = codes "optimum " ++ value_text m (cost m x) ++ newline ++ value_lines m x
 
--- how many nodes a tree has, and how many of its splits were made without the answer of a linear program
-abbrev pub count_lines : ℕ → ℕ → List ℕ
-count_lines nodes skipped = codes "nodes " ++ decimal nodes ++ newline ++ codes "skipped " ++ decimal skipped ++ newline
-
 abbrev pub best_lines : Parts → Option (List ℤ) → List ℕ
 best_lines m None = codes "best none" ++ newline
 best_lines m (Some x) = codes "best " ++ value_text m (cost m x) ++ newline ++ value_lines m x
 
--- what is `nodes` or `depth`
-abbrev pub budget_lines : Parts → List ℕ → ℕ → ℕ → Option (List ℤ) → List ℕ
-budget_lines m what nodes skipped best = codes "budget " ++ what ++ newline ++ count_lines nodes skipped ++ best_lines m best
+-- a search that stopped, and the best point that it found; what is `nodes` or `depth`
+abbrev pub budget_lines : Parts → List ℕ → Option (List ℤ) → List ℕ
+budget_lines m what best = codes "budget " ++ what ++ newline ++ best_lines m best
 
 -- refusals
 
@@ -75,7 +71,6 @@ what_text Whats.Objective = codes "objective"
 what_text Whats.Constant = codes "constant"
 
 abbrev pub refusal_text : MpsError → List ℕ
-refusal_text NotBuilt = codes "M0"
 refusal_text NotUtf8 = codes "M1"
 refusal_text (SectionOrder n) = codes "M2" ++ on_line n
 refusal_text (UnknownSection n) = codes "M3" ++ on_line n

@@ -1,12 +1,12 @@
 -- The request of the words of a command line. Words are plain where they are a command, its operands, and options of the command,
 -- each option as two words, the option and its value, and at most once.
-use Rattle.std.specs.Prelude.{ℕ, ◌%◌, ◌==◌, nat_le, Bool, false, ◌&&◌, ◌||◌, not, List, [], ◌∷◌, length, map, find, Option, None, option_map, slice_index_or, bytes_eq, codes, ℤ, pos}
+use Rattle.std.specs.Prelude.{ℕ, ◌%◌, ◌==◌, nat_le, Bool, false, ◌&&◌, ◌||◌, not, if◌then◌else◌, List, [], ◌∷◌, length, map, find, Option, None, Some, option_map, slice_index_or, bytes_eq, codes, ℤ, pos}
 use Rattle.std.specs.List.{list_all}
 use Rattle.std.specs.Option.{option_map_or}
 use Rattle.ip_defs.specs.Lists.{where_true, with_earlier, is_among}
 use Rattle.ip_defs.specs.Numbers.{is_digit, digits_value}
 use Rattle.ip_defs.specs.declared.runs.Request.{Request}
-use Rattle.ip_defs.specs.declared.runs.Request.TheVariants.{Solve}
+use Rattle.ip_defs.specs.declared.runs.Request.TheVariants.{Solve, Show}
 
 abbrev pub Word : Type 0
 Word = List ℕ
@@ -55,9 +55,9 @@ number_of_option o default ws = option_map_or digits_value (value_of o (twos ws)
 abbrev pub box_of_option : List Word → Option ℤ
 box_of_option ws = option_map (λ v. pos (digits_value v)) (value_of (codes "--box") (twos ws))
 
--- the options of `solve` that are built: none so far
-abbrev pub solve_choices : List Choice
-solve_choices = []
+-- the options of each command on a model: the least decimals of its units, and the side that an absent bound gets
+abbrev pub model_choices : List Choice
+model_choices = record { word = codes "--digits"; takes = is_number_from 0 9 } ∷ record { word = codes "--box"; takes = is_number_from 0 16777216 } ∷ []
 
 -- the request of `solve` for a model with these option words
 abbrev pub solve_request : Word → List Word → Request
@@ -65,11 +65,21 @@ solve_request model ws =
     Solve model (value_of (codes "--tree") (twos ws)) (number_of_option (codes "--nodes") 100000 ws) (number_of_option (codes "--depth") 800 ws)
     (number_of_option (codes "--pivots") 5000 ws) (number_of_option (codes "--digits") 0 ws) (box_of_option ws)
 
+-- the request of `show`
+abbrev pub show_request : Word → List Word → Request
+show_request model ws = Show model (number_of_option (codes "--digits") 0 ws) (box_of_option ws)
+
+-- a command with its name, an operand, and options of a list
+abbrev pub is_command : List ℕ → List Choice → Word → Word → List Word → Bool
+is_command name choices c model ws = bytes_eq c name && is_operand model && are_options choices ws
+
 -- the request of the words, or none where they are no plain words
 abbrev pub request_of : List Word → Option Request
 request_of [] = None
 request_of (c ∷ []) = None
-request_of (c ∷ model ∷ ws) = where_true (bytes_eq c (codes "solve") && is_operand model && are_options solve_choices ws) (solve_request model ws)
+request_of (c ∷ model ∷ ws) =
+    if is_command (codes "solve") model_choices c model ws then Some (solve_request model ws)
+    else where_true (is_command (codes "show") model_choices c model ws) (show_request model ws)
 
 -- what is printed for words that are no request
 abbrev pub usage_text : List ℕ

@@ -29,9 +29,6 @@ pub enum Side {
 /// Why a text is not taken as a model. `line` counts from 1.
 #[derive(Debug, Drop, Error)]
 pub enum MpsError {
-    /// The text is none of the plain ones that are read today.
-    #[error("the text is none of the plain ones that are read today")]
-    NotBuilt,
     /// The text is not UTF-8.
     #[error("the text is not UTF-8")]
     NotUtf8,

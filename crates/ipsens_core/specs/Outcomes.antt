@@ -2,16 +2,17 @@
 use Rattle.std.specs.Prelude.{◌≡◌, ◌⊎◌, ℕ, List, Option, None, take}
 use Rattle.ip_defs.specs.Files.{Files, Takes}
 use Rattle.ip_defs.specs.Runs.{Outside}
+use Rattle.ip_defs.specs.TextModels.{IsHow}
 use Rattle.ip_defs.specs.declared.runs.Request.{Request}
 use Rattle.ip_defs.specs.declared.runs.Request.TheVariants.{Solve, Show}
 use Rattle.ip_defs.specs.declared.runs.Status.{Status}
 use Rattle.ip_defs.specs.declared.runs.Status.TheVariants.{WriteFault}
 use Rattle.ips_io.specs.Causes.{Rose}
 
--- the request is a `solve` with whole numbers as they are written and no box side
-abbrev pub IsPlainSolve : Request → Type 0
-IsPlainSolve (Solve model tree nodes depth pivots digits box_side) = (digits ≡ 0) × (box_side ≡ None)
-IsPlainSolve (Show model digits box_side) = ⊥
+-- the limits of `solve` stand at their defaults, and the model file is asked for as it may be
+abbrev pub IsPlainRequest : Request → Type 0
+IsPlainRequest (Solve model tree nodes depth pivots digits box_side) = (nodes ≡ 100000) × (depth ≡ 800) × IsHow (record { digits = digits; box_side = box_side })
+IsPlainRequest (Show model digits box_side) = IsHow (record { digits = digits; box_side = box_side })
 
 -- the name of the model file of a request
 abbrev pub model_of_request : Request → List ℕ

@@ -2,10 +2,17 @@ ghost use Rattle.std.specs.Prelude.{◌≡◌, ◌≢◌, ◌++◌, IfOk, OnOk, 
 ghost use Rattle.std.specs.Fmt.{signed_decimal};
 ghost use Rattle.std.specs.Option.{ForSome};
 ghost use Rattle.ip_defs.specs.Numbers.{decimal_text};
+ghost use Rattle.branching.specs.Outcomes.{IsTrueOutcome};
+ghost use Rattle.ip_defs.specs.Program.{cost as cost_of};
+ghost use Rattle.ip_defs.specs.Runs.{says};
+ghost use Rattle.ip_defs.specs.Texts.{value_text as amount_text};
+ghost use Rattle.ip_defs.specs.Texts.{best_lines, budget_lines, newline, value_lines};
+ghost use Rattle.ipsens_core.specs.Answers.{claimed, limit_word, outcome_answer};
 ghost use Rattle.ip_defs.specs.Texts.{on_column, optimum_lines, refusal_text, refused_model, side_text, value_line, what_text};
 
 use decimals::decimal_text;
-use ip_defs::{Column, Limit, Memory, MpsError, Point, Side, What};
+use branching::{BudgetWhat, Claim, Outcome};
+use ip_defs::{Column, Limit, Memory, MpsError, Point, Side, Status, What};
 use ip_model::{IntModel, cost};
 use std::alloc::{AllocError, Global};
 
@@ -15,6 +22,9 @@ pub const USAGE: &[u8] =
 
 /// What is printed for a model file that is too long.
 pub const TOO_LONG: &[u8] = b"refused model too long\n";
+
+/// What is printed for a model without a canonical text.
+pub const UNPRINTABLE: &str = "refused model unprintable\n";
 
 /// The front of a column's line: its name.
 fn named(alloc: Global, name: &str) -> Result<String, AllocError>
@@ -57,50 +67,98 @@ fn push_values(
     Ok(())
 }
 
-/// The first line of an optimum: its cost with the decimals of the costs.
-fn optimum_line(alloc: Global, cost: i128, decimals: u8) -> Result<String, Memory>
-    ensures { IfOk result (λ s. string_bytes s ≡ codes "optimum " ++ decimal_text cost decimals ++ codes "\n") }
+/// A line with an amount: its word, and the cost with the decimals of the costs.
+fn cost_line(alloc: Global, word: &str, cost: i128, decimals: u8) -> Result<String, Memory>
+    ensures { IfOk result (λ s. string_bytes s ≡ word.now ++ decimal_text cost decimals ++ codes "\n") }
 {
     let amount = decimal_text(alloc, cost, decimals)?;
-    let mut line = String::from_str(alloc, "optimum ")?;
+    let mut line = String::from_str(alloc, word)?;
     line.push_str(amount.as_str())?;
     line.push_str("\n")?;
     Ok(line)
 }
 
-/// The text of a point and its cost.
-fn optimum_text(alloc: Global, model: &IntModel, point: &Point) -> Result<String, Memory>
+/// The text of a point and its cost, after a word.
+fn point_text(alloc: Global, word: &str, model: &IntModel, point: &Point) -> Result<String, Memory>
     requires { length point.now ≡ length model.now.columns }
-    ensures { IfOk result (λ s. string_bytes s ≡ optimum_lines model.now (Some point.now)) }
+    ensures { IfOk result (λ s. string_bytes s ≡ word.now ++ amount_text model.now (cost_of model.now point.now) ++ newline ++ value_lines model.now point.now) }
 {
     let cost = cost(model, point);
     let parts = model.parts();
-    let mut text = optimum_line(alloc, cost, parts.cost_decimals)?;
+    let mut text = cost_line(alloc, word, cost, parts.cost_decimals)?;
     push_values(alloc, parts.columns.as_slice(), point.as_slice(), &mut text)?;
     Ok(text)
 }
 
-/// The text of a solved model: `optimum V` and a `value` line for each column in order, or `empty`.
-pub fn solve_text(
-    alloc: Global,
-    model: &IntModel,
-    outcome: &Option<Point>,
-) -> Result<String, Memory>
-    requires { ForSome outcome.now (λ x. length x ≡ length model.now.columns) }
-    ensures { IfOk result (λ s. string_bytes s ≡ optimum_lines model.now outcome.now) }
+/// A text that is fixed.
+fn fixed_text(alloc: Global, text: &str) -> Result<String, Memory>
+    ensures { IfOk result (λ s. string_bytes s ≡ text.now) }
 {
-    match outcome {
-        Some(point) => optimum_text(alloc, model, point),
-        None => empty_text(alloc),
+    Ok(String::from_str(alloc, text)?)
+}
+
+/// The text of a claim: `optimum V` and a `value` line for each column in order, or `empty`.
+fn claim_text(alloc: Global, model: &IntModel, claim: &Claim) -> Result<String, Memory>
+    requires { ForSome (claimed claim.now) (λ x. length x ≡ length model.now.columns) }
+    ensures { IfOk result (λ s. string_bytes s ≡ optimum_lines model.now (claimed claim.now)) }
+{
+    match claim {
+        Claim::Best(point) => point_text(alloc, "optimum ", model, point),
+        Claim::Empty => fixed_text(alloc, "empty\n"),
     }
 }
 
-/// The text of emptiness.
-fn empty_text(alloc: Global) -> Result<String, Memory>
-    ensures { IfOk result (λ s. string_bytes s ≡ codes "empty\n") }
+/// The text of the best point so far: `best V` and a `value` line for each column, or `best none`.
+fn best_text(alloc: Global, model: &IntModel, best: &Option<Point>) -> Result<String, Memory>
+    requires { ForSome best.now (λ x. length x ≡ length model.now.columns) }
+    ensures { IfOk result (λ s. string_bytes s ≡ best_lines model.now best.now) }
 {
-    let text = String::from_str(alloc, "empty\n")?;
+    match best {
+        Some(point) => point_text(alloc, "best ", model, point),
+        None => fixed_text(alloc, "best none\n"),
+    }
+}
+
+/// The line of the limit that stopped a search.
+fn limit_stop_text(alloc: Global, what: BudgetWhat) -> Result<String, Memory>
+    ensures { IfOk result (λ s. string_bytes s ≡ codes "budget " ++ limit_word what ++ newline) }
+{
+    match what {
+        BudgetWhat::Nodes => fixed_text(alloc, "budget nodes\n"),
+        BudgetWhat::Depth => fixed_text(alloc, "budget depth\n"),
+    }
+}
+
+/// The text of a search that stopped: the limit, and the best point so far.
+fn stop_text(alloc: Global, model: &IntModel, what: BudgetWhat, best: &Option<Point>) -> Result<String, Memory>
+    requires { ForSome best.now (λ x. length x ≡ length model.now.columns) }
+    ensures { IfOk result (λ s. string_bytes s ≡ budget_lines model.now (limit_word what) best.now) }
+{
+    let mut text = limit_stop_text(alloc, what)?;
+    let best = best_text(alloc, model, best)?;
+    text.push_str(best.as_str())?;
     Ok(text)
+}
+
+/// The text of an outcome, and whether it is an answer or a stop.
+pub fn outcome_text(alloc: Global, model: &IntModel, outcome: &Outcome) -> Result<(Status, String), Memory>
+    requires { IsTrueOutcome model.now outcome.now }
+    ensures { IfOk result (λ r. says r.0 (string_bytes r.1) ≡ outcome_answer model.now outcome.now) }
+{
+    match outcome {
+        Outcome::Best { proof, .. } => {
+            let text = claim_text(alloc, model, &proof.claim)?;
+            Ok((Status::Answered, text))
+        }
+        Outcome::Empty { .. } => {
+            let text = fixed_text(alloc, "empty\n")?;
+            Ok((Status::Answered, text))
+        }
+        Outcome::Budget { what, best, .. } => {
+            let text = stop_text(alloc, model, *what, best)?;
+            Ok((Status::Budget, text))
+        }
+    }
 }
 
 /// The line of a refused model text.
@@ -109,7 +167,6 @@ pub fn refusal_line(alloc: Global, error: &MpsError) -> Result<String, AllocErro
     ensures { IfOk result (λ s. string_bytes s ≡ refused_model (refusal_text error.now)) }
 {
     match error {
-        MpsError::NotBuilt => String::from_str(alloc, "refused model M0\n"),
         MpsError::NotUtf8 => String::from_str(alloc, "refused model M1\n"),
         MpsError::SectionOrder { line } => format!(in alloc; "refused model M2 line {line}\n"),
         MpsError::UnknownSection { line } => format!(in alloc; "refused model M3 line {line}\n"),

@@ -1,52 +1,91 @@
-ghost use Rattle.std.specs.Prelude.{◌≡◌, ◌⊎◌, ◌≤◌, IfOk, List, None, Option, ℤ, length, map, string_bytes};
-ghost use Rattle.ip_defs.specs.Files.{Takes};
-ghost use Rattle.ip_defs.specs.Limits.{IsWithinLimits};
-ghost use Rattle.ip_defs.specs.Runs.{AnswersRequest, IsAnswerOrRefusal, IsRunOf, RunMeets, Solves, says};
-ghost use Rattle.ip_defs.specs.Texts.{optimum_lines};
+ghost use Rattle.std.specs.Prelude.{◌≡◌, ◌⊎◌, ◌≤◌, IfOk, None, length, map, string_bytes};
+ghost use Rattle.ip_defs.specs.Runs.{AnswersRequest, IsRunOf, RunMeets, how_of as how_of_request, says};
 ghost use Rattle.ip_defs.specs.Words.{request_of};
 ghost use Rattle.ips_io.specs.Causes.{Rose};
-ghost use Rattle.ipsens_core.specs.Outcomes.{IsPlainSolve, Writes, model_of_request, shows};
+ghost use Rattle.ip_defs.specs.Files.{Takes};
+ghost use Rattle.ipsens_core.specs.Answers.{HasOutcome, IsAnswerTo, IsAnswerWith, IsShown, limits_for};
+ghost use Rattle.ipsens_core.specs.Outcomes.{IsPlainRequest, Writes, model_of_request, shows};
 
-use crate::messages::{TOO_LONG, USAGE, refusal_line, solve_text};
-use crate::search::solve;
+use crate::messages::{TOO_LONG, UNPRINTABLE, USAGE, outcome_text, refusal_line};
 use crate::words::{WordsError, request};
 use ip_defs::{How, Memory, MpsError, Name, Request, Status};
-use ip_model::IntModel;
+use branching::{Limits, solve};
+use ip_model::{IntModel, allowance};
 use ips_io::{ReadError, Shelf, Sink, read_all, write_all};
+use mps_printer::{print, printable};
 use mps_reader::read;
 use std::alloc::Global;
 
 /// The longest model file, in bytes: 16 MiB.
 const LONGEST_MODEL: u64 = 16_777_216;
 
-/// How a plain model is read.
-const PLAIN: How = How {
-    digits: 0,
-    box_side: None,
-};
-
-/// The text of a solved model.
-fn solved_text(alloc: Global, model: &IntModel) -> Result<String, Memory>
-    ensures limits { IsWithinLimits model.now }
-    ensures text { IfOk result (λ s. (o : Option (List ℤ)) × Solves model.now o × (string_bytes s ≡ optimum_lines model.now o)) }
+/// How a request asks its model file to be read.
+fn how_of(request: &Request) -> How
+    ensures { result ≡ how_of_request request.now }
 {
-    let _parts = model.parts();
-    let outcome = solve(alloc, model)?;
-    let text = solve_text(alloc, model, &outcome)?;
-    Ok(text)
+    match request {
+        Request::Solve {
+            digits, box_side, ..
+        } => How {
+            digits: *digits,
+            box_side: *box_side,
+        },
+        Request::Show {
+            digits, box_side, ..
+        } => How {
+            digits: *digits,
+            box_side: *box_side,
+        },
+    }
 }
 
-/// What is printed for a model file, and whether it is an answer or a refusal.
-fn answer_of(alloc: Global, bytes: &[u8]) -> Result<(Status, String), Memory>
-    requires { length bytes.now ≤ 16777216 }
-    ensures told { IfOk result (λ r. (r.0 ≡ Status.Answered) ⊎ (r.0 ≡ Status.Refused)) }
-    ensures right { IfOk result (λ r. (q : Request) → IsAnswerOrRefusal q bytes.now (says r.0 (string_bytes r.1))) }
+/// Searches a model for a least point, and makes the text of the outcome.
+fn solved(alloc: Global, model: &IntModel, nodes: u32, depth: u32) -> Result<(Status, String), Memory>
+    requires least { 1 ≤ nodes }
+    requires most { nodes ≤ 1000000 }
+    requires depth { depth ≤ 800 }
+    ensures { IfOk result (λ r. HasOutcome model.now (limits_for model.now nodes depth) (says r.0 (string_bytes r.1))) }
 {
-    match read(alloc, bytes, PLAIN) {
-        Ok(model) => {
-            let text = solved_text(alloc, &model)?;
-            Ok((Status::Answered, text))
-        }
+    let limits = Limits {
+        nodes: allowance(model, nodes),
+        depth,
+    };
+    let outcome = solve(alloc, model, limits)?;
+    outcome_text(alloc, model, &outcome)
+}
+
+/// The canonical text of a model, or that it has none.
+fn shown(alloc: Global, model: &IntModel) -> Result<(Status, String), Memory>
+    ensures { IfOk result (λ r. IsShown model.now (says r.0 (string_bytes r.1))) }
+{
+    if printable(model) {
+        let text = print(alloc, model)?;
+        Ok((Status::Answered, text))
+    } else {
+        let text = String::from_str(alloc, UNPRINTABLE)?;
+        Ok((Status::Refused, text))
+    }
+}
+
+/// What a request is answered with the model of its file.
+fn answer_with(alloc: Global, request: &Request, model: &IntModel) -> Result<(Status, String), Memory>
+    requires { IsPlainRequest request.now }
+    ensures { IfOk result (λ r. IsAnswerWith request.now model.now (says r.0 (string_bytes r.1))) }
+{
+    match request {
+        Request::Solve { nodes, depth, .. } => solved(alloc, model, *nodes, *depth),
+        Request::Show { .. } => shown(alloc, model),
+    }
+}
+
+/// What is printed for a model file, and how the run ends with it.
+fn answer_of(alloc: Global, request: &Request, bytes: &[u8]) -> Result<(Status, String), Memory>
+    requires plain { IsPlainRequest request.now }
+    requires length { length bytes.now ≤ 16777216 }
+    ensures { IfOk result (λ r. IsAnswerTo request.now bytes.now (says r.0 (string_bytes r.1))) }
+{
+    match read(alloc, bytes, how_of(request)) {
+        Ok(model) => answer_with(alloc, request, &model),
         Err(MpsError::Memory) => Err(Memory),
         Err(error) => {
             let text = refusal_line(alloc, &error)?;
@@ -76,15 +115,15 @@ fn model_name(request: &Request) -> &Name
     }
 }
 
-/// Answers `solve`: reads the model file, solves the model and prints a least point, or that there is none.
-pub fn solve_at<S: Shelf, K: Sink>(
+/// Answers a request: reads the model file, makes the whole text of the answer, and writes it.
+pub fn answer_at<S: Shelf, K: Sink>(
     alloc: Global,
     request: &Request,
     shelf: &mut S,
     out: &mut K,
 ) -> Status
-    requires { IsPlainSolve request.now }
-    ensures answer { RunMeets (λ fs a. AnswersRequest IsAnswerOrRefusal fs a request.now) (shows (S.files shelf.old) (S.files shelf.new) (K.taken out.old) (K.taken out.new)) result }
+    requires { IsPlainRequest request.now }
+    ensures answer { RunMeets (λ fs a. AnswersRequest IsAnswerTo fs a request.now) (shows (S.files shelf.old) (S.files shelf.new) (K.taken out.old) (K.taken out.new)) result }
     ensures read_cause { result ≡ Status.ReadFault → Rose (S.faults shelf.old) (S.faults shelf.new) }
     ensures write_cause { result ≡ Status.WriteFault → Rose (S.save_faults shelf.old) (S.save_faults shelf.new) ⊎ Rose (K.faults out.old) (K.faults out.new) }
     ensures no_usage { result ≡ Status.Usage → ⊥ }
@@ -96,7 +135,7 @@ pub fn solve_at<S: Shelf, K: Sink>(
         Err(ReadError::TooLong) => return finish(out, Status::Refused, TOO_LONG),
         Err(ReadError::Memory) => return Status::Memory,
     };
-    match answer_of(alloc, bytes.as_slice()) {
+    match answer_of(alloc, request, bytes.as_slice()) {
         Ok((status, text)) => finish(out, status, text.as_bytes()),
         Err(Memory) => Status::Memory,
     }
@@ -105,14 +144,14 @@ pub fn solve_at<S: Shelf, K: Sink>(
 /// Runs the command of the words over a shelf of files and a sink of output: the words are read, then the file, then the whole text
 /// is made, then it is written.
 pub fn run<S: Shelf, K: Sink>(alloc: Global, words: &[String], shelf: &mut S, out: &mut K) -> Status
-    ensures answer { RunMeets (IsRunOf IsAnswerOrRefusal (map string_bytes words.now)) (shows (S.files shelf.old) (S.files shelf.new) (K.taken out.old) (K.taken out.new)) result }
+    ensures answer { RunMeets (IsRunOf IsAnswerTo (map string_bytes words.now)) (shows (S.files shelf.old) (S.files shelf.new) (K.taken out.old) (K.taken out.new)) result }
     ensures usage { result ≡ Status.Usage → request_of (map string_bytes words.now) ≡ None }
     ensures no_request { request_of (map string_bytes words.now) ≡ None → (result ≡ Status.Usage) ⊎ ((result ≡ Status.WriteFault) ⊎ (result ≡ Status.Memory)) }
     ensures read_cause { result ≡ Status.ReadFault → Rose (S.faults shelf.old) (S.faults shelf.new) }
     ensures write_cause { result ≡ Status.WriteFault → Rose (S.save_faults shelf.old) (S.save_faults shelf.new) ⊎ Rose (K.faults out.old) (K.faults out.new) }
 {
     match request(alloc, words) {
-        Ok(request) => solve_at(alloc, &request, shelf, out),
+        Ok(request) => answer_at(alloc, &request, shelf, out),
         Err(WordsError::Usage) => finish(out, Status::Usage, USAGE),
         Err(WordsError::Memory) => Status::Memory,
     }

@@ -1,15 +1,23 @@
 -- First faults of lists that are put together.
-use Rattle.std.specs.Prelude.{◌≡◌, ℕ, List, [], ◌∷◌, ◌++◌, Option, Some, None, Result, Ok, Err}
+use Rattle.std.specs.Prelude.{◌≡◌, ℕ, true, if◌then◌else◌, not, flat_map, List, [], ◌∷◌, ◌++◌, Option, Some, None, Result, Ok, Err}
 use Rattle.std.proofs.Common.{refl, ap, sym, ◌∙◌, subst}
-use Rattle.ip_defs.specs.Lists.{first_of}
+use Rattle.std.specs.Option.{is_none}
+use Rattle.ip_defs.specs.Lists.{first_of, when}
+use Rattle.ip_defs.specs.Records.{Line, lines_of, objective, column_names}
+use Rattle.std.specs.Str.{is_utf8}
+use Rattle.ip_defs.specs.Runs.{ReadMeets}
+use Rattle.ip_defs.specs.declared.programs.Parts.{Parts}
+use Rattle.mps_reader.specs.Finished.{IsFinished}
+use Rattle.ip_defs.specs.TextModels.{model_from}
+use Rattle.ip_defs.specs.declared.texts.How.{How}
 use Rattle.ip_defs.specs.declared.texts.MpsError.{MpsError}
 use Rattle.ip_defs.specs.declared.texts.MpsError.TheVariants as Out
-use Rattle.mps_reader.specs.Drafted.{AnswersFaults, IsFirst, column_faults}
+use Rattle.ip_defs.specs.Faults.{IsFirst, all_line_faults, bound_missing, continuous_faults, faults_of_lines, is_ended, limit_faults, upper_faults}
+use Rattle.mps_reader.specs.Drafted.{AnswersFaults, column_faults}
 use Rattle.mps_reader.specs.declared.draft.ColumnDraft.{ColumnDraft}
 
 -- where there is no fault, an error is want of memory
 pub from_none : (e : MpsError) → IsFirst None e → (o : Option MpsError) → IsFirst o e
-from_none Out.NotBuilt h o = absurd cc
 from_none Out.NotUtf8 h o = absurd cc
 from_none (Out.SectionOrder a) h o = absurd cc
 from_none (Out.UnknownSection a) h o = absurd cc
@@ -54,7 +62,6 @@ answers_later here rest (Err e) none h = subst (λ o. IsFirst o e) (sym (first_l
 
 -- the first fault is an answer, and so is want of memory
 pub first_is : (o : Option MpsError) (e : MpsError) → o ≡ Some e → IsFirst o e
-first_is o Out.NotBuilt h = h
 first_is o Out.NotUtf8 h = h
 first_is o (Out.SectionOrder a) h = h
 first_is o (Out.UnknownSection a) h = h
@@ -76,3 +83,24 @@ first_is o Out.NoObjective h = h
 first_is o Out.NoEnd h = h
 first_is o (Out.Digits a) h = h
 first_is o Out.Memory h = tt
+
+-- the first fault of the lines is that of a text
+pub line_first : (ls : List Line) (how : How) (e : MpsError) → IsFirst (first_of (all_line_faults ls)) e → IsFirst (first_of (faults_of_lines ls how)) e
+line_first ls how e h =
+    let a = all_line_faults ls in
+    let b = when (not (is_ended ls)) Out.NoEnd in
+    let c = when (is_none (objective ls)) Out.NoObjective in
+    let d = flat_map (continuous_faults ls) (column_names ls) in
+    let f = flat_map (bound_missing ls how) (column_names ls) in
+    let g = flat_map (upper_faults ls) (column_names ls) in
+    first_here (a ++ b ++ c ++ d ++ f ++ g) (limit_faults (model_from ls how)) e
+    (first_here (a ++ b ++ c ++ d ++ f) g e (first_here (a ++ b ++ c ++ d) f e (first_here (a ++ b ++ c) d e (first_here (a ++ b) c e (first_here a b e h)))))
+
+-- what the lines of a text in UTF-8 answer is what the text answers
+pub read_model : (text : List ℕ) (how : How) (result : Result Parts MpsError) → is_utf8 text ≡ true → IsFinished (lines_of text) how result → ReadMeets text how result
+read_model text how (Ok m) good h = (ap (λ t. if t then first_of (faults_of_lines (lines_of text) how) else Some Out.NotUtf8) good ∙ h.0, h.1)
+read_model text how (Err e) good h = subst (λ t. IsFirst (if t then first_of (faults_of_lines (lines_of text) how) else Some Out.NotUtf8) e) (sym good) h
+
+-- and so is the first fault of its lines
+pub read_fault : (text : List ℕ) (how : How) (e : MpsError) → is_utf8 text ≡ true → IsFirst (first_of (all_line_faults (lines_of text))) e → ReadMeets text how (Err e)
+read_fault text how e good h = subst (λ t. IsFirst (if t then first_of (faults_of_lines (lines_of text) how) else Some Out.NotUtf8) e) (sym good) (line_first (lines_of text) how e h)

@@ -15,7 +15,8 @@ use Rattle.ip_defs.specs.declared.texts.MpsError.{MpsError}
 use Rattle.ip_defs.specs.declared.texts.MpsError.TheVariants as Out
 use Rattle.mps_reader.specs.declared.draft.ColumnDraft.{ColumnDraft}
 use Rattle.mps_reader.specs.Clamps.{clamped_parts}
-use Rattle.mps_reader.specs.Drafted.{drafted_columns, cost_rest, IsFirst}
+use Rattle.ip_defs.specs.Faults.{IsFirst}
+use Rattle.mps_reader.specs.Drafted.{drafted_columns, cost_rest}
 use Rattle.mps_reader.specs.Finished.{IsMade, IsLimited}
 use Rattle.mps_reader.proofs.ClampLaws.{limits_same, clamped_same}
 use Rattle.mps_reader.proofs.FaultLaws.{first_is}

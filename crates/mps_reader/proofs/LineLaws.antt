@@ -120,7 +120,6 @@ first_fault faults e (inl memory) = subst (IsFirstFault faults) (sym memory) tt
 first_fault faults e (inr first) = by e first
   where
     by : (x : MpsError) → first_of faults ≡ Some x → IsFirstFault faults x
-    by Out.NotBuilt h = h
     by Out.NotUtf8 h = h
     by (Out.SectionOrder line) h = h
     by (Out.UnknownSection line) h = h

@@ -29,10 +29,11 @@ use Rattle.mps_reader.specs.declared.whole.Rule.{Rule}
 use Rattle.mps_reader.specs.declared.whole.Rule.TheVariants.{Integer, Bounded, NotNegative}
 use Rattle.mps_reader.specs.Below.{AreBelowLarge, AreWithin, IsRowBelow, AreRowsBelow}
 use Rattle.mps_reader.specs.Clamps.{clamped_coefs, clamped_row, clamped_column, clamped_parts}
-use Rattle.mps_reader.specs.Drafted.{IsFirst, asked, column_faults, continuous_fault, missing_sides, negative_fault, is_negative_bound, is_end, is_free_kind, drafted_coefs, drafted_row, drafted_rows, drafted_columns, drafted_decimals, drafted_lower, drafted_upper, drafted_model, drafted_column_faults, row_names}
+use Rattle.ip_defs.specs.Faults.{IsFirst}
+use Rattle.mps_reader.specs.Drafted.{asked, column_faults, continuous_fault, missing_sides, negative_fault, is_negative_bound, is_end, is_free_kind, drafted_coefs, drafted_row, drafted_rows, drafted_columns, drafted_decimals, drafted_lower, drafted_upper, drafted_model, drafted_column_faults, row_names}
 use Rattle.mps_reader.specs.Drafted.{column_names as drafted_names}
 use Rattle.mps_reader.specs.Finished.{HasCounts, IsDrafted, IsFinished, IsLimited}
-use Rattle.mps_reader.specs.How.{IsHow}
+use Rattle.ip_defs.specs.TextModels.{IsHow}
 use Rattle.mps_reader.specs.Progress.{Stands, ColumnStands, section_word, kind_word, upper_said}
 use Rattle.mps_reader.proofs.WrittenLaws.{entries_below, entries_within, written_for_below, coefs_ordered}
 use Rattle.mps_reader.proofs.FaultLaws.{first_later}

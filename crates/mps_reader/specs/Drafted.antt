@@ -5,10 +5,9 @@ use Rattle.std.specs.Int.RustNames.{unsigned_abs}
 use Rattle.std.specs.List.{list_any}
 use Rattle.std.specs.Option.{is_none}
 use Rattle.ip_defs.specs.Lists.{when, first_of}
-use Rattle.ip_defs.specs.declared.texts.MpsError.TheVariants as Out
 use Rattle.mps_reader.specs.declared.whole.Rule.{Rule}
 use Rattle.mps_reader.specs.declared.whole.Rule.TheVariants.{Integer, Bounded, NotNegative}
-use Rattle.ip_defs.specs.Faults.{lower_is_missing, upper_is_missing, limit_faults}
+use Rattle.ip_defs.specs.Faults.{IsFirst, lower_is_missing, upper_is_missing, limit_faults}
 use Rattle.ip_defs.specs.TextModels.{units, no_number, row_sides, box_low, box_high}
 use Rattle.ip_defs.specs.declared.texts.Number.{Number}
 use Rattle.ip_defs.specs.declared.texts.How.{How}
@@ -141,11 +140,6 @@ abbrev pub asked : Rule → How → List ℕ → ColumnDraft → List MpsError
 asked Integer how name c = continuous_fault name c
 asked Bounded how name c = missing_sides how name c
 asked NotNegative how name c = negative_fault name c
-
--- an error is the first fault; want of memory is free
-abbrev pub IsFirst : Option MpsError → MpsError → Type 0
-IsFirst o Out.Memory = Unit {0}
-IsFirst o e = o ≡ Some e
 
 -- an answer to faults: the first of them, and none where there is none
 abbrev pub AnswersFaults : List MpsError → Result (Unit {0}) MpsError → Type 0

@@ -10,7 +10,8 @@ use Rattle.ip_defs.specs.declared.texts.How.{How}
 use Rattle.ip_defs.specs.declared.texts.MpsError.{MpsError}
 use Rattle.mps_reader.specs.declared.draft.RowDraft.{RowDraft}
 use Rattle.mps_reader.specs.declared.draft.Draft.{Draft}
-use Rattle.mps_reader.specs.Drafted.{IsFirst, drafted_column_faults, drafted_model, row_names, column_names}
+use Rattle.ip_defs.specs.Faults.{IsFirst}
+use Rattle.mps_reader.specs.Drafted.{drafted_column_faults, drafted_model, row_names, column_names}
 
 -- there are as many names as rows, and as many as columns
 pub record HasCounts (d : Draft) : Type 0 where

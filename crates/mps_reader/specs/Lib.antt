@@ -3,7 +3,6 @@ pub mod BoundWords
 pub mod Clamps
 pub mod Drafted
 pub mod Finished
-pub mod How
 pub mod Progress
 pub mod Reading
 pub mod Taking

@@ -3,7 +3,7 @@ use Rattle.std.specs.Prelude.{◌≡◌, ◌≤◌, ℕ, suc, ◌==◌, Bool, tr
 use Rattle.ip_defs.specs.Lists.{first_of, last_of, is_among, or_else, where_true}
 use Rattle.ip_defs.specs.Records.{Line, Entry, items_of, words_of, row_lines, row_kind, row_name, is_free, is_marker, in_force, column_name, column_names, set_of, bound_set, kept_entries}
 use Rattle.ip_defs.specs.TextModels.{written_in, written_for, decimals_in, largest, is_integer, lower_entry, upper_entry, lower_by, upper_by}
-use Rattle.ip_defs.specs.Faults.{line_faults, all_line_faults, is_negative_upper}
+use Rattle.ip_defs.specs.Faults.{IsFirst, line_faults, all_line_faults, is_negative_upper}
 use Rattle.ip_defs.specs.declared.texts.MpsError.{MpsError}
 use Rattle.ip_defs.specs.declared.texts.MpsError.TheVariants as Out
 use Rattle.mps_reader.specs.declared.sections.Section.{Section}
@@ -132,8 +132,7 @@ opening number fields word = record { number = number; is_item = false; section 
 
 -- an error is the first of some faults; want of memory is free
 abbrev pub IsFirstFault : List MpsError → MpsError → Type 0
-IsFirstFault faults Out.Memory = Unit {0}
-IsFirstFault faults e = first_of faults ≡ Some e
+IsFirstFault faults e = IsFirst (first_of faults) e
 
 -- what taking a line answers, after the lines before it: the draft stands for it too, or its first fault is the answer
 abbrev pub IsTaken : List Line → Line → Draft → Result (Unit {0}) MpsError → Type 0

@@ -5,7 +5,7 @@ ghost use Rattle.ip_defs.specs.TextModels.{box_high as box_high_of, box_low as b
 ghost use Rattle.mps_reader.specs.Below.{AreBelowLarge};
 ghost use Rattle.mps_reader.specs.Clamps.{clamped as clamped_of, clamped_column};
 ghost use Rattle.mps_reader.specs.Drafted.{cost_head, cost_rest, drafted_column, drafted_columns, drafted_lower, drafted_upper};
-ghost use Rattle.mps_reader.specs.How.{IsHow};
+ghost use Rattle.ip_defs.specs.TextModels.{IsHow};
 
 use crate::clamps::clamped;
 use crate::draft::ColumnDraft;

@@ -9,7 +9,7 @@ ghost use Rattle.mps_reader.specs.Below.{AreRowsBelow, AreWithin, IsRowBelow};
 ghost use Rattle.mps_reader.specs.Clamps.{clamped as clamped_of, clamped_parts};
 ghost use Rattle.mps_reader.specs.Drafted.{AnswersFaults, drafted_column_faults, drafted_model, is_end as is_end_of, row_names};
 ghost use Rattle.mps_reader.specs.Finished.{HasCounts, IsDrafted, IsFinished, IsLimited, IsMade};
-ghost use Rattle.mps_reader.specs.How.{IsHow};
+ghost use Rattle.ip_defs.specs.TextModels.{IsHow};
 ghost use Rattle.mps_reader.specs.Progress.{Stands};
 ghost use Rattle.mps_reader.specs.declared.draft.RowDraft.{RowDraft};
 

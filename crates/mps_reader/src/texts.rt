@@ -1,6 +1,6 @@
 ghost use Rattle.std.specs.Prelude.{◌≤◌, ◌^◌, length};
 ghost use Rattle.ip_defs.specs.Runs.{ReadMeets};
-ghost use Rattle.mps_reader.specs.How.{IsHow};
+ghost use Rattle.ip_defs.specs.TextModels.{IsHow};
 
 use crate::finish::model_of;
 use crate::reader::draft_of;

@@ -4,7 +4,7 @@ use Rattle.std.specs.Fmt.{digits}
 use Rattle.ip_defs.specs.Faults.{model_of}
 use Rattle.ip_defs.specs.Texts.{optimum_lines, canonical_text, is_printable}
 use Rattle.ip_defs.specs.Words.{request_of}
-use Rattle.ip_defs.specs.declared.runs.Request.TheVariants.{Solve}
+use Rattle.ip_defs.specs.declared.runs.Request.TheVariants.{Solve, Show}
 use Rattle.ip_defs.specs.declared.texts.How.{How}
 
 abbrev plain_how : How
@@ -52,3 +52,27 @@ empty_name = refl
 
 pub no_words : request_of [] ≡ None
 no_words = refl
+
+pub with_both : request_of (codes "solve" ∷ codes "m" ∷ codes "--box" ∷ codes "5" ∷ codes "--digits" ∷ codes "2" ∷ []) ≡ Some (Solve (codes "m") None 100000 800 5000 2 (Some (pos 5)))
+with_both = refl
+
+pub twice : request_of (codes "solve" ∷ codes "m" ∷ codes "--digits" ∷ codes "2" ∷ codes "--digits" ∷ codes "2" ∷ []) ≡ None
+twice = refl
+
+pub ten_digits : request_of (codes "solve" ∷ codes "m" ∷ codes "--digits" ∷ codes "10" ∷ []) ≡ None
+ten_digits = refl
+
+pub large_box : request_of (codes "solve" ∷ codes "m" ∷ codes "--box" ∷ codes "16777217" ∷ []) ≡ None
+large_box = refl
+
+pub largest_box : request_of (codes "show" ∷ codes "m" ∷ codes "--box" ∷ codes "16777216" ∷ []) ≡ Some (Show (codes "m") 0 (Some (pos 16777216)))
+largest_box = refl
+
+pub leading_zero : request_of (codes "solve" ∷ codes "m" ∷ codes "--digits" ∷ codes "01" ∷ []) ≡ None
+leading_zero = refl
+
+pub no_value : request_of (codes "solve" ∷ codes "m" ∷ codes "--digits" ∷ []) ≡ None
+no_value = refl
+
+pub plain_show : request_of (codes "show" ∷ codes "m" ∷ []) ≡ Some (Show (codes "m") 0 None)
+plain_show = refl

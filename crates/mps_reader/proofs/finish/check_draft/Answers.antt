@@ -4,7 +4,8 @@ use Rattle.ip_defs.specs.Lists.{first_of}
 use Rattle.ip_defs.specs.declared.texts.MpsError.{MpsError}
 use Rattle.mps_reader.specs.declared.whole.Rule.{Rule}
 use Rattle.mps_reader.specs.declared.whole.Rule.TheVariants.{Integer, Bounded, NotNegative}
-use Rattle.mps_reader.specs.Drafted.{AnswersFaults, IsFirst, asked, column_faults, column_names}
+use Rattle.ip_defs.specs.Faults.{IsFirst}
+use Rattle.mps_reader.specs.Drafted.{AnswersFaults, asked, column_faults, column_names}
 use Rattle.mps_reader.proofs.FaultLaws.{first_here, first_later, answers_later}
 use Rattle.mps_reader.proofs.finish.check_draft.Goals as goal
 

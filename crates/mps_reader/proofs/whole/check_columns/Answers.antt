@@ -2,7 +2,8 @@ use Rattle.std.proofs.Common.{arith, refl, sym, ap, ◌∙◌, ◌≡◌, ◌++�
 use Rattle.std.specs.Prelude.{string_bytes, false, None}
 use Rattle.ip_defs.specs.Lists.{first_of}
 use Rattle.mps_reader.specs.declared.draft.ColumnDraft.{ColumnDraft}
-use Rattle.mps_reader.specs.Drafted.{IsFirst, asked, column_faults}
+use Rattle.ip_defs.specs.Faults.{IsFirst}
+use Rattle.mps_reader.specs.Drafted.{asked, column_faults}
 use Rattle.mps_reader.proofs.FaultLaws.{faults_at, first_here, first_later}
 use Rattle.mps_reader.proofs.FinishLaws.{drop_at, drop_mapped}
 use Rattle.mps_reader.proofs.whole.check_columns.Goals as goal

@@ -1,0 +1,168 @@
+-- What closes a box: its sum, its one point, or a ray on a row that its one point breaks.
+use Rattle.std.specs.Prelude.{◌≡◌, ℕ, ◌<◌, Bool, true, false, if◌then◌else◌, List, [], ◌∷◌, length, slice_get, Option, Some, None, option_map, ℤ, pos, negsuc, ◌+ℤ◌, ◌-ℤ◌, ◌*ℤ◌, ◌≤ℤ◌, ◌<ℤ◌}
+use Rattle.std.specs.Int.{int_min}
+use Rattle.std.specs.Int.Signed.{lt_z}
+use Rattle.std.specs.List.{list_any}
+use Rattle.std.proofs.Common.{arith, refl, ap, sym, ◌∙◌, subst}
+use Rattle.std.proofs.lemmas.Int.{ints, clamps}
+use Rattle.std.proofs.lemmas.List.{length-map, get_or-map}
+use Rattle.std.proofs.lemmas.List.Elements.{All-from_get_or}
+use Rattle.std.proofs.lemmas.List.Folds.{list_any_none}
+use Rattle.ring_laws.proofs.Normal.{num, ◌⊕◌, ◌⊖◌, ◌⊗◌}
+use Rattle.ring_laws.proofs.Named.{ring3, ring4}
+use Rattle.ring_laws.proofs.Rings.{whole}
+use Rattle.ip_defs.specs.declared.certificates.Bound.{Bound}
+use Rattle.ip_defs.specs.declared.certificates.Bound.TheVariants.{At, Infinite}
+use Rattle.ip_defs.specs.declared.certificates.Cert.{Cert}
+use Rattle.ip_defs.specs.declared.programs.Parts.{Parts}
+use Rattle.ip_defs.specs.declared.programs.Row.{Row}
+use Rattle.ip_defs.specs.Boxes.{IsOpen}
+use Rattle.ip_defs.specs.Certificates.{coefs_of, side_for, pay, entry, reduced, column_part, dual_value, box_sum, ceiling, is_empty_side, bound_by, leaf_bound}
+use Rattle.ip_defs.specs.Limits.{IsCert, IsWithinLimits}
+use Rattle.ip_defs.specs.Program.{at, box_of, coefficient, costs_of, row_sum, low_at, high_at, IsIn, cost}
+use Rattle.ip_defs.specs.Sums.{sum_below}
+use Rattle.ip_defs.proofs.SumLaws.{sum_same, sum_scale}
+use Rattle.ip_defs.proofs.BoxLaws.{box_within, open_from}
+use Rattle.proof_tree.specs.Verdicts.{IsAtLeast}
+use Rattle.branching.specs.OpenTrees.{plain_cert}
+use Rattle.branching.specs.Outcomes.{IsClosedBy}
+use Rattle.branching.specs.Search.{Closes, Found, Improves, IsBelow, IsEnd, IsPartOf, IsSearchArea, IsSingle, IsSound, lowest, point_of, ray_on}
+
+-- ---- boxes of a search
+
+-- the box of a program
+pub whole_area : (m : Parts) → IsWithinLimits m → IsSearchArea m (box_of m)
+whole_area m limits = record { area = box_within m limits; part = λ j l. (omega (arith, ints), omega (arith, ints)) }
+
+-- ---- the sum of a box
+
+not_less : (a b : ℤ) → b ≤ℤ a → lt_z a b ≡ false
+not_less a b h = grind (arith, ints)
+
+less_is : (a b : ℤ) → a <ℤ b → lt_z a b ≡ true
+less_is a b h = grind (arith, ints)
+
+open_none : (b : List (ℤ × ℤ)) → IsOpen b → list_any is_empty_side b ≡ false
+open_none b h = list_any_none is_empty_side b (All-from_get_or (λ s. is_empty_side s ≡ false) b (pos 0, pos 0) (λ j l. not_less (high_at b j) (low_at b j) (h j l)))
+
+ceiling_one : (g : ℤ) → ceiling g 1 ≡ g
+ceiling_one (pos a) = omega (arith, ints)
+ceiling_one (negsuc a) = omega (arith, ints)
+
+-- the bound of the certificate without multipliers is the sum of the box
+pub plain_bound : (m : Parts) (b : List (ℤ × ℤ)) → list_any is_empty_side b ≡ false → leaf_bound m b plain_cert ≡ At (box_sum m b)
+plain_bound m b none = rw none (ap At (ceiling_one (pos 0 +ℤ (pos 1 *ℤ m.constant) +ℤ column_part m b (pos 1) []) ∙ omega (arith, ints)))
+
+-- a box that the sum does not close has no empty column, and its sum is below what was found
+pub not_closed : (m : Parts) (b : List (ℤ × ℤ)) (found : Found) (v : Bound) → v ≡ leaf_bound m b plain_cert → IsBelow v found → IsOpen b × IsBelow (At (box_sum m b)) found
+not_closed m b found v is below = by (list_any is_empty_side b) refl
+  where
+    by : (t : Bool) → list_any is_empty_side b ≡ t → IsOpen b × IsBelow (At (box_sum m b)) found
+    by true e = let infinite : v ≡ Infinite = is ∙ rw e refl in absurd (subst (λ (u : Bound). IsBelow u found) infinite below)
+    by false e = (open_from b e, subst (λ (u : Bound). IsBelow u found) (is ∙ plain_bound m b e) below)
+
+-- ---- the one point of a box
+module _ (b : List (ℤ × ℤ)) (single : IsSingle b) (open' : IsOpen b) where
+  point_at : (j : ℕ) → j < length b → at (lowest b) j ≡ low_at b j
+  point_at j l = get_or-map (λ (s : ℤ × ℤ). s.0) b j (pos 0, pos 0) (pos 0) l
+
+  point_size : length (lowest b) ≡ length b
+  point_size = length-map b (λ (s : ℤ × ℤ). s.0)
+
+  -- it lies in each box that the box is part of
+  pub point_in : (whole_box : List (ℤ × ℤ)) → length b ≡ length whole_box → IsPartOf b whole_box → IsIn whole_box (lowest b)
+  point_in whole_box size part = record {
+    size = point_size ∙ size;
+    low = λ j l. let l' : j < length b = omega (arith, l, size) in let is = point_at j l' in let from = (part j l').0 in omega (arith, ints);
+    high = λ j l. let l' : j < length b = omega (arith, l, size) in let is = point_at j l' in let to' = (part j l').1 in let meet = open' j l' in omega (arith, ints);
+  }
+
+  -- each end of a column is its number there
+  ends_meet : (d : ℤ) (j : ℕ) → j < length b → int_min (d *ℤ low_at b j) (d *ℤ high_at b j) ≡ d *ℤ at (lowest b) j
+  ends_meet d j l =
+      let low = single j l in
+      let high = open' j l in
+      let same : high_at b j ≡ low_at b j = omega (arith, ints) in
+      let is = ap (λ z. d *ℤ z) same in
+      let there = ap (λ z. d *ℤ z) (point_at j l) in
+      omega (arith, ints, clamps)
+
+  -- its cost is the sum of the box
+  pub point_sum : (m : Parts) → box_sum m b ≡ cost m (lowest b)
+  point_sum m =
+      let each : (j : ℕ) → j < length b → int_min (reduced m (pos 1) [] j *ℤ low_at b j) (reduced m (pos 1) [] j *ℤ high_at b j) ≡ at (costs_of m) j *ℤ at (lowest b) j = λ j l.
+      ends_meet (reduced m (pos 1) [] j) j l ∙ ring2' (at (costs_of m) j) (at (lowest b) j) in
+      let same = sum_same (λ j. int_min (reduced m (pos 1) [] j *ℤ low_at b j) (reduced m (pos 1) [] j *ℤ high_at b j)) (λ j. at (costs_of m) j *ℤ at (lowest b) j) (length b) each in
+      let sized = ap (sum_below (λ j. at (costs_of m) j *ℤ at (lowest b) j)) point_size in
+      omega (arith, ints)
+    where
+      ring2' : (c x : ℤ) → (pos 1 *ℤ c -ℤ pos 0) *ℤ x ≡ c *ℤ x
+      ring2' c x = ring3 whole (λ c x z. (num (pos 1) ⊗ c ⊖ num (pos 0)) ⊗ x) (λ c x z. c ⊗ x) refl c x (pos 0)
+
+  -- ---- rays
+  ray_part : (m : Parts) (i : ℕ) (r : Row) (k : ℤ) → slice_get m.rows i ≡ Some r → column_part m b (pos 0) ((i, k) ∷ []) ≡ (pos 0 -ℤ k) *ℤ row_sum r.coefs (lowest b)
+  ray_part m i r k is =
+      let y : List (ℕ × ℤ) = (i, k) ∷ [] in
+      let each : (j : ℕ) → j < length b → int_min (reduced m (pos 0) y j *ℤ low_at b j) (reduced m (pos 0) y j *ℤ high_at b j) ≡ (pos 0 -ℤ k) *ℤ (coefficient r.coefs j *ℤ at (lowest b) j) = λ j l.
+      ends_meet (reduced m (pos 0) y j) j l ∙ turned (at (costs_of m) j) (entry m.rows i j) (at (lowest b) j) ∙ ap (λ (o : Option Row). (pos 0 -ℤ k) *ℤ (coefficient (coefs_of o) j *ℤ at (lowest b) j)) is in
+      let same = sum_same (λ j. int_min (reduced m (pos 0) y j *ℤ low_at b j) (reduced m (pos 0) y j *ℤ high_at b j)) (λ j. (pos 0 -ℤ k) *ℤ (coefficient r.coefs j *ℤ at (lowest b) j)) (length b) each in
+      let scaled = sum_scale (pos 0 -ℤ k) (λ j. coefficient r.coefs j *ℤ at (lowest b) j) (length b) in
+      let sized = ap (λ n. (pos 0 -ℤ k) *ℤ sum_below (λ j. coefficient r.coefs j *ℤ at (lowest b) j) n) point_size in
+      same ∙ scaled ∙ sym sized
+    where
+      turned : (c e x : ℤ) → (pos 0 *ℤ c -ℤ (k *ℤ e +ℤ pos 0)) *ℤ x ≡ (pos 0 -ℤ k) *ℤ (e *ℤ x)
+      turned c e x = ring4 whole (λ k c e x. (num (pos 0) ⊗ c ⊖ (k ⊗ e ⊕ num (pos 0))) ⊗ x) (λ k c e x. (num (pos 0) ⊖ k) ⊗ (e ⊗ x)) refl k c e x
+
+  -- a ray on a row is infinite, where the multiplier pays more than the row's value
+  pub ray_infinite : (m : Parts) (i : ℕ) (r : Row) (k side : ℤ) → slice_get m.rows i ≡ Some r → side_for k r ≡ Some side → (k *ℤ row_sum r.coefs (lowest b)) <ℤ (k *ℤ side) → leaf_bound m b (ray_on i k) ≡ Infinite
+  ray_infinite m i r k side is side_is more =
+      let y : List (ℕ × ℤ) = (i, k) ∷ [] in
+      let part = ray_part m i r k is in
+      let turned = ring3 whole (λ k v z. (num (pos 0) ⊖ k) ⊗ v) (λ k v z. num (pos 0) ⊖ k ⊗ v) refl k (row_sum r.coefs (lowest b)) (pos 0) in
+      let g = (k *ℤ side +ℤ pos 0) +ℤ (pos 0 *ℤ m.constant) +ℤ column_part m b (pos 0) y in
+      let positive : lt_z (pos 0) g ≡ true = less_is (pos 0) g (omega (arith, ints)) in
+      let paid : pay m.rows y ≡ Some (k *ℤ side +ℤ pos 0) = rw (is, side_is) refl in
+      let dual : dual_value m b (pos 0) y ≡ Some g = ap (option_map (λ p. p +ℤ (pos 0 *ℤ m.constant) +ℤ column_part m b (pos 0) y)) paid in
+      let by_ray : bound_by (pos 0) (box_sum m b) (Some g) ≡ Infinite = ap (λ t. if t then Infinite else At (box_sum m b)) positive in
+      let found : leaf_bound m b (ray_on i k) ≡ bound_by (pos 0) (box_sum m b) (dual_value m b (pos 0) y) = ap (λ t. if t then Infinite else bound_by (pos 0) (box_sum m b) (dual_value m b (pos 0) y)) (open_none b open') in
+      found ∙ ap (bound_by (pos 0) (box_sum m b)) dual ∙ by_ray
+
+-- the certificate without multipliers is within the limits
+plain_cert_ok : IsCert 1024 plain_cert
+plain_cert_ok = record {
+  not_negative = omega (arith, ints);
+  divisor = omega (arith, ints);
+  ordered = record { rising = λ i k p q. absurd (omega arith); within = λ i p. absurd (omega arith); present = λ i p. absurd (omega arith) };
+  multipliers = λ i p. absurd (omega arith);
+}
+
+-- a box with a bound that the best point closes ends with the certificate without multipliers
+pub plain_end : (m : Parts) (b : List (ℤ × ℤ)) (found : Found) (c : Cert) (v : Bound) → IsSound m found → c ≡ plain_cert → v ≡ leaf_bound m b c → Closes found v → IsEnd m b found c
+plain_end m b found c v sound is bound closes = record {
+  cert = subst (IsCert 1024) (sym is) plain_cert_ok;
+  closed = subst (IsClosedBy m (point_of found)) bound (by found sound closes);
+}
+  where
+    by : (f : Found) → IsSound m f → Closes f v → IsClosedBy m (point_of f) v
+    by None s h = h
+    by (Some p) s h = subst (λ (w : ℤ). IsAtLeast v w) (sym s.1) h
+
+module _ (m : Parts) (b : List (ℤ × ℤ)) (p : List ℤ) (w : ℤ) (single : IsSingle b) (open' : IsOpen b) (is : p ≡ lowest b) where
+  -- the one point of a box closes it, once it is kept
+  pub point_end : (c : Cert) → c ≡ plain_cert → IsEnd m b (Some (p, w)) c
+  point_end c plain = record {
+    cert = subst (IsCert 1024) (sym plain) plain_cert_ok;
+    closed =
+        let sum = point_sum b single open' m in
+        let same = ap (cost m) is in
+        let least : IsAtLeast (At (box_sum m b)) (cost m p) = omega (arith, ints) in
+        subst (λ (v : Bound). IsAtLeast v (cost m p)) (sym (ap (leaf_bound m b) plain ∙ plain_bound m b (open_none b open'))) least;
+  }
+
+  -- and it costs less than what was found
+  pub point_improves : (found : Found) → IsBelow (At (box_sum m b)) found → cost m p ≡ w → Improves found (Some (p, w))
+  point_improves None below price = tt
+  point_improves (Some q) below price =
+      let sum = point_sum b single open' m in
+      let same = ap (cost m) is in
+      omega (arith, ints)

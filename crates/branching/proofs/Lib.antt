@@ -1,0 +1,12 @@
+pub mod OutcomeExamples
+pub mod OutcomeLaws
+pub mod AllowanceLaws
+pub mod BoxSizeLaws
+pub mod CountLaws
+pub mod TreeSizeLaws
+pub mod EndLaws
+pub mod FinishLaws
+pub mod SearchLaws
+pub mod HalvingLaws
+pub mod LeafLaws
+pub mod RowLaws

@@ -1,0 +1,31 @@
+use Rattle.std.proofs.lemmas.Result.{IfOk-weaker}
+use Rattle.branching.specs.Outcomes.{HasOneStuck, IsRightOutcome}
+use Rattle.branching.specs.OpenTrees.{plain_open}
+use Rattle.branching.specs.Search.{IsAnswerOf, point_of}
+use Rattle.branching.proofs.SearchLaws.{answer_has_none, end_is_right, stop_is_right}
+use Rattle.branching.proofs.search.search_box.Goals as goal
+
+pub returns-in-None-clause-right : goal.returns-in-None-clause-right
+returns-in-None-clause-right c =
+    let m = c.args.model.now in
+    let l = c.args.limits in
+    let grown = rw (c.in_ok-area.ensures.sides, c.in-None.is) at c.in_ok-grown.ensures.grown in
+    let made = rw c.best_point-best.ensures at c.answer.ensures in
+    let t = plain_open c.in_ok-grown.grown.tree in
+    let found = c.grow.new.search.found in
+    IfOk-weaker c.answer.result (IsAnswerOf t (point_of found)) (IsRightOutcome m l) (λ o. end_is_right m l t c.grow.new.search.nodes found o c.requires.most c.requires.depth grown) made
+
+pub returns-clause-right : goal.returns-clause-right
+returns-clause-right c =
+    let m = c.args.model.now in
+    let l = c.args.limits in
+    let grown = rw (c.in_ok-area.ensures.sides, c.in-Some.is) at c.in_ok-grown.ensures.grown in
+    rw c.best_point-best.ensures (stop_is_right m l (plain_open c.in_ok-grown.grown.tree) c.grow.new.search.nodes c.grow.new.search.found c.in-Some.what grown)
+
+pub returns-in-None-clause-stuck : goal.returns-in-None-clause-stuck
+returns-in-None-clause-stuck c =
+    let t = plain_open c.in_ok-grown.grown.tree in
+    IfOk-weaker c.answer.result (IsAnswerOf t c.best_point-best.result) HasOneStuck (answer_has_none t c.best_point-best.result) c.answer.ensures
+
+pub returns-clause-stuck : goal.returns-clause-stuck
+returns-clause-stuck c = (rw c.in-Some.is at c.in_ok-grown.ensures.grown).stuck

@@ -1,0 +1,122 @@
+-- Right outcomes of a search: proofs that are proved, and stops that have their cause.
+use Rattle.std.specs.Prelude.{◌≡◌, ◌⊎◌, ℕ, ◌+◌, ◌<◌, ◌≤◌, List, [], ◌∷◌, length, Option, Some, None, IfSome, ℤ}
+use Rattle.ip_defs.specs.declared.certificates.Bound.{Bound}
+use Rattle.ip_defs.specs.declared.certificates.Bound.TheVariants.{Infinite}
+use Rattle.ip_defs.specs.declared.programs.Parts.{Parts}
+use Rattle.ip_defs.specs.Certificates.{leaf_bound}
+use Rattle.ip_defs.specs.Program.{box_of, cost, IsFeasible, IsLeast, IsEmpty}
+use Rattle.proof_tree.proofs.EachLaws.{Each}
+use Rattle.proof_tree.specs.Trees.{plain, node_count, depth, tree_limit}
+use Rattle.proof_tree.specs.Verdicts.{IsProved, IsAtLeast}
+use Rattle.proof_tree.specs.declared.claims.Claim.{Claim}
+use Rattle.proof_tree.specs.declared.claims.Claim.TheVariants as Claims
+use Rattle.proof_tree.specs.declared.claims.Proof.{Proof}
+use Rattle.branching.specs.declared.budgets.Limits.{Limits}
+use Rattle.branching.specs.declared.budgets.BudgetWhat.{BudgetWhat}
+use Rattle.branching.specs.declared.budgets.BudgetWhat.TheVariants.{Nodes, Depth}
+use Rattle.branching.specs.declared.outcomes.Outcome.{Outcome}
+use Rattle.branching.specs.declared.outcomes.Outcome.TheVariants.{Best, Empty, Budget}
+use Rattle.branching.specs.declared.reasons.Why.{Why}
+use Rattle.branching.specs.OpenTrees.{OpenNode, pending_node, stuck_node, ended_node, parted_node, Place, places, plain_open, stuck_count}
+use Rattle.branching.specs.Splits.{split_at, splits_over, IsReasoned, IsStuckFor}
+
+-- some element of a list is so
+abbrev pub SomeOf : {A : Type 0} → (A → Type 0) → List A → Type 0
+SomeOf P [] = ⊥
+SomeOf P (x ∷ xs) = P x ⊎ SomeOf P xs
+
+-- two lists of the same length, whose elements agree pair by pair
+abbrev pub Pairwise : {A B : Type 0} → (A → B → Type 0) → List A → List B → Type 0
+Pairwise R [] [] = Unit {0}
+Pairwise R [] (y ∷ ys) = ⊥
+Pairwise R (x ∷ xs) [] = ⊥
+Pairwise R (x ∷ xs) (y ∷ ys) = R x y × Pairwise R xs ys
+
+-- ---- answers
+
+-- a claim of a point
+abbrev pub ClaimsPoint : Claim → Type 0
+ClaimsPoint (Claims.Best x) = Unit {0}
+ClaimsPoint Claims.Empty = ⊥
+
+-- a proof that is proved, within the limits of the search and of trees, whose splits are proper and have these true reasons
+pub record IsFinished (m : Parts) (l : Limits) (p : Proof) (whys : List Why) : Type 0 where
+  pub proved : IsProved m p
+  pub nodes : node_count (plain p.tree) ≤ l.nodes
+  pub deep : depth (plain p.tree) ≤ l.depth
+  pub limits : tree_limit (plain p.tree) ≡ None
+  pub reasons : Pairwise (IsReasoned m) (splits_over (box_of m) (plain p.tree)) whys
+
+-- ---- stops
+
+-- the split of a node is proper with a true reason, and so is the one that a stuck node asks for
+abbrev pub HasReason : Parts → List (ℤ × ℤ) → OpenNode → Type 0
+HasReason m b pending_node = Unit {0}
+HasReason m b (stuck_node why) = IsStuckFor m b why
+HasReason m b (ended_node c) = Unit {0}
+HasReason m b (parted_node col cut why) = IsReasoned m (split_at b col cut) why
+
+abbrev pub IsStuckNode : OpenNode → Type 0
+IsStuckNode pending_node = ⊥
+IsStuckNode (stuck_node why) = Unit {0}
+IsStuckNode (ended_node c) = ⊥
+IsStuckNode (parted_node col cut why) = ⊥
+
+-- a stuck node at a depth
+abbrev pub IsStuckAt : ℕ → Place → Type 0
+IsStuckAt d p = IsStuckNode p.node × (p.depth ≡ d)
+
+-- the limit that stopped the search: a stuck node stands at the greatest depth; or none does, and there is no room for two more nodes
+abbrev pub IsCause : BudgetWhat → Limits → List Place → Type 0
+IsCause Depth l ps = SomeOf (IsStuckAt l.depth) ps
+IsCause Nodes l ps = Each (λ p. IsStuckAt l.depth p → ⊥) ps × (l.nodes < length ps + 2)
+
+-- a bound is at least the cost of the best point, and infinite where there is none
+abbrev pub IsClosedBy : Parts → Option (List ℤ) → Bound → Type 0
+IsClosedBy m None v = v ≡ Infinite
+IsClosedBy m (Some x) v = IsAtLeast v (cost m x)
+
+-- a leaf is closed by its bound in its box
+abbrev pub IsClosedNode : Parts → Option (List ℤ) → List (ℤ × ℤ) → OpenNode → Type 0
+IsClosedNode m best b pending_node = Unit {0}
+IsClosedNode m best b (stuck_node why) = Unit {0}
+IsClosedNode m best b (ended_node c) = IsClosedBy m best (leaf_bound m b c)
+IsClosedNode m best b (parted_node col cut why) = Unit {0}
+
+-- a search that stopped, by the nodes of its tree
+pub record IsStopped (m : Parts) (l : Limits) (what : BudgetWhat) (ps : List Place) (best : Option (List ℤ)) : Type 0 where
+  pub reasons : Each (λ p. HasReason m p.box p.node) ps
+  pub stuck : SomeOf (λ p. IsStuckNode p.node) ps
+  pub nodes : length ps ≤ l.nodes
+  pub deep : Each (λ p. p.depth ≤ l.depth) ps
+  pub cause : IsCause what l ps
+  pub point : IfSome best (IsFeasible m)
+  pub closed : Each (λ p. IsClosedNode m best p.box p.node) ps
+
+-- ---- right outcomes
+
+abbrev pub IsRightOutcome : Parts → Limits → Outcome → Type 0
+IsRightOutcome m l (Best p whys) = ClaimsPoint p.claim × IsFinished m l p whys
+IsRightOutcome m l (Empty p whys) = (p.claim ≡ Claims.Empty) × IsFinished m l p whys
+IsRightOutcome m l (Budget what grown best) = IsStopped m l what (places m (plain_open grown)) best
+
+-- of a stop one node alone is stuck; each other open node is pending
+abbrev pub HasOneStuck : Outcome → Type 0
+HasOneStuck (Best p whys) = Unit {0}
+HasOneStuck (Empty p whys) = Unit {0}
+HasOneStuck (Budget what grown best) = stuck_count (plain_open grown) ≡ 1
+
+-- a claimed point is a least one
+abbrev pub ClaimsLeast : Parts → Claim → Type 0
+ClaimsLeast m (Claims.Best x) = IsLeast m x
+ClaimsLeast m Claims.Empty = ⊥
+
+-- what an outcome says of the program
+abbrev pub IsTrueOutcome : Parts → Outcome → Type 0
+IsTrueOutcome m (Best p whys) = ClaimsLeast m p.claim
+IsTrueOutcome m (Empty p whys) = IsEmpty m
+IsTrueOutcome m (Budget what grown best) = IfSome best (IsFeasible m)
+
+-- a right outcome is true: the point of Best is a least one, and where it is Empty no point is feasible
+abbrev pub OutcomesAreTrue : Type 0
+OutcomesAreTrue = (m : Parts) (l : Limits) (o : Outcome) → IsRightOutcome m l o → IsTrueOutcome m o

@@ -1,0 +1,62 @@
+-- Splits of boxes: proper ones, and the reasons for them.
+use Rattle.std.specs.Prelude.{◌≡◌, ℕ, ◌<◌, List, [], ◌∷◌, ◌++◌, length, ℤ, pos, ◌+ℤ◌, ◌-ℤ◌, ◌≤ℤ◌, ◌<ℤ◌}
+use Rattle.std.specs.Int.{int_div_euclid}
+use Rattle.ip_defs.specs.Boxes.{IsOpen, below, above}
+use Rattle.ip_defs.specs.Program.{low_at, high_at}
+use Rattle.ip_defs.specs.declared.programs.Parts.{Parts}
+use Rattle.proof_tree.specs.Trees.{PlainTree, leaf, split}
+use Rattle.branching.specs.declared.reasons.Why.{Why}
+use Rattle.branching.specs.declared.reasons.Why.TheVariants.{Stopped}
+
+-- a split of a box: its left half has the numbers of a column up to the cut, its right half those after it
+pub record Split : Type 0 where
+  pub box : List (ℤ × ℤ)
+  pub col : ℕ
+  pub cut : ℤ
+
+abbrev pub split_at : List (ℤ × ℤ) → ℕ → ℤ → Split
+split_at b j z = record { box = b; col = j; cut = z }
+
+-- the splits of a tree over a box, in preorder
+abbrev pub splits_over : List (ℤ × ℤ) → PlainTree → List Split
+splits_over b (leaf c) = []
+splits_over b (split col cut left right) = split_at b col cut ∷ (splits_over (below b col cut) left ++ splits_over (above b col cut) right)
+
+-- a proper split: both halves have a point
+pub record IsProper (s : Split) : Type 0 where
+  pub col : s.col < length s.box
+  pub left : IsOpen (below s.box s.col s.cut)
+  pub right : IsOpen (above s.box s.col s.cut)
+
+-- how far the upper side of a column is above its lower side
+abbrev pub width_at : List (ℤ × ℤ) → ℕ → ℤ
+width_at b j = high_at b j -ℤ low_at b j
+
+-- a column is the widest of a box, the first of those that are as wide
+pub record IsWidest (b : List (ℤ × ℤ)) (col : ℕ) : Type 0 where
+  pub within : col < length b
+  pub widest : (j : ℕ) → j < length b → width_at b j ≤ℤ width_at b col
+  pub first : (j : ℕ) → j < col → width_at b j <ℤ width_at b col
+
+-- the middle of two numbers, rounded down
+abbrev pub middle : ℤ → ℤ → ℤ
+middle low high = int_div_euclid (low +ℤ high) (pos 2)
+
+-- a split at the middle of the widest column
+pub record IsHalving (s : Split) : Type 0 where
+  pub widest : IsWidest s.box s.col
+  pub cut : s.cut ≡ middle (low_at s.box s.col) (high_at s.box s.col)
+
+-- a reason for a split of a box of a program is true
+abbrev pub IsTrueReason : Parts → Split → Why → Type 0
+IsTrueReason m s Stopped = IsHalving s
+
+-- a proper split with a true reason
+abbrev pub IsReasoned : Parts → Split → Why → Type 0
+IsReasoned m s why = IsProper s × IsTrueReason m s why
+
+-- a reason is true of some proper split of a box
+pub record IsStuckFor (m : Parts) (b : List (ℤ × ℤ)) (why : Why) : Type 0 where
+  pub col : ℕ
+  pub cut : ℤ
+  pub reasoned : IsReasoned m (split_at b col cut) why

@@ -1,0 +1,15 @@
+/// How large the tree of a search may grow.
+#[derive(Clone, Copy, Debug, PartialEq, Eq)]
+pub struct Limits {
+    /// The most nodes, leaves and splits together.
+    pub nodes: u32,
+    /// The most splits above a node.
+    pub depth: u32,
+}
+
+/// The limit at which a search stopped.
+#[derive(Clone, Copy, Debug, PartialEq, Eq)]
+pub enum BudgetWhat {
+    Nodes,
+    Depth,
+}

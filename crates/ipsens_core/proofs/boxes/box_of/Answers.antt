@@ -1,5 +1,0 @@
-use Rattle.ip_defs.proofs.BoxLaws.{box_within}
-use Rattle.ipsens_core.proofs.boxes.box_of.Goals as goal
-
-pub returns-clause-area : goal.returns-clause-area
-returns-clause-area c = rw (c.from_vec.ensures, c.in_ok-sides_of.ensures, c.as_slice.ensures, c.parts.ensures.parts) (box_within c.args.model.now c.parts.ensures.limits)

@@ -18,9 +18,10 @@ use Rattle.mps_reader.specs.Progress.{AreApart, EntriesStand, RowStands, Columns
 use Rattle.mps_reader.specs.Taking.{IsLast, IsColumnAdded, IsColumnOpen, IsMarked}
 use Rattle.mps_reader.proofs.GrowthLaws.{true_not_false, append_nil, append_assoc, filter-append, map-append, items_of-add, last_of-add, column_names-add, is_new_column, placed, or_false_left, or_false_right, and_false}
 use Rattle.mps_reader.proofs.StayLaws.{by_last, items_stay, column_names_stay, first_lines-add, bounds_on_stay}
-use Rattle.mps_reader.proofs.NameLaws.{name_same, name_self, name_turn, not_true, same_tests, position_found, among_at}
-use Rattle.mps_reader.proofs.PlaceLaws.{position_append, place_where_any, get_of_more, apart_more}
-use Rattle.mps_reader.proofs.EntryLaws.{written_in-snoc, and_right}
+use Rattle.mps_reader.proofs.SectionLaws.{and_right}
+use Rattle.mps_reader.proofs.NameLaws.{name_same, name_turn, not_true, same_tests, position_found, among_at}
+use Rattle.mps_reader.proofs.PlaceLaws.{bytes_same, position_append, place_where_any, get_of_more, apart_more}
+use Rattle.mps_reader.proofs.EntryLaws.{written_in-snoc}
 
 or_again : (a b : Bool) → (a || b) ≡ ((a || false) || b)
 or_again true b = refl

@@ -16,28 +16,13 @@ use Rattle.mps_reader.specs.declared.entries.Owner.TheVariants.{Column, RightSid
 use Rattle.mps_reader.specs.Progress.{RowStands}
 use Rattle.mps_reader.specs.Taking.{IsLast, Owns, IsPut, owner_word, counted, has_number}
 use Rattle.mps_reader.proofs.GrowthLaws.{true_not_false, append_nil, append_assoc, filter-append, map-append, find-append, written_at-other, written_in-add, placed, enumerate-append, filter_map-append, or_none, kept_by, last_of-add}
-use Rattle.mps_reader.proofs.NameLaws.{name_same, name_self, name_turn, not_true, same_tests}
-
-and_left : (a b : Bool) → (a && b) ≡ true → a ≡ true
-and_left true b h = refl
-and_left false b h = h
-
-pub and_right : (a b : Bool) → (a && b) ≡ true → b ≡ true
-and_right true b h = h
-and_right false b h = absurd (true_not_false (sym h))
+use Rattle.mps_reader.proofs.SectionLaws.{and_left, and_right}
+use Rattle.mps_reader.proofs.PlaceLaws.{bytes_same}
+use Rattle.mps_reader.proofs.NameLaws.{name_same, name_turn, not_true, same_tests}
 
 and_both : (a b : Bool) → a ≡ true → b ≡ true → (a && b) ≡ true
 and_both true b h g = g
 and_both false b h g = h
-
--- the last element by its number
-pub last_by_number : {A : Type 0} (xs : List A) → last_of xs ≡ slice_get xs (length xs - 1)
-last_by_number [] = refl
-last_by_number (x ∷ []) = refl
-last_by_number (x ∷ y ∷ xs) =
-    let here : length (y ∷ xs) - 1 ≡ length xs = omega arith in
-    let there : length (x ∷ y ∷ xs) - 1 ≡ suc (length xs) = omega arith in
-    last_by_number (y ∷ xs) ∙ ap (slice_get (y ∷ xs)) here ∙ sym (ap (slice_get (x ∷ y ∷ xs)) there)
 
 -- ---- the most decimals
 
@@ -144,7 +129,7 @@ nothing_found f (Some x) h = absurd (cc h)
 written_at-own : (es : List Entry) (e : Entry) (row : List ℕ) → bytes_eq e.row row ≡ true → written_at es row e.owner ≡ None → written_at (es ++ e ∷ []) row e.owner ≡ Some (number_at e.text)
 written_at-own es e row h none =
     let test : Entry → Bool = λ k. bytes_eq k.row row && bytes_eq k.owner e.owner in
-    ap (option_map (λ k. number_at k.text)) (find-more test es e true (and_both (bytes_eq e.row row) (bytes_eq e.owner e.owner) h (name_self e.owner))
+    ap (option_map (λ k. number_at k.text)) (find-more test es e true (and_both (bytes_eq e.row row) (bytes_eq e.owner e.owner) h (bytes_same e.owner))
         ∙ ap (λ o. option_or o (Some e)) (nothing_found (λ k. number_at k.text) (find test es) none))
 
 written_in-own : (es : List Entry) (e : Entry) (row : List ℕ) (cs : List (List ℕ)) (number : ℕ) → IsLast cs e.owner number → bytes_eq e.row row ≡ true → written_at es row e.owner ≡ None
@@ -244,7 +229,7 @@ on_set word ls e es kept in_set =
         let counts = and_left (is_kept word ls f) (bytes_eq f.row e.row) h in
         let same = one_set word ls e.owner f.owner (in_set e kept) (in_set f counts) in
         and_both (bytes_eq e.owner f.owner) (bytes_eq e.row f.row)
-            (ap (bytes_eq e.owner) (sym same) ∙ name_self e.owner)
+            (ap (bytes_eq e.owner) (sym same) ∙ bytes_same e.owner)
             (name_turn e.row f.row ∙ and_right (is_kept word ls f) (bytes_eq f.row e.row) h)
 
 -- the columns that are written are below the count of columns
@@ -341,10 +326,10 @@ own_row ls (Column number) es r new e n owns h fresh is few put has =
     let none = none_there (written_at a e.row e.owner) (sym (ap (λ l. option_map_or (λ p. p.0 == number) (last_of l) false) has.entries_are ∙ last_written a e.row (column_names ls) e.owner number owns) ∙ fresh) in
     subst (λ l. RowStands l b c (column_names ls) e.row new) (sym (counted_more (codes "COLUMNS") ls es e true h))
         (record {
-          entries_are = put.entries_are ∙ ap (λ l. l ++ (number, n) ∷ []) has.entries_are ∙ ap (λ k. written_in a (column_names ls) e.row ++ (number, k) ∷ []) (sym is) ∙ sym (written_in-own a e e.row (column_names ls) number owns (name_self e.row) none);
+          entries_are = put.entries_are ∙ ap (λ l. l ++ (number, n) ∷ []) has.entries_are ∙ ap (λ k. written_in a (column_names ls) e.row ++ (number, k) ∷ []) (sym is) ∙ sym (written_in-own a e e.row (column_names ls) number owns (bytes_same e.row) none);
           right_side = put.right_side ∙ has.right_side;
           range = put.range ∙ has.range;
-          decimals = (let was = most_of_three a b c e.row in let now = most_of_three (a ++ e ∷ []) b c e.row in let more = most-own a e e.row (name_self e.row) in let same = ap decimals_of is in let d = has.decimals in let p = put.decimals in omega arith);
+          decimals = (let was = most_of_three a b c e.row in let now = most_of_three (a ++ e ∷ []) b c e.row in let more = most-own a e e.row (bytes_same e.row) in let same = ap decimals_of is in let d = has.decimals in let p = put.decimals in omega arith);
           few = (let p = put.decimals in let f = has.few in omega arith);
         })
 own_row ls (RightSides is_set) es r new e n owns h fresh is few put has =
@@ -355,9 +340,9 @@ own_row ls (RightSides is_set) es r new e n owns h fresh is few put has =
     subst (λ l. RowStands a l c (column_names ls) e.row new) (sym (counted_more (codes "RHS") ls es e true h))
         (record {
           entries_are = put.entries_are ∙ has.entries_are;
-          right_side = put.right_side ∙ ap Some (sym is) ∙ sym (written_for-own b e e.row (name_self e.row) none);
+          right_side = put.right_side ∙ ap Some (sym is) ∙ sym (written_for-own b e e.row (bytes_same e.row) none);
           range = put.range ∙ has.range;
-          decimals = (let was = most_of_three a b c e.row in let now = most_of_three a (b ++ e ∷ []) c e.row in let more = most-own b e e.row (name_self e.row) in let same = ap decimals_of is in let d = has.decimals in let p = put.decimals in omega arith);
+          decimals = (let was = most_of_three a b c e.row in let now = most_of_three a (b ++ e ∷ []) c e.row in let more = most-own b e e.row (bytes_same e.row) in let same = ap decimals_of is in let d = has.decimals in let p = put.decimals in omega arith);
           few = (let p = put.decimals in let f = has.few in omega arith);
         })
 own_row ls (Ranges is_set) es r new e n owns h fresh is few put has =
@@ -369,7 +354,7 @@ own_row ls (Ranges is_set) es r new e n owns h fresh is few put has =
         (record {
           entries_are = put.entries_are ∙ has.entries_are;
           right_side = put.right_side ∙ has.right_side;
-          range = put.range ∙ ap Some (sym is) ∙ sym (written_for-own c e e.row (name_self e.row) none);
-          decimals = (let was = most_of_three a b c e.row in let now = most_of_three a b (c ++ e ∷ []) e.row in let more = most-own c e e.row (name_self e.row) in let same = ap decimals_of is in let d = has.decimals in let p = put.decimals in omega arith);
+          range = put.range ∙ ap Some (sym is) ∙ sym (written_for-own c e e.row (bytes_same e.row) none);
+          decimals = (let was = most_of_three a b c e.row in let now = most_of_three a b (c ++ e ∷ []) e.row in let more = most-own c e e.row (bytes_same e.row) in let same = ap decimals_of is in let d = has.decimals in let p = put.decimals in omega arith);
           few = (let p = put.decimals in let f = has.few in omega arith);
         })

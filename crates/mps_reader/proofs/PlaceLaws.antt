@@ -82,7 +82,7 @@ get_of_more [] x (suc i) y P e old new = absurd (cc e)
 get_of_more (z ∷ xs) x zero y P e old new = old e
 get_of_more (z ∷ xs) x (suc i) y P e old new = get_of_more xs x i y P e old (λ f. new (omega (arith, f)))
 
-bytes_same : (name : List ℕ) → bytes_eq name name ≡ true
+pub bytes_same : (name : List ℕ) → bytes_eq name name ≡ true
 bytes_same name = (bytes_eq-Decides name name).1 refl
 
 -- a new name leaves names apart

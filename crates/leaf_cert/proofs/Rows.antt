@@ -1,15 +1,13 @@
 -- Multiples of rows, one coefficient at a time, and the sizes of coefficients.
-use Rattle.std.specs.Prelude.{◌≡◌, ◌≢◌, ℕ, zero, suc, ◌+◌, ◌<◌, ◌≤◌, ◌==◌, Bool, true, false, cond, List, [], ◌∷◌, ◌++◌, length, take, ℤ, pos, ◌+ℤ◌, ◌*ℤ◌}
-use Rattle.std.proofs.Common.{arith, refl, ap, ◌∙◌, sym, get_or, set, add-one}
+use Rattle.std.specs.Prelude.{◌≡◌, ◌≢◌, ℕ, ◌+◌, ◌<◌, ◌≤◌, ◌==◌, Bool, true, false, cond, List, [], ◌∷◌, length, take, ℤ, pos, ◌+ℤ◌, ◌*ℤ◌}
+use Rattle.std.proofs.Common.{arith, refl, ap, ◌∙◌, sym, get_or, set}
 use Rattle.std.proofs.lemmas.Bool.{eqb-true, eqb-false}
 use Rattle.std.proofs.lemmas.Int.{ints}
 use Rattle.std.proofs.lemmas.Grind.{get_or-set_at}
-use Rattle.std.proofs.lemmas.List.{take_more, get_or-take, length-take-le, get_or-set_other}
-use Rattle.std.proofs.lemmas.Grind.{common_steps}
+use Rattle.std.proofs.lemmas.List.{get_or-set_other}
 use Rattle.ip_defs.specs.Program.{at, coefficient}
-use Rattle.ip_defs.specs.Limits.{number_at, value_at, AreOrdered, AreSmall}
-use Rattle.std.specs.Int.RustNames.{unsigned_abs}
-use Rattle.ip_model.proofs.RowLaws.{fresh, coefficient_more}
+use Rattle.ip_defs.specs.Limits.{number_at}
+use Rattle.ip_model.proofs.RowLaws.{coefficient_more}
 use Rattle.ip_model.proofs.WalkLaws.{place_below}
 use Rattle.ring_laws.proofs.Products.{mul_add}
 

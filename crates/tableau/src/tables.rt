@@ -63,9 +63,10 @@ impl Tableau {
         }
     }
 
-    /// Whether a row is one of its rows and a variable one of its variables.
+    /// Whether a row is one of its rows and a variable one of its variables. The lists of a tableau fit together.
     pub fn has(&self, row: u32, var: u32) -> bool
-        ensures { IsTrue result ↔ (row < length self.now.rows × var < length self.now.variables) }
+        ensures places { IsTrue result ↔ (row < length self.now.rows × var < length self.now.variables) }
+        ensures table { IsTable self.now }
     {
         (row as usize) < self.rows.len() && (var as usize) < self.variables.len()
     }
@@ -137,7 +138,8 @@ impl Tableau {
     /// divided by the pivot, and each entry of another row loses its pivot-column entry times the new pivot-row entry. `Wide` comes
     /// exactly where one of these steps is wide; the tableau is then unchanged. It counts one step in each case.
     ///
-    /// A tableau that stands for a node does so afterwards. The simplex method with sides is Dantzig's (Linear Programming and Extensions, chapter 18).
+    /// A tableau that stands for a node does so afterwards. The simplex method for variables with sides is Dantzig's (Linear Programming
+    /// and Extensions, chapter 18).
     pub fn pivot<L: Ledger>(
         &mut self,
         row: u32,

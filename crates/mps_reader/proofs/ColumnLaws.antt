@@ -49,8 +49,8 @@ column_lines-add ls l = ap (filter (λ k. not (is_marker k))) (items_of-add (cod
 has_column-add : (ls : List Line) (l : Line) (name : List ℕ) → has_column (ls ++ l ∷ []) name ≡ (has_column ls name || is_among name (map column_name (column_lines (l ∷ []))))
 has_column-add ls l name =
     ap (λ ks. is_among name (map column_name ks)) (column_lines-add ls l)
-        ∙ ap (is_among name) (map-append column_name (column_lines ls) (column_lines (l ∷ [])))
-        ∙ list_any-append (bytes_eq name) (map column_name (column_lines ls)) (map column_name (column_lines (l ∷ [])))
+    ∙ ap (is_among name) (map-append column_name (column_lines ls) (column_lines (l ∷ [])))
+    ∙ list_any-append (bytes_eq name) (map column_name (column_lines ls)) (map column_name (column_lines (l ∷ [])))
 
 -- the columns' lines of one line: none, or itself
 one_line : (l : Line) (P : List Line → Type 0) → P [] → P (l ∷ []) → P (column_lines (l ∷ []))
@@ -80,15 +80,15 @@ names_among name ls = by_last (λ ks. is_among name (column_names ks) ≡ has_co
         → (has_column ks name || is_among name (when (nat_le 1 (length (column_lines (l ∷ []))) && not (has_column ks (column_name l))) (column_name l))) ≡ (has_column ks name || is_among name (map column_name (column_lines (l ∷ []))))
     with_lines ks l =
         one_line l (λ one. (has_column ks name || is_among name (when (nat_le 1 (length one) && not (has_column ks (column_name l))) (column_name l))) ≡ (has_column ks name || is_among name (map column_name one)))
-            refl (came ks l (bytes_eq name (column_name l)) (has_column ks (column_name l)) refl refl)
+        refl (came ks l (bytes_eq name (column_name l)) (has_column ks (column_name l)) refl refl)
 
     more : (ks : List Line) (l : Line) → is_among name (column_names ks) ≡ has_column ks name → is_among name (column_names (ks ++ l ∷ [])) ≡ has_column (ks ++ l ∷ []) name
     more ks l so_far =
         ap (is_among name) (column_names-add ks l)
-            ∙ list_any-append (bytes_eq name) (column_names ks) (when (is_new_column ks l) (column_name l))
-            ∙ ap (λ b. b || is_among name (when (is_new_column ks l) (column_name l))) so_far
-            ∙ with_lines ks l
-            ∙ sym (has_column-add ks l name)
+        ∙ list_any-append (bytes_eq name) (column_names ks) (when (is_new_column ks l) (column_name l))
+        ∙ ap (λ b. b || is_among name (when (is_new_column ks l) (column_name l))) so_far
+        ∙ with_lines ks l
+        ∙ sym (has_column-add ks l name)
 
 -- ---- entries of a new column
 
@@ -105,11 +105,11 @@ no_entries name (l ∷ ls) h = by (l.is_item && bytes_eq l.section (codes "COLUM
     of_line : (m : Bool) → is_marker l ≡ m → bytes_eq l.section (codes "COLUMNS") ≡ true → is_among name (map column_name (cond (not m) (l ∷ []) [])) ≡ false → list_any (λ e. bytes_eq e.owner name) (entries_of l) ≡ false
     of_line true marker of absent =
         ap (λ b. list_any (λ e. bytes_eq e.owner name) (if b then (if is_marker l then [] else entries_from l.number (column_name l) (drop 1 l.fields)) else entries_from l.number (set_of l) (if names_set l then drop 1 l.fields else l.fields))) of
-            ∙ ap (λ b. list_any (λ e. bytes_eq e.owner name) (if b then [] else entries_from l.number (column_name l) (drop 1 l.fields))) marker
+        ∙ ap (λ b. list_any (λ e. bytes_eq e.owner name) (if b then [] else entries_from l.number (column_name l) (drop 1 l.fields))) marker
     of_line false marker of absent =
         ap (λ b. list_any (λ e. bytes_eq e.owner name) (if b then (if is_marker l then [] else entries_from l.number (column_name l) (drop 1 l.fields)) else entries_from l.number (set_of l) (if names_set l then drop 1 l.fields else l.fields))) of
-            ∙ ap (λ b. list_any (λ e. bytes_eq e.owner name) (if b then [] else entries_from l.number (column_name l) (drop 1 l.fields))) marker
-            ∙ none_from l.number (column_name l) name (drop 1 l.fields) (name_turn (column_name l) name ∙ or_false_left (bytes_eq name (column_name l)) false absent)
+        ∙ ap (λ b. list_any (λ e. bytes_eq e.owner name) (if b then [] else entries_from l.number (column_name l) (drop 1 l.fields))) marker
+        ∙ none_from l.number (column_name l) name (drop 1 l.fields) (name_turn (column_name l) name ∙ or_false_left (bytes_eq name (column_name l)) false absent)
 
     split_names : (ks : List Line) → is_among name (map column_name (filter (λ k. not (is_marker k)) (l ∷ ks))) ≡ (is_among name (map column_name (cond (not (is_marker l)) (l ∷ []) [])) || is_among name (map column_name (filter (λ k. not (is_marker k)) ks)))
     split_names ks = with_marker (is_marker l)
@@ -127,8 +127,8 @@ no_entries name (l ∷ ls) h = by (l.is_item && bytes_eq l.section (codes "COLUM
         let mine = or_false_left (is_among name (map column_name (cond (not (is_marker l)) (l ∷ []) []))) (has_column ls name) apart in
         let others = or_false_right (is_among name (map column_name (cond (not (is_marker l)) (l ∷ []) []))) (has_column ls name) apart in
         list_any-append (λ k. bytes_eq k.owner name) (entries_of l) (all_entries (codes "COLUMNS") ls)
-            ∙ ap (λ b. b || list_any (λ k. bytes_eq k.owner name) (all_entries (codes "COLUMNS") ls)) (of_line (is_marker l) refl (and_right l.is_item (bytes_eq l.section (codes "COLUMNS")) e) mine)
-            ∙ rest others
+        ∙ ap (λ b. b || list_any (λ k. bytes_eq k.owner name) (all_entries (codes "COLUMNS") ls)) (of_line (is_marker l) refl (and_right l.is_item (bytes_eq l.section (codes "COLUMNS")) e) mine)
+        ∙ rest others
 
 not_found : (keeps : Entry → Bool) (row name : List ℕ) (es : List Entry) → list_any (λ e. bytes_eq e.owner name) es ≡ false → find (λ e. bytes_eq e.row row && bytes_eq e.owner name) (filter keeps es) ≡ None
 not_found keeps row name [] h = refl
@@ -153,9 +153,9 @@ entries_wait before b c name names rows new h i row r at there =
     record {
       entries_are =
           was.entries_are
-              ∙ sym (append_nil (written_in es (column_names before) row))
-              ∙ sym (ap (λ o. written_in es (column_names before) row ++ cons_option (option_map (λ n. (0 + length (column_names before), n)) o) []) (nothing_written before name row new))
-              ∙ sym (written_in-snoc es row (column_names before) name);
+          ∙ sym (append_nil (written_in es (column_names before) row))
+          ∙ sym (ap (λ o. written_in es (column_names before) row ++ cons_option (option_map (λ n. (0 + length (column_names before), n)) o) []) (nothing_written before name row new))
+          ∙ sym (written_in-snoc es row (column_names before) name);
       right_side = was.right_side;
       range = was.range;
       decimals = was.decimals;

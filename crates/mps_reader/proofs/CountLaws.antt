@@ -143,20 +143,20 @@ kept_at : (ls : List Line) (i : ℕ) (l : Line) (e : Entry) (in_columns in_set i
     → kept_on (is_among e.row (map row_name (filter is_free (row_lines ls)))) (named_first (row_lines ls) e.row) in_columns in_set in_ranges ≡ kept_on (is_free l) (is_at (position is_free (row_lines ls)) i) in_columns in_set in_ranges
 kept_at ls i l e in_columns in_set in_ranges apart at named =
     ap (λ x. kept_on (is_among x (map row_name (filter is_free (row_lines ls)))) (named_first (row_lines ls) x) in_columns in_set in_ranges) named
-        ∙ ap (λ b. kept_on b (named_first (row_lines ls) (row_name l)) in_columns in_set in_ranges) (among_free (row_lines ls) i l apart at)
-        ∙ ap (λ b. kept_on (is_free l) b in_columns in_set in_ranges) (objective_at (row_lines ls) i l apart at)
+    ∙ ap (λ b. kept_on b (named_first (row_lines ls) (row_name l)) in_columns in_set in_ranges) (among_free (row_lines ls) i l apart at)
+    ∙ ap (λ b. kept_on (is_free l) b in_columns in_set in_ranges) (objective_at (row_lines ls) i l apart at)
 
 -- the code's test says whether an entry on a row counts
 pub counts : (ls : List Line) (owner : Owner) (i : ℕ) (l : Line) (e : Entry) → Owns ls owner e.owner → Apart (map row_name (row_lines ls)) → slice_get (row_lines ls) i ≡ Some l → e.row ≡ row_name l
     → counts_on owner (is_free l) (is_at (position is_free (row_lines ls)) i) ≡ is_kept (owner_word owner) ls e
 counts ls (Column number) i l e owns apart at named =
     column_counts (is_free l) (is_at (position is_free (row_lines ls)) i) (is_kept_set (codes "COLUMNS") ls e.owner)
-        ∙ sym (kept_at ls i l e true (is_kept_set (codes "COLUMNS") ls e.owner) false apart at named)
+    ∙ sym (kept_at ls i l e true (is_kept_set (codes "COLUMNS") ls e.owner) false apart at named)
 counts ls (RightSides kept) i l e owns apart at named =
     ap (λ k. k && (not (is_free l) || is_at (position is_free (row_lines ls)) i)) (sym owns)
-        ∙ right_side_counts (is_free l) (is_at (position is_free (row_lines ls)) i) (is_kept_set (codes "RHS") ls e.owner)
-        ∙ sym (kept_at ls i l e false (is_kept_set (codes "RHS") ls e.owner) false apart at named)
+    ∙ right_side_counts (is_free l) (is_at (position is_free (row_lines ls)) i) (is_kept_set (codes "RHS") ls e.owner)
+    ∙ sym (kept_at ls i l e false (is_kept_set (codes "RHS") ls e.owner) false apart at named)
 counts ls (Ranges kept) i l e owns apart at named =
     ap (λ k. k && not (is_free l)) (sym owns)
-        ∙ range_counts (is_free l) (is_at (position is_free (row_lines ls)) i) (is_kept_set (codes "RANGES") ls e.owner) (objective_free (row_lines ls) i l at)
-        ∙ sym (kept_at ls i l e false (is_kept_set (codes "RANGES") ls e.owner) true apart at named)
+    ∙ range_counts (is_free l) (is_at (position is_free (row_lines ls)) i) (is_kept_set (codes "RANGES") ls e.owner) (objective_free (row_lines ls) i l at)
+    ∙ sym (kept_at ls i l e false (is_kept_set (codes "RANGES") ls e.owner) true apart at named)

@@ -28,8 +28,8 @@ name_self a = (bytes_eq-Decides a a).1 refl
 pub name_turn : (a b : List ℕ) → bytes_eq a b ≡ bytes_eq b a
 name_turn a b =
     same_tests (bytes_eq a b) (bytes_eq b a)
-        (λ h. (bytes_eq-Decides b a).1 (sym (name_same a b h)))
-        (λ h. (bytes_eq-Decides a b).1 (sym (name_same b a h)))
+    (λ h. (bytes_eq-Decides b a).1 (sym (name_same a b h)))
+    (λ h. (bytes_eq-Decides a b).1 (sym (name_same b a h)))
 
 -- the first place where a test passes, by recursion
 abbrev pub place : {A : Type 0} → (A → Bool) → List A → Option ℕ

@@ -38,7 +38,7 @@ set_line_faults : (before : List Line) (word : List ℕ) (pairs : List MpsError)
     → when (not (is_among (codes "ROWS") (words_of before))) (Out.SectionOrder n) ++ (when (not (nat_le 2 (length fields) && nat_le (length fields) 5)) (Out.FieldCount n) ++ pairs) ≡ pairs
 set_line_faults before word pairs n fields rows count =
     ap (λ b. when (not b) (Out.SectionOrder n) ++ (when (not (nat_le 2 (length fields) && nat_le (length fields) 5)) (Out.FieldCount n) ++ pairs)) rows
-        ∙ ap (λ b. when (not b) (Out.FieldCount n) ++ pairs) count
+    ∙ ap (λ b. when (not b) (Out.FieldCount n) ++ pairs) count
 
 -- what a section's own line gives once its entries are taken
 abbrev pub Takes : Owner → ℕ → List (List ℕ) → RowTable → RowTable → Result (Unit {0}) MpsError → Type 0
@@ -49,10 +49,10 @@ right_sides_line : (before : List Line) (d : Draft) (n : ℕ) (fields : List (Li
     → Takes (set_owner Sections.RightSides d.sets set) n entries d.rows rows r → IsTaken before (item (codes "RHS") n fields) (record d { rows = rows; sets = sets }) r
 right_sides_line before d n fields set entries rows sets r h there has_rows parts kept takes =
     taken before l (record d { rows = rows; sets = sets }) r
-        (IsDone_map (faults_after ls owner (all_entries (codes "RHS") before) (entries_from n set entries)) (line_faults before l)
-            (λ _. RowsHave ls owner (all_entries (codes "RHS") before ++ entries_from n set entries) rows) (λ _. Stands ls (record d { rows = rows; sets = sets })) r
-            (sym faults) (λ x none have. stand none have)
-            (takes ls (all_entries (codes "RHS") before) set begin owns))
+    (IsDone_map (faults_after ls owner (all_entries (codes "RHS") before) (entries_from n set entries)) (line_faults before l)
+    (λ _. RowsHave ls owner (all_entries (codes "RHS") before ++ entries_from n set entries) rows) (λ _. Stands ls (record d { rows = rows; sets = sets })) r
+    (sym faults) (λ x none have. stand none have)
+    (takes ls (all_entries (codes "RHS") before) set begin owns))
   where
     l : Line
     l = item (codes "RHS") n fields
@@ -78,8 +78,8 @@ right_sides_line before d n fields set entries rows sets r h there has_rows part
     faults : line_faults before l ≡ faults_after ls owner (all_entries (codes "RHS") before) (entries_from n set entries)
     faults =
         set_line_faults before (codes "RHS") (pair_faults before l) n fields has_rows parts.count
-            ∙ pair_faults_are before owner n fields
-            ∙ ap (faults_after ls owner (all_entries (codes "RHS") before)) (sym entries_are)
+        ∙ pair_faults_are before owner n fields
+        ∙ ap (faults_after ls owner (all_entries (codes "RHS") before)) (sym entries_are)
 
     stand : faults_after ls owner (all_entries (codes "RHS") before) (entries_from n set entries) ≡ [] → RowsHave ls owner (all_entries (codes "RHS") before ++ entries_from n set entries) rows → Stands ls (record d { rows = rows; sets = sets })
     stand none have = record {
@@ -101,10 +101,10 @@ ranges_line : (before : List Line) (d : Draft) (n : ℕ) (fields : List (List �
     → Takes (set_owner Sections.Ranges d.sets set) n entries d.rows rows r → IsTaken before (item (codes "RANGES") n fields) (record d { rows = rows; sets = sets }) r
 ranges_line before d n fields set entries rows sets r h there has_rows parts kept takes =
     taken before l (record d { rows = rows; sets = sets }) r
-        (IsDone_map (faults_after ls owner (all_entries (codes "RANGES") before) (entries_from n set entries)) (line_faults before l)
-            (λ _. RowsHave ls owner (all_entries (codes "RANGES") before ++ entries_from n set entries) rows) (λ _. Stands ls (record d { rows = rows; sets = sets })) r
-            (sym faults) (λ x none have. stand none have)
-            (takes ls (all_entries (codes "RANGES") before) set begin owns))
+    (IsDone_map (faults_after ls owner (all_entries (codes "RANGES") before) (entries_from n set entries)) (line_faults before l)
+    (λ _. RowsHave ls owner (all_entries (codes "RANGES") before ++ entries_from n set entries) rows) (λ _. Stands ls (record d { rows = rows; sets = sets })) r
+    (sym faults) (λ x none have. stand none have)
+    (takes ls (all_entries (codes "RANGES") before) set begin owns))
   where
     l : Line
     l = item (codes "RANGES") n fields
@@ -130,8 +130,8 @@ ranges_line before d n fields set entries rows sets r h there has_rows parts kep
     faults : line_faults before l ≡ faults_after ls owner (all_entries (codes "RANGES") before) (entries_from n set entries)
     faults =
         set_line_faults before (codes "RANGES") (pair_faults before l) n fields has_rows parts.count
-            ∙ pair_faults_are before owner n fields
-            ∙ ap (faults_after ls owner (all_entries (codes "RANGES") before)) (sym entries_are)
+        ∙ pair_faults_are before owner n fields
+        ∙ ap (faults_after ls owner (all_entries (codes "RANGES") before)) (sym entries_are)
 
     stand : faults_after ls owner (all_entries (codes "RANGES") before) (entries_from n set entries) ≡ [] → RowsHave ls owner (all_entries (codes "RANGES") before ++ entries_from n set entries) rows → Stands ls (record d { rows = rows; sets = sets })
     stand none have = record {

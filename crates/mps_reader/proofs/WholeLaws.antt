@@ -103,13 +103,13 @@ model_shaped ls d how name r o s digits named at =
     let k = drafted_decimals how r in
     let width = drafted_columns how k 0 r.entries.items (drafted_names d) d.columns.columns.items in
     let columns : length (map clamped_column width) ≡ length (column_names ls) =
-        mapped_count clamped_column width ∙ count_columns how k 0 r.entries.items (drafted_names d) d.columns.columns.items (ap length s.columns.names ∙ sym s.columns.count) ∙ s.columns.count in
+    mapped_count clamped_column width ∙ count_columns how k 0 r.entries.items (drafted_names d) d.columns.columns.items (ap length s.columns.names ∙ sym s.columns.count) ∙ s.columns.count in
     let same = s.rows.names in
     let row = s.entries o name r (ap (λ ns. slice_get ns o) (sym same) ∙ named) at in
     record {
       decimals = let few = row.few in omega arith;
       rows = λ i x found. rows_shaped how (length (map clamped_column width)) (row_names d) d.rows.rows.items (ap length same ∙ sym (row_count ls d s))
-        (λ j n y called there.
+          (λ j n y called there.
           let each = s.entries j n y (ap (λ ns. slice_get ns j) (sym same) ∙ called) there in
           let few = each.few in
           record {
@@ -117,7 +117,7 @@ model_shaped ls d how name r o s digits named at =
             coefs = subst (λ (es : List (ℕ × Number)). AreOrdered (length (map clamped_column width)) (clamped_coefs (drafted_coefs (drafted_decimals how y) es))) (sym each.entries_are)
                 (subst (λ m. AreOrdered m (clamped_coefs (drafted_coefs (drafted_decimals how y) (written_in (kept_entries (codes "COLUMNS") ls) (column_names ls) n)))) (sym columns) (coefs_ordered (kept_entries (codes "COLUMNS") ls) (column_names ls) n (drafted_decimals how y)));
           })
-        i x found;
+          i x found;
     }
 
 -- ---- the model
@@ -140,9 +140,9 @@ model_is ls d how name r o s e named at =
     let k : drafted_decimals how r ≡ row_decimals ls how name = ap (max how.digits) row.decimals ∙ decimals_are how.digits (decimals_in (es ++ right ++ kept_entries (codes "RANGES") ls) name) in
     let constant = ap (λ w. neg_ℤ (units (drafted_decimals how r) (unwrap_or w no_number))) row.right_side ∙ ap (λ n. neg_ℤ (units n (unwrap_or (written_for right name) no_number))) k in
     let columns =
-        ap (λ ns. drafted_columns how (drafted_decimals how r) 0 r.entries.items ns d.columns.columns.items) s.columns.names
-        ∙ columns_are ls how name (drafted_decimals how r) 0 r.entries.items (column_names ls) d.columns.columns.items row.entries_are (sym s.columns.count) s.bounds
-        ∙ ap (λ n. map (column_from ls how name n) (column_names ls)) k in
+    ap (λ ns. drafted_columns how (drafted_decimals how r) 0 r.entries.items ns d.columns.columns.items) s.columns.names
+    ∙ columns_are ls how name (drafted_decimals how r) 0 r.entries.items (column_names ls) d.columns.columns.items row.entries_are (sym s.columns.count) s.bounds
+    ∙ ap (λ n. map (column_from ls how name n) (column_names ls)) k in
     let rows = ap (λ ns. drafted_rows how ns d.rows.rows.items) s.rows.names ∙ rows_are ls how (row_lines ls) d.rows.rows.items s.rows.kinds s.entries in
     ap (λ n. made name n (neg_ℤ (units (drafted_decimals how r) (unwrap_or r.right_side no_number))) (drafted_columns how (drafted_decimals how r) 0 r.entries.items (drafted_names d) d.columns.columns.items) (drafted_rows how (row_names d) d.rows.rows.items)) k
     ∙ ap (λ z. made name (row_decimals ls how name) z (drafted_columns how (drafted_decimals how r) 0 r.entries.items (drafted_names d) d.columns.columns.items) (drafted_rows how (row_names d) d.rows.rows.items)) constant

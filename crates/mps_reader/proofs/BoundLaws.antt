@@ -1,6 +1,6 @@
 -- How a draft grows by a line of BOUNDS.
-use Rattle.std.specs.Prelude.{◌≡◌, ℕ, zero, suc, ◌==◌, nat_le, Bool, true, false, cond, List, [], ◌∷◌, ◌++◌, length, map, filter, position, slice_get, slice_set, slice_index_or, Option, None, Some, option_map, unwrap_or, not, ◌&&◌, ◌||◌, bytes_eq, codes, string_bytes, if◌then◌else◌, refl}
-use Rattle.std.specs.Option.{option_or, option_map_or, is_none, is_some}
+use Rattle.std.specs.Prelude.{◌≡◌, ℕ, zero, suc, Bool, true, false, cond, List, [], ◌∷◌, ◌++◌, length, map, filter, position, slice_get, slice_set, Option, None, Some, option_map, unwrap_or, not, ◌&&◌, ◌||◌, bytes_eq, codes, string_bytes, refl}
+use Rattle.std.specs.Option.{option_map_or, is_none, is_some}
 use Rattle.std.specs.List.{list_any}
 use Rattle.std.proofs.Common.{◌<◌, get_or, sym, ◌∙◌, ap, subst, arith}
 use Rattle.std.proofs.lemmas.Option.{get_or_from_slice_get}
@@ -10,11 +10,10 @@ use Rattle.std.proofs.lemmas.List.Folds.{list_any-append}
 use Rattle.std.proofs.lemmas.Slice.Eq.{bytes_eq-Decides}
 use Rattle.ip_defs.specs.Lists.{first_of, last_of, is_among, when, or_else, where_true}
 use Rattle.ip_defs.specs.Numbers.{is_number, number_of}
-use Rattle.ip_defs.specs.Records.{Line, items_of, words_of, row_lines, row_name, set_of, kept_entries, field, is_kept_bound, bound_kind, bound_set, bound_column, bound_text, bounds_on, takes_number, takes_none, column_name, column_names, column_lines, first_lines, has_column, in_force, is_marker}
+use Rattle.ip_defs.specs.Records.{Line, items_of, words_of, row_lines, row_name, set_of, kept_entries, bound_kind, bound_set, bound_column, bound_text, bounds_on, takes_number, takes_none, column_name, column_names, first_lines, has_column, in_force}
 use Rattle.ip_defs.specs.Faults.{line_faults, bound_faults}
-use Rattle.ip_defs.specs.TextModels.{is_integer, kind_is, lower_by, lower_entry, no_number, number_at, sets_lower, sets_upper, upper_by, upper_entry}
+use Rattle.ip_defs.specs.TextModels.{is_integer, kind_is, lower_by, lower_entry, no_number, number_at, sets_lower, sets_upper, upper_entry}
 use Rattle.ip_defs.specs.declared.texts.Number.{Number}
-use Rattle.ip_defs.specs.declared.texts.MpsError.{MpsError}
 use Rattle.ip_defs.specs.declared.texts.MpsError.TheVariants.{SectionOrder, BoundKind as WrongKind, FieldCount, UnknownColumn, Number as NoNumber}
 use Rattle.mps_reader.specs.declared.bounds.BoundKind.{BoundKind}
 use Rattle.mps_reader.specs.declared.bounds.BoundKind.TheVariants.{Lower, LowerInteger, Upper, UpperInteger, Fixed, Free, NoLower, NoUpper, Binary}
@@ -22,10 +21,10 @@ use Rattle.mps_reader.specs.declared.draft.ColumnDraft.{ColumnDraft}
 use Rattle.mps_reader.specs.declared.draft.ColumnTable.{ColumnTable}
 use Rattle.mps_reader.specs.declared.draft.Draft.{Draft}
 use Rattle.mps_reader.specs.BoundWords.{Says, after_bound, bound_word, has_right_count, integer_words, lower_of, numbered_words, plain_words, upper_of}
-use Rattle.mps_reader.specs.Progress.{item, upper_said, AreApart, Stands, SectionsStand, RowsStand, EntriesStand, ColumnsStand, ColumnStands, BoundsStand, SetsStand}
-use Rattle.mps_reader.proofs.GrowthLaws.{true_not_false, faults-add, append_nil, filter-append, items_of-add, last_of-add, column_names-add, is_new_column, map-append}
-use Rattle.mps_reader.proofs.StayLaws.{by_last, items_stay, first_lines_stay, column_names_stay, sections_stay, rows_stand_stay, entries_stay, columns_stand_stay}
-use Rattle.mps_reader.proofs.SectionLaws.{or_left_true}
+use Rattle.mps_reader.specs.Progress.{item, upper_said, AreApart, Stands, SectionsStand, RowsStand, EntriesStand, ColumnsStand, ColumnStands, BoundsStand}
+use Rattle.mps_reader.proofs.GrowthLaws.{true_not_false, faults-add, append_nil, filter-append, items_of-add, last_of-add}
+use Rattle.mps_reader.proofs.StayLaws.{items_stay, first_lines_stay, column_names_stay, sections_stay, rows_stand_stay, entries_stay, columns_stand_stay}
+use Rattle.mps_reader.proofs.ColumnLaws.{names_among}
 use Rattle.mps_reader.proofs.PlaceLaws.{place_of_name, place_where_any}
 
 abbrev pub bound_item : ℕ → List (List ℕ) → Line
@@ -116,54 +115,6 @@ wrong_count before n fields k there is wrong = ap first_of (right_kind before n 
 pub right_count : (before : List Line) (n : ℕ) (fields : List (List ℕ)) (k : BoundKind) → is_among (codes "ROWS") (words_of before) ≡ true → bound_kind (bound_item n fields) ≡ bound_word k → has_right_count (bound_item n fields) ≡ true
     → line_faults before (bound_item n fields) ≡ when (not (has_column before (bound_column (bound_item n fields)))) (UnknownColumn n) ++ when (takes_number (bound_item n fields) && not (is_number (bound_text (bound_item n fields)))) (NoNumber n)
 right_count before n fields k there is right = right_kind before n fields k there is ∙ ap (λ t. when (not t) (FieldCount n) ++ when (not (has_column before (bound_column (bound_item n fields)))) (UnknownColumn n) ++ when (takes_number (bound_item n fields) && not (is_number (bound_text (bound_item n fields)))) (NoNumber n)) right
-
--- ---- columns by their names
-
--- a column has a line where its name is among the names of columns
-pub column_named : (ls : List Line) (name : List ℕ) → is_among name (column_names ls) ≡ has_column ls name
-column_named ls name = by_last (λ ks. is_among name (column_names ks) ≡ has_column ks name) refl more ls
-  where
-    Same : List Line → Type 0
-    Same ks = is_among name (column_names ks) ≡ has_column ks name
-
-    -- the lines of columns of one line, and whether they name the column
-    names_it : List Line → Bool
-    names_it ls = is_among name (map column_name ls)
-
-    grown : (ks : List Line) (k : Line) → has_column (ks ++ k ∷ []) name ≡ (has_column ks name || names_it (column_lines (k ∷ [])))
-    grown ks k =
-        ap names_it (ap (filter (λ l. not (is_marker l))) (items_of-add (codes "COLUMNS") ks k) ∙ filter-append (λ l. not (is_marker l)) (items_of (codes "COLUMNS") ks) (items_of (codes "COLUMNS") (k ∷ [])))
-        ∙ ap (is_among name) (map-append column_name (column_lines ks) (column_lines (k ∷ [])))
-        ∙ list_any-append (bytes_eq name) (map column_name (column_lines ks)) (map column_name (column_lines (k ∷ [])))
-
-    -- a line is none of a column or its one line
-    alone : (k : Line) (P : List Line → Type 0) → P [] → P (k ∷ []) → P (column_lines (k ∷ []))
-    alone k P none one = by (k.is_item && bytes_eq k.section (codes "COLUMNS")) (not (is_marker k)) refl
-      where
-        by : (t u : Bool) → not (is_marker k) ≡ u → P (filter (λ l. not (is_marker l)) (cond t (k ∷ []) []))
-        by true true e = subst (λ b. P (cond b (k ∷ []) [])) (sym e) one
-        by true false e = subst (λ b. P (cond b (k ∷ []) [])) (sym e) none
-        by false u e = none
-
-    more : (ks : List Line) (k : Line) → Same ks → Same (ks ++ k ∷ [])
-    more ks k h =
-        ap (is_among name) (column_names-add ks k)
-        ∙ list_any-append (bytes_eq name) (column_names ks) (when (is_new_column ks k) (column_name k))
-        ∙ ap (λ t. t || is_among name (when (is_new_column ks k) (column_name k))) h
-        ∙ alone k (λ cs. (has_column ks name || is_among name (when (nat_le 1 (length cs) && not (has_column ks (column_name k))) (column_name k))) ≡ (has_column ks name || names_it cs))
-        refl (known (has_column ks (column_name k)) refl)
-        ∙ sym (grown ks k)
-      where
-        known : (t : Bool) → has_column ks (column_name k) ≡ t → (has_column ks name || is_among name (when (not t) (column_name k))) ≡ (has_column ks name || names_it (k ∷ []))
-        known true e = same (bytes_eq name (column_name k)) refl
-          where
-            same : (u : Bool) → bytes_eq name (column_name k) ≡ u → (has_column ks name || false) ≡ (has_column ks name || (u || false))
-            same true f = ap (λ t. t || false) there ∙ ap (λ t. t || true) (sym there)
-              where
-                there : has_column ks name ≡ true
-                there = ap (has_column ks) ((bytes_eq-Decides name (column_name k)).0 f) ∙ e
-            same false f = refl
-        known false e = refl
 
 -- ---- the bounds of a column
 
@@ -365,7 +316,7 @@ column_found before t name other o h is e =
     ap (λ w. position (bytes_eq w) (column_names before)) is ∙ ap (position (bytes_eq other)) (sym h.names) ∙ sym (place_of_name t.names.keys other) ∙ sym e
 
 pub has_column_where : (before : List Line) (name : List ℕ) (o : Option ℕ) → position (bytes_eq name) (column_names before) ≡ o → has_column before name ≡ is_some o
-has_column_where before name o e = sym (column_named before name) ∙ sym (place_where_any (bytes_eq name) (column_names before)) ∙ ap is_some e
+has_column_where before name o e = sym (names_among name before) ∙ sym (place_where_any (bytes_eq name) (column_names before)) ∙ ap is_some e
 
 pub number_fault : (l : Line) (k : BoundKind) (text : List ℕ) (o : Option Number) → bound_kind l ≡ bound_word k → bound_text l ≡ text
     → (is_among (bound_word k) numbered_words ≡ true → o ≡ number_of text) → (is_among (bound_word k) numbered_words ≡ false → o ≡ Some no_number)

@@ -1,25 +1,16 @@
 -- The columns after a line of COLUMNS.
-use Rattle.std.specs.Prelude.{◌≡◌, ℕ, zero, suc, ◌+◌, ◌==◌, ◌<◌, nat_le, Bool, true, false, cond, not, ◌&&◌, ◌||◌, if◌then◌else◌, List, [], ◌∷◌, ◌++◌, length, drop, map, filter, flat_map, find, position, slice_get, Option, None, Some, option_map, option_and_then, bytes_eq, string_bytes, codes, refl}
-use Rattle.std.specs.Option.{option_map_or, option_or, is_some}
+use Rattle.std.specs.Prelude.{◌≡◌, ℕ, ◌+◌, nat_le, Bool, true, false, cond, not, ◌&&◌, ◌||◌, if◌then◌else◌, List, [], ◌∷◌, ◌++◌, length, drop, map, filter, flat_map, find, None, Some, option_map, bytes_eq, codes, refl}
 use Rattle.std.specs.List.{list_any, cons_option}
-use Rattle.std.proofs.Common.{arith, ap, sym, ◌∙◌, subst}
-use Rattle.std.proofs.lemmas.Bool.{eqb-true, eq-eqb}
+use Rattle.std.proofs.Common.{ap, sym, ◌∙◌}
 use Rattle.std.proofs.lemmas.List.Folds.{list_any-append}
-use Rattle.std.proofs.lemmas.Option.{slice_get_within}
-use Rattle.ip_defs.specs.Lists.{first_of, last_of, is_among, when, with_earlier}
-use Rattle.ip_defs.specs.Records.{Line, Entry, field, items_of, column_lines, column_name, column_names, first_lines, has_column, in_force, is_marker, is_columns, all_entries, entries_of, entries_from, kept_entries, is_kept, bounds_on, set_of, names_set}
-use Rattle.ip_defs.specs.Faults.{is_split}
-use Rattle.ip_defs.specs.TextModels.{is_integer, lower_entry, upper_entry, lower_by, sets_lower, sets_upper, kind_is, written_at, written_in, number_at}
-use Rattle.ip_defs.specs.declared.texts.Number.{Number}
+use Rattle.ip_defs.specs.Lists.{is_among, when}
+use Rattle.ip_defs.specs.Records.{Line, Entry, items_of, column_lines, column_name, column_names, has_column, is_marker, all_entries, entries_of, entries_from, kept_entries, is_kept, set_of, names_set}
+use Rattle.ip_defs.specs.TextModels.{written_at, written_in, number_at}
 use Rattle.mps_reader.specs.declared.draft.RowDraft.{RowDraft}
-use Rattle.mps_reader.specs.declared.draft.ColumnDraft.{ColumnDraft}
-use Rattle.mps_reader.specs.declared.draft.ColumnTable.{ColumnTable}
-use Rattle.mps_reader.specs.Progress.{AreApart, EntriesStand, RowStands, ColumnsStand, ColumnStands, BoundsStand, column_of, upper_said, item}
-use Rattle.mps_reader.specs.Taking.{IsLast, IsColumnAdded, IsColumnOpen, IsMarked}
-use Rattle.mps_reader.proofs.GrowthLaws.{true_not_false, append_nil, append_assoc, filter-append, map-append, items_of-add, last_of-add, column_names-add, is_new_column, placed, or_false_left, or_false_right, and_false}
-use Rattle.mps_reader.proofs.StayLaws.{by_last, items_stay, column_names_stay, first_lines-add, bounds_on_stay}
-use Rattle.mps_reader.proofs.NameLaws.{name_same, name_self, name_turn, not_true, same_tests, position_found, among_at}
-use Rattle.mps_reader.proofs.PlaceLaws.{position_append, place_where_any, get_of_more, apart_more}
+use Rattle.mps_reader.specs.Progress.{EntriesStand, item}
+use Rattle.mps_reader.proofs.GrowthLaws.{append_nil, filter-append, map-append, items_of-add, column_names-add, is_new_column, or_false_left, or_false_right, and_false}
+use Rattle.mps_reader.proofs.StayLaws.{by_last}
+use Rattle.mps_reader.proofs.NameLaws.{name_same, name_turn}
 use Rattle.mps_reader.proofs.EntryLaws.{written_in-snoc, and_right}
 
 or_again : (a b : Bool) → (a || b) ≡ ((a || false) || b)

@@ -1,20 +1,19 @@
 -- A line of COLUMNS.
-use Rattle.std.specs.Prelude.{◌≡◌, ℕ, zero, suc, ◌==◌, ◌<◌, Bool, true, false, cond, not, ◌&&◌, ◌||◌, if◌then◌else◌, List, [], ◌∷◌, ◌++◌, length, drop, map, slice_index_or, Option, None, Some, bytes_eq, codes, Result, Ok, Err, refl}
+use Rattle.std.specs.Prelude.{◌≡◌, ℕ, zero, suc, ◌==◌, ◌<◌, Bool, true, false, not, ◌&&◌, ◌||◌, if◌then◌else◌, List, [], ◌∷◌, ◌++◌, length, drop, map, slice_index_or, codes, Result, Err, refl}
 use Rattle.std.proofs.Common.{arith, ap, sym, ◌∙◌, ◌-◌, subst, take, get_or, Bor}
 use Rattle.std.proofs.lemmas.Bool.{eqb-true}
 use Rattle.std.proofs.lemmas.List.{length-map}
 use Rattle.std.proofs.Math.Seq.{take-length}
-use Rattle.ip_defs.specs.Lists.{first_of, when, is_among}
-use Rattle.ip_defs.specs.Records.{Line, Entry, field, items_of, words_of, row_lines, row_name, column_name, column_names, has_column, is_marker, in_force, all_entries, entries_of, entries_from, kept_entries}
-use Rattle.ip_defs.specs.Faults.{line_faults, marker_faults, pair_faults, is_split, all_line_faults}
+use Rattle.ip_defs.specs.Lists.{when, is_among}
+use Rattle.ip_defs.specs.Records.{Line, field, words_of, row_lines, row_name, column_name, column_names, has_column, is_marker, all_entries, entries_of, entries_from, kept_entries}
+use Rattle.ip_defs.specs.Faults.{line_faults, marker_faults, pair_faults, is_split}
 use Rattle.ip_defs.specs.declared.texts.MpsError.{MpsError}
 use Rattle.ip_defs.specs.declared.texts.MpsError.TheVariants as Out
 use Rattle.mps_reader.specs.declared.draft.RowTable.{RowTable}
 use Rattle.mps_reader.specs.declared.draft.ColumnTable.{ColumnTable}
 use Rattle.mps_reader.specs.declared.draft.Draft.{Draft}
-use Rattle.mps_reader.specs.declared.entries.Owner.{Owner}
-use Rattle.mps_reader.specs.declared.entries.Owner.TheVariants.{Column, RightSides, Ranges}
-use Rattle.mps_reader.specs.Progress.{EntriesStand, Stands, IsTaken, item}
+use Rattle.mps_reader.specs.declared.entries.Owner.TheVariants.{Column}
+use Rattle.mps_reader.specs.Progress.{EntriesStand, Stands, IsTaken}
 use Rattle.mps_reader.specs.Taking.{IsDone, RowsHave, IsMarked, IsColumnOpen, is_right_marker, faults_after}
 use Rattle.mps_reader.proofs.GrowthLaws.{true_not_false, append_nil, column_names-add}
 use Rattle.mps_reader.proofs.StayLaws.{column_names_stay, sections_stay, rows_stand_stay, sets_stay}

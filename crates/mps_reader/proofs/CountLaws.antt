@@ -1,15 +1,15 @@
 -- Which entries of a row count, by its kind and by whether it is the objective.
-use Rattle.std.specs.Prelude.{◌≡◌, ℕ, zero, suc, ◌==◌, Bool, true, false, cond, not, ◌&&◌, ◌||◌, List, [], ◌∷◌, ◌++◌, length, map, filter, find, position, slice_get, Option, None, Some, bytes_eq, codes, refl}
-use Rattle.std.specs.Option.{option_map, option_map_or, is_some}
-use Rattle.std.proofs.Common.{arith, ap, sym, ◌∙◌}
+use Rattle.std.specs.Prelude.{◌≡◌, ℕ, zero, suc, ◌==◌, Bool, true, false, cond, not, ◌&&◌, ◌||◌, List, [], ◌∷◌, map, filter, find, position, slice_get, Option, None, Some, bytes_eq, codes, refl}
+use Rattle.std.specs.Option.{option_map, option_map_or}
+use Rattle.std.proofs.Common.{ap, sym, ◌∙◌}
 use Rattle.std.proofs.lemmas.Bool.{eqb-true, eq-eqb}
-use Rattle.ip_defs.specs.Lists.{is_among, first_of}
-use Rattle.ip_defs.specs.Records.{Line, Entry, is_free, row_lines, row_name, is_objective, is_dropped_row, is_kept, is_kept_set}
+use Rattle.ip_defs.specs.Lists.{is_among}
+use Rattle.ip_defs.specs.Records.{Line, Entry, is_free, row_lines, row_name, is_kept, is_kept_set}
 use Rattle.mps_reader.specs.declared.entries.Owner.{Owner}
 use Rattle.mps_reader.specs.declared.entries.Owner.TheVariants.{Column, RightSides, Ranges}
 use Rattle.mps_reader.specs.Taking.{Owns, owner_word, counts_on}
 use Rattle.mps_reader.proofs.GrowthLaws.{true_not_false, or_false_left, or_false_right}
-use Rattle.mps_reader.proofs.NameLaws.{Apart, place, place_is, name_self, name_turn, not_first, not_true, same_tests}
+use Rattle.mps_reader.proofs.NameLaws.{Apart, place, place_is, name_self, not_first, not_true, same_tests}
 
 -- the number that an option has
 abbrev pub is_at : Option ℕ → ℕ → Bool

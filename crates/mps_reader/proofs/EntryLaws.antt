@@ -1,10 +1,10 @@
 -- What an entry changes in what is written for a row.
-use Rattle.std.specs.Prelude.{◌≡◌, ℕ, zero, suc, ◌+◌, ◌-◌, ◌==◌, ◌<◌, ◌≤◌, max, Bool, true, false, cond, not, ◌&&◌, ◌||◌, if◌then◌else◌, List, [], ◌∷◌, ◌++◌, length, map, filter, filter_map, find, fold, slice_get, slice_set, Option, None, Some, bytes_eq, codes, unwrap_or, refl}
+use Rattle.std.specs.Prelude.{◌≡◌, ℕ, ◌+◌, ◌==◌, ◌<◌, ◌≤◌, max, Bool, true, false, cond, not, ◌&&◌, ◌||◌, if◌then◌else◌, List, [], ◌∷◌, ◌++◌, length, map, filter, filter_map, find, Option, None, Some, bytes_eq, codes, refl}
 use Rattle.std.specs.List.{list_any, enumerate_from, cons_option}
 use Rattle.std.specs.Option.{option_map, option_map_or, option_or, is_some}
 use Rattle.std.proofs.Common.{arith, ap, sym, ◌∙◌, subst}
 use Rattle.std.proofs.lemmas.Bool.{eqb-true, eq-eqb}
-use Rattle.ip_defs.specs.Lists.{first_of, last_of, is_among, when}
+use Rattle.ip_defs.specs.Lists.{first_of, last_of, when}
 use Rattle.ip_defs.specs.Numbers.{decimals_of}
 use Rattle.ip_defs.specs.Records.{Line, Entry, is_kept, is_kept_set, is_dropped_row, is_objective, items_of, set_of, kept_entries, column_names}
 use Rattle.ip_defs.specs.Faults.{same_place}
@@ -15,7 +15,7 @@ use Rattle.mps_reader.specs.declared.entries.Owner.{Owner}
 use Rattle.mps_reader.specs.declared.entries.Owner.TheVariants.{Column, RightSides, Ranges}
 use Rattle.mps_reader.specs.Progress.{RowStands}
 use Rattle.mps_reader.specs.Taking.{IsLast, Owns, IsPut, owner_word, counted, has_number}
-use Rattle.mps_reader.proofs.GrowthLaws.{true_not_false, append_nil, append_assoc, filter-append, map-append, find-append, written_at-other, written_in-add, placed, enumerate-append, filter_map-append, or_none, kept_by, last_of-add}
+use Rattle.mps_reader.proofs.GrowthLaws.{true_not_false, append_nil, filter-append, map-append, find-append, written_at-other, written_in-add, placed, enumerate-append, filter_map-append, or_none, last_of-add}
 use Rattle.mps_reader.proofs.NameLaws.{name_same, name_self, name_turn, not_true, same_tests}
 
 and_left : (a b : Bool) → (a && b) ≡ true → a ≡ true
@@ -29,15 +29,6 @@ and_right false b h = absurd (true_not_false (sym h))
 and_both : (a b : Bool) → a ≡ true → b ≡ true → (a && b) ≡ true
 and_both true b h g = g
 and_both false b h g = h
-
--- the last element by its number
-pub last_by_number : {A : Type 0} (xs : List A) → last_of xs ≡ slice_get xs (length xs - 1)
-last_by_number [] = refl
-last_by_number (x ∷ []) = refl
-last_by_number (x ∷ y ∷ xs) =
-    let here : length (y ∷ xs) - 1 ≡ length xs = omega arith in
-    let there : length (x ∷ y ∷ xs) - 1 ≡ suc (length xs) = omega arith in
-    last_by_number (y ∷ xs) ∙ ap (slice_get (y ∷ xs)) here ∙ sym (ap (slice_get (x ∷ y ∷ xs)) there)
 
 -- ---- the most decimals
 

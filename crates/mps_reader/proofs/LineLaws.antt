@@ -1,9 +1,9 @@
 -- A line of entries: what the rows have before it and after it, and its faults.
-use Rattle.std.specs.Prelude.{◌≡◌, ◌⊎◌, ℕ, Bool, true, false, cond, not, ◌&&◌, ◌||◌, if◌then◌else◌, List, [], ◌∷◌, ◌++◌, length, map, filter, flat_map, Option, None, Some, bytes_eq, codes, Result, Ok, Err, refl}
+use Rattle.std.specs.Prelude.{◌≡◌, ◌⊎◌, ℕ, Bool, true, false, cond, ◌&&◌, if◌then◌else◌, List, [], ◌∷◌, ◌++◌, map, filter, flat_map, Some, bytes_eq, codes, Result, Ok, Err, refl}
 use Rattle.std.proofs.Common.{ap, sym, ◌∙◌, subst, inl, inr}
-use Rattle.ip_defs.specs.Lists.{first_of, when, is_among, after_those, with_earlier}
-use Rattle.ip_defs.specs.Records.{Line, Entry, items_of, words_of, row_lines, row_name, column_names, all_entries, entries_of, kept_entries, is_kept}
-use Rattle.ip_defs.specs.Faults.{entry_faults, pair_faults, item_faults, line_faults, all_line_faults}
+use Rattle.ip_defs.specs.Lists.{first_of, after_those}
+use Rattle.ip_defs.specs.Records.{Line, Entry, items_of, row_lines, row_name, column_names, all_entries, entries_of, kept_entries, is_kept}
+use Rattle.ip_defs.specs.Faults.{entry_faults, pair_faults, line_faults, all_line_faults}
 use Rattle.ip_defs.specs.declared.texts.MpsError.{MpsError}
 use Rattle.ip_defs.specs.declared.texts.MpsError.TheVariants as Out
 use Rattle.mps_reader.specs.declared.draft.RowDraft.{RowDraft}

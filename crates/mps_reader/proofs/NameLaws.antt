@@ -1,8 +1,8 @@
 -- Names among names: by what place they are found, and lists where each stands once.
-use Rattle.std.specs.Prelude.{◌≡◌, ℕ, zero, suc, ◌+◌, ◌==◌, Bool, true, false, cond, not, ◌&&◌, ◌||◌, List, [], ◌∷◌, ◌++◌, length, map, filter, find, position, slice_get, Option, None, Some, bytes_eq, refl}
-use Rattle.std.specs.List.{list_any, position_from}
-use Rattle.std.specs.Option.{option_map, option_map_or, is_some}
-use Rattle.std.proofs.Common.{arith, ap, sym, ◌∙◌, add-one}
+use Rattle.std.specs.Prelude.{◌≡◌, ℕ, zero, suc, ◌+◌, Bool, true, false, cond, ◌||◌, List, [], ◌∷◌, position, slice_get, Option, None, Some, bytes_eq, refl}
+use Rattle.std.specs.List.{position_from}
+use Rattle.std.specs.Option.{option_map, is_some}
+use Rattle.std.proofs.Common.{arith, ap, sym, ◌∙◌}
 use Rattle.std.proofs.lemmas.Slice.Eq.{bytes_eq-Decides}
 use Rattle.std.proofs.lemmas.Iterator.Adapters.{position_from-zero}
 use Rattle.ip_defs.specs.Lists.{is_among}

@@ -1,10 +1,10 @@
 -- A line of RHS or RANGES.
-use Rattle.std.specs.Prelude.{◌≡◌, ℕ, ◌==◌, ◌%◌, nat_le, Bool, true, false, not, ◌&&◌, ◌||◌, if◌then◌else◌, List, [], ◌∷◌, ◌++◌, length, drop, map, Option, None, Some, option_map, unwrap_or, bytes_eq, string_bytes, codes, Result, Ok, Err, refl}
+use Rattle.std.specs.Prelude.{◌≡◌, ℕ, nat_le, true, false, not, ◌&&◌, List, [], ◌∷◌, ◌++◌, length, map, Option, Some, option_map, unwrap_or, bytes_eq, string_bytes, codes, Result, refl}
 use Rattle.std.specs.Option.{option_map_or}
 use Rattle.std.proofs.Common.{ap, sym, ◌∙◌, subst}
 use Rattle.ip_defs.specs.Lists.{first_of, when, is_among}
-use Rattle.ip_defs.specs.Records.{Line, Entry, items_of, words_of, row_lines, row_name, column_names, all_entries, entries_of, entries_from, kept_entries, set_of, bound_set, is_kept_set}
-use Rattle.ip_defs.specs.Faults.{line_faults, pair_faults, all_line_faults}
+use Rattle.ip_defs.specs.Records.{Line, Entry, items_of, words_of, row_lines, row_name, column_names, all_entries, entries_of, entries_from, kept_entries, set_of, bound_set}
+use Rattle.ip_defs.specs.Faults.{line_faults, pair_faults}
 use Rattle.ip_defs.specs.declared.texts.MpsError.{MpsError}
 use Rattle.ip_defs.specs.declared.texts.MpsError.TheVariants as Out
 use Rattle.mps_reader.specs.declared.sections.Section.{Section}
@@ -13,12 +13,10 @@ use Rattle.mps_reader.specs.declared.draft.RowTable.{RowTable}
 use Rattle.mps_reader.specs.declared.draft.Sets.{Sets}
 use Rattle.mps_reader.specs.declared.draft.Draft.{Draft}
 use Rattle.mps_reader.specs.declared.entries.Owner.{Owner}
-use Rattle.mps_reader.specs.declared.entries.Owner.TheVariants.{Column, RightSides, Ranges}
-use Rattle.mps_reader.specs.Progress.{EntriesStand, SetsStand, Stands, IsTaken, section_word, item}
-use Rattle.mps_reader.specs.Taking.{IsDone, RowsHave, Owns, AreEntriesTaken, IsSetLine, IsSetKept, owner_word, set_owner, faults_after}
+use Rattle.mps_reader.specs.Progress.{EntriesStand, Stands, IsTaken, section_word, item}
+use Rattle.mps_reader.specs.Taking.{RowsHave, Owns, AreEntriesTaken, IsSetLine, IsSetKept, set_owner, faults_after}
 use Rattle.mps_reader.proofs.GrowthLaws.{true_not_false, items_of-add}
 use Rattle.mps_reader.proofs.StayLaws.{items_stay, column_names_stay, sections_stay, columns_stand_stay, bounds_stand_stay}
-use Rattle.mps_reader.proofs.NameLaws.{name_self}
 use Rattle.mps_reader.proofs.TakingLaws.{IsDone_map}
 use Rattle.mps_reader.proofs.LineLaws.{rows_begin, rows_end, pair_faults_are, no_fault_more, taken}
 

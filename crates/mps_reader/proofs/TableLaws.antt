@@ -1,14 +1,14 @@
 -- The table of rows after an entry.
-use Rattle.std.specs.Prelude.{◌≡◌, ◌⊎◌, ℕ, zero, suc, ◌==◌, ◌≤◌, nat_lt, Bool, true, false, not, ◌&&◌, ◌||◌, List, [], ◌∷◌, ◌++◌, length, map, filter, position, slice_get, slice_set, Option, None, Some, bytes_eq, string_bytes, codes, unwrap_or, Result, Ok, Err, refl}
+use Rattle.std.specs.Prelude.{◌≡◌, ℕ, zero, suc, ◌==◌, ◌≤◌, nat_lt, Bool, true, false, not, ◌&&◌, List, [], ◌∷◌, ◌++◌, length, map, position, slice_get, slice_set, None, Some, bytes_eq, string_bytes, codes, unwrap_or, Result, refl}
 use Rattle.std.specs.List.{list_any}
 use Rattle.std.specs.Vec.{with_item}
 use Rattle.std.proofs.Common.{arith, ap, sym, ◌∙◌, subst, ◌-◌, ◌<◌, get_or, take, drop, Bor}
 use Rattle.std.proofs.lemmas.Bool.{eqb-true, eqb-false, ltb-false}
 use Rattle.std.proofs.lemmas.Option.{get_or_from_slice_get, slice_get_past}
 use Rattle.std.proofs.Math.Seq.{map-set_same, take-length}
-use Rattle.ip_defs.specs.Lists.{first_of, is_among, when, where_true}
+use Rattle.ip_defs.specs.Lists.{first_of, is_among, when}
 use Rattle.ip_defs.specs.Numbers.{number_of, is_number, decimals_of}
-use Rattle.ip_defs.specs.Records.{Line, Entry, is_free, row_kind, row_name, row_lines, is_kept, column_names, entries_from}
+use Rattle.ip_defs.specs.Records.{Line, Entry, is_free, row_kind, row_name, row_lines, is_kept, entries_from}
 use Rattle.ip_defs.specs.Faults.{entry_faults, same_place}
 use Rattle.ip_defs.specs.TextModels.{number_at, no_number}
 use Rattle.ip_defs.specs.declared.texts.Number.{Number}
@@ -19,7 +19,7 @@ use Rattle.mps_reader.specs.declared.draft.RowTable.{RowTable}
 use Rattle.mps_reader.specs.declared.entries.Owner.{Owner}
 use Rattle.mps_reader.specs.Progress.{RowsStand, kind_word}
 use Rattle.mps_reader.specs.Taking.{IsDone, Owns, IsPut, RowsHave, IsEntryTaken, AreEntriesTaken, faults_after, entry, owner_word, has_number, counts_on}
-use Rattle.mps_reader.proofs.GrowthLaws.{true_not_false, first_stays, append_assoc}
+use Rattle.mps_reader.proofs.GrowthLaws.{first_stays, append_assoc}
 use Rattle.mps_reader.proofs.NameLaws.{position_found, Apart-from, name_same, not_true}
 use Rattle.mps_reader.proofs.CountLaws.{counts, is_at}
 use Rattle.mps_reader.proofs.EntryLaws.{RowHas, has_same_place, idle_entry, other_row, own_row}

@@ -1,5 +1,5 @@
 -- What a draft says of the whole is what its lines say.
-use Rattle.std.specs.Prelude.{◌≡◌, ℕ, zero, suc, ◌+◌, ◌<◌, ◌≤◌, max, ◌||◌, if◌then◌else◌, neg_ℤ, filter, Bool, true, false, not, ◌&&◌, cond, List, [], ◌∷◌, ◌++◌, length, map, flat_map, find, position, slice_get, string_bytes, Option, None, Some, option_map, unwrap_or, bytes_eq, codes, Result, Ok, Err, ℤ}
+use Rattle.std.specs.Prelude.{◌≡◌, ℕ, zero, suc, ◌<◌, ◌≤◌, max, ◌||◌, if◌then◌else◌, neg_ℤ, filter, Bool, true, false, not, ◌&&◌, cond, List, [], ◌∷◌, ◌++◌, length, map, flat_map, find, position, slice_get, string_bytes, Option, None, Some, option_map, unwrap_or, bytes_eq, codes, Result, Ok, Err, ℤ}
 use Rattle.std.specs.List.{list_any}
 use Rattle.std.specs.Option.{option_map_or, is_none, ForSome}
 use Rattle.std.proofs.Common.{refl, arith, ap, sym, ◌∙◌, get_or, subst}
@@ -8,9 +8,9 @@ use Rattle.mps_reader.proofs.PlaceLaws.{position_cons}
 use Rattle.decimals.specs.Decimals.{IsBelowLarge}
 use Rattle.ip_defs.specs.Lists.{first_of, when, is_among}
 use Rattle.ip_defs.specs.Limits.{AreOrdered, IsRowShaped, IsWellShaped}
-use Rattle.ip_defs.specs.Records.{Line, row_lines, row_name, row_kind, is_free, objective, column_names, kept_entries, words_of}
-use Rattle.ip_defs.specs.Faults.{all_line_faults, is_ended, continuous_faults, bound_missing, upper_faults, is_negative_upper, limit_faults, faults_of_lines, lower_is_missing, upper_is_missing}
-use Rattle.ip_defs.specs.TextModels.{units, no_number, decimals_in, column_from, row_from, model_from, row_decimals, is_integer, lower_entry, upper_entry, lower_side, upper_side, lower_by, written_in, written_for}
+use Rattle.ip_defs.specs.Records.{Line, row_lines, row_name, row_kind, is_free, objective, column_names, kept_entries}
+use Rattle.ip_defs.specs.Faults.{is_ended, continuous_faults, bound_missing, upper_faults, is_negative_upper, limit_faults, faults_of_lines, lower_is_missing, upper_is_missing}
+use Rattle.ip_defs.specs.TextModels.{units, no_number, decimals_in, column_from, row_from, model_from, row_decimals, lower_entry, upper_entry, upper_side, lower_by, written_in, written_for}
 use Rattle.ip_defs.specs.declared.texts.Number.{Number}
 use Rattle.ip_defs.specs.declared.texts.How.{How}
 use Rattle.ip_defs.specs.declared.texts.Side.TheVariants.{Lower, Upper}
@@ -23,17 +23,14 @@ use Rattle.mps_reader.specs.declared.sections.Section.{Section}
 use Rattle.mps_reader.specs.declared.sections.Section.TheVariants as Sections
 use Rattle.mps_reader.specs.declared.draft.RowDraft.{RowDraft}
 use Rattle.mps_reader.specs.declared.draft.ColumnDraft.{ColumnDraft}
-use Rattle.mps_reader.specs.declared.draft.UpperBound.{UpperBound}
 use Rattle.mps_reader.specs.declared.draft.Draft.{Draft}
-use Rattle.mps_reader.specs.declared.whole.Rule.{Rule}
 use Rattle.mps_reader.specs.declared.whole.Rule.TheVariants.{Integer, Bounded, NotNegative}
-use Rattle.mps_reader.specs.Below.{AreBelowLarge, AreWithin, IsRowBelow, AreRowsBelow}
+use Rattle.mps_reader.specs.Below.{AreBelowLarge, AreWithin, AreRowsBelow}
 use Rattle.mps_reader.specs.Clamps.{clamped_coefs, clamped_row, clamped_column, clamped_parts}
 use Rattle.ip_defs.specs.Faults.{IsFirst}
-use Rattle.mps_reader.specs.Drafted.{asked, column_faults, continuous_fault, missing_sides, negative_fault, is_negative_bound, is_end, is_free_kind, drafted_coefs, drafted_row, drafted_rows, drafted_columns, drafted_decimals, drafted_lower, drafted_upper, drafted_model, drafted_column_faults, row_names}
+use Rattle.mps_reader.specs.Drafted.{asked, column_faults, is_negative_bound, is_end, is_free_kind, drafted_coefs, drafted_row, drafted_rows, drafted_columns, drafted_decimals, drafted_lower, drafted_model, drafted_column_faults, row_names}
 use Rattle.mps_reader.specs.Drafted.{column_names as drafted_names}
 use Rattle.mps_reader.specs.Finished.{HasCounts, IsDrafted, IsFinished, IsLimited}
-use Rattle.ip_defs.specs.TextModels.{IsHow}
 use Rattle.mps_reader.specs.Progress.{Stands, ColumnStands, section_word, kind_word, upper_said}
 use Rattle.mps_reader.proofs.WrittenLaws.{entries_below, entries_within, written_for_below, coefs_ordered}
 use Rattle.mps_reader.proofs.FaultLaws.{first_later}

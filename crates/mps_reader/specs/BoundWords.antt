@@ -1,5 +1,5 @@
 -- The kinds of bounds, and what a bound says of its column.
-use Rattle.std.specs.Prelude.{◌≡◌, ℕ, ◌==◌, nat_le, Bool, false, ◌&&◌, ◌||◌, not, if◌then◌else◌, List, [], ◌∷◌, length, Option, None, Some, codes, ℤ, pos}
+use Rattle.std.specs.Prelude.{◌≡◌, ℕ, nat_le, Bool, ◌&&◌, ◌||◌, not, if◌then◌else◌, List, [], ◌∷◌, length, Option, Some, codes, ℤ, pos}
 use Rattle.ip_defs.specs.Lists.{is_among, where_true, or_else}
 use Rattle.ip_defs.specs.Numbers.{is_large}
 use Rattle.ip_defs.specs.Records.{Line, takes_number}

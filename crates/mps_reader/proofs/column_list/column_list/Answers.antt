@@ -1,4 +1,4 @@
-use Rattle.std.proofs.Common.{arith, refl, sym, ap, ◌∙◌, ◌≡◌, ◌≤◌, ◌++◌, ℕ, suc, ◌+◌, ◌<◌, List, [], drop, get_or, length, ◌∷◌, map}
+use Rattle.std.proofs.Common.{arith, sym, ap, ◌∙◌, ◌≡◌, ◌++◌, ℕ, suc, ◌+◌, List, [], drop, get_or, ◌∷◌, map}
 use Rattle.std.specs.Prelude.{string_bytes, false, None}
 use Rattle.std.specs.Option.{is_some}
 use Rattle.ip_defs.specs.declared.texts.Number.{Number}

@@ -1,4 +1,4 @@
-use Rattle.std.proofs.Common.{◌≡◌, ◌∙◌, ap, sym, subst, map, position, bytes_eq, string_bytes, inr}
+use Rattle.std.proofs.Common.{◌∙◌, ap, sym, subst, map, position, bytes_eq, string_bytes, inr}
 use Rattle.ip_defs.specs.Lists.{first_of, when}
 use Rattle.ip_defs.specs.declared.texts.MpsError.TheVariants as Out
 use Rattle.mps_reader.specs.Taking.{IsColumnAdded, IsColumnOpen}

@@ -1,5 +1,5 @@
 use Rattle.std.specs.Prelude.{not}
-use Rattle.std.proofs.Common.{◌≡◌, ◌∙◌, sym, ap, map, string_bytes, bytes_eq, position, Some, None}
+use Rattle.std.proofs.Common.{◌∙◌, sym, ap, map, string_bytes}
 use Rattle.ip_defs.specs.Lists.{first_of, when, is_among}
 use Rattle.ip_defs.specs.Numbers.{is_number}
 use Rattle.ip_defs.specs.declared.texts.MpsError.TheVariants as Out

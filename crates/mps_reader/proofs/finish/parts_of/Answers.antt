@@ -1,4 +1,4 @@
-use Rattle.std.proofs.Common.{arith, sym, ap, ◌∙◌, ◌≡◌, List, map, to_z, of_z, ℕ, ℤ, length, ◌<◌}
+use Rattle.std.proofs.Common.{arith, ap, ◌∙◌, ◌≡◌, List, map, to_z, of_z, ℕ, ℤ, length, ◌<◌}
 use Rattle.std.specs.Int.{w64}
 use Rattle.std.specs.Prelude.{string_bytes, neg_ℤ, unwrap_or, slice_get}
 use Rattle.std.proofs.lemmas.Int.{ints}

@@ -1,9 +1,7 @@
-use Rattle.std.proofs.Common.{arith, refl, sym, ap, ◌∙◌, ◌≡◌, ◌++◌, ℕ, ◌+◌, ◌<◌, List, [], drop, get_or, length, ◌∷◌, drop-cons, pos, suc, to_z, of_z}
+use Rattle.std.proofs.Common.{arith, sym, ap, ◌∙◌, ◌≡◌, ◌++◌, ◌+◌, [], drop, get_or, ◌∷◌, drop-cons, pos, suc, to_z, of_z}
 use Rattle.std.specs.Int.{w128, w64}
 use Rattle.std.proofs.lemmas.Int.{ints}
-use Rattle.ip_defs.specs.TextModels.{units}
-use Rattle.ip_defs.specs.declared.texts.Number.{Number}
-use Rattle.ip_defs.specs.declared.texts.Number.TheVariants.{Dec, Large}
+use Rattle.ip_defs.specs.declared.texts.Number.TheVariants.{Dec}
 use Rattle.mps_reader.specs.Clamps.{clamped, clamped_coefs}
 use Rattle.mps_reader.specs.Drafted.{drafted_coefs}
 use Rattle.mps_reader.proofs.FinishLaws.{coefs_skip, coefs_take}

@@ -1,4 +1,4 @@
-use Rattle.std.proofs.Common.{arith, refl, sym, ap, ◌∙◌, ◌≡◌, ◌++◌, ◌+◌, ◌<◌, [], drop, length, ◌∷◌, map}
+use Rattle.std.proofs.Common.{arith, sym, ap, ◌∙◌, ◌++◌, ◌+◌, drop, map}
 use Rattle.std.specs.Prelude.{string_bytes}
 use Rattle.mps_reader.specs.Clamps.{clamped_row}
 use Rattle.mps_reader.specs.Drafted.{drafted_row, drafted_rows}

@@ -1,6 +1,6 @@
 use Rattle.std.proofs.Common.{◌==◌, ap, sym, ◌∙◌, false}
 use Rattle.std.specs.Option.{option_map_or}
-use Rattle.mps_reader.proofs.EntryLaws.{last_by_number}
+use Rattle.mps_reader.proofs.PlaceLaws.{last_by_number}
 use Rattle.mps_reader.proofs.draft.RowDraft.has_column.Goals as goal
 
 pub returns-in-Some : goal.returns-in-Some

@@ -1,6 +1,6 @@
 -- How a draft grows by a line of BOUNDS.
-use Rattle.std.specs.Prelude.{◌≡◌, ℕ, zero, suc, ◌==◌, nat_le, Bool, true, false, cond, List, [], ◌∷◌, ◌++◌, length, map, filter, position, slice_get, slice_set, slice_index_or, Option, None, Some, option_map, unwrap_or, not, ◌&&◌, ◌||◌, bytes_eq, codes, string_bytes, if◌then◌else◌, refl}
-use Rattle.std.specs.Option.{option_or, option_map_or, is_none, is_some}
+use Rattle.std.specs.Prelude.{◌≡◌, ℕ, zero, suc, Bool, true, false, cond, List, [], ◌∷◌, ◌++◌, length, map, filter, position, slice_get, slice_set, Option, None, Some, option_map, unwrap_or, not, ◌&&◌, ◌||◌, bytes_eq, codes, string_bytes, refl}
+use Rattle.std.specs.Option.{option_map_or, is_none, is_some}
 use Rattle.std.specs.List.{list_any}
 use Rattle.std.proofs.Common.{◌<◌, get_or, sym, ◌∙◌, ap, subst, arith}
 use Rattle.std.proofs.lemmas.Option.{get_or_from_slice_get}
@@ -10,11 +10,10 @@ use Rattle.std.proofs.lemmas.List.Folds.{list_any-append}
 use Rattle.std.proofs.lemmas.Slice.Eq.{bytes_eq-Decides}
 use Rattle.ip_defs.specs.Lists.{first_of, last_of, is_among, when, or_else, where_true}
 use Rattle.ip_defs.specs.Numbers.{is_number, number_of}
-use Rattle.ip_defs.specs.Records.{Line, items_of, words_of, row_lines, row_name, set_of, kept_entries, field, is_kept_bound, bound_kind, bound_set, bound_column, bound_text, bounds_on, takes_number, takes_none, column_name, column_names, column_lines, first_lines, has_column, in_force, is_marker}
+use Rattle.ip_defs.specs.Records.{Line, items_of, words_of, row_lines, row_name, set_of, kept_entries, bound_kind, bound_set, bound_column, bound_text, bounds_on, takes_number, takes_none, column_name, column_names, first_lines, has_column, in_force}
 use Rattle.ip_defs.specs.Faults.{line_faults, bound_faults}
-use Rattle.ip_defs.specs.TextModels.{is_integer, kind_is, lower_by, lower_entry, no_number, number_at, sets_lower, sets_upper, upper_by, upper_entry}
+use Rattle.ip_defs.specs.TextModels.{is_integer, kind_is, lower_by, lower_entry, no_number, number_at, sets_lower, sets_upper, upper_entry}
 use Rattle.ip_defs.specs.declared.texts.Number.{Number}
-use Rattle.ip_defs.specs.declared.texts.MpsError.{MpsError}
 use Rattle.ip_defs.specs.declared.texts.MpsError.TheVariants.{SectionOrder, BoundKind as WrongKind, FieldCount, UnknownColumn, Number as NoNumber}
 use Rattle.mps_reader.specs.declared.bounds.BoundKind.{BoundKind}
 use Rattle.mps_reader.specs.declared.bounds.BoundKind.TheVariants.{Lower, LowerInteger, Upper, UpperInteger, Fixed, Free, NoLower, NoUpper, Binary}
@@ -22,11 +21,9 @@ use Rattle.mps_reader.specs.declared.draft.ColumnDraft.{ColumnDraft}
 use Rattle.mps_reader.specs.declared.draft.ColumnTable.{ColumnTable}
 use Rattle.mps_reader.specs.declared.draft.Draft.{Draft}
 use Rattle.mps_reader.specs.BoundWords.{Says, after_bound, bound_word, has_right_count, integer_words, lower_of, numbered_words, plain_words, upper_of}
-use Rattle.mps_reader.specs.Progress.{item, upper_said, AreApart, Stands, SectionsStand, RowsStand, EntriesStand, ColumnsStand, ColumnStands, BoundsStand, SetsStand}
-use Rattle.std.proofs.Math.Bool.{or-false}
-use Rattle.mps_reader.proofs.GrowthLaws.{true_not_false, faults-add, append_nil, filter-append, items_of-add, last_of-add, column_names-add, is_new_column, map-append}
-use Rattle.mps_reader.proofs.StayLaws.{by_last, items_stay, first_lines_stay, column_names_stay, sections_stay, rows_stand_stay, entries_stay, columns_stand_stay}
-use Rattle.mps_reader.proofs.SectionLaws.{or_left_true}
+use Rattle.mps_reader.specs.Progress.{item, upper_said, AreApart, Stands, SectionsStand, RowsStand, EntriesStand, ColumnsStand, ColumnStands, BoundsStand}
+use Rattle.mps_reader.proofs.GrowthLaws.{true_not_false, faults-add, append_nil, filter-append, items_of-add, last_of-add}
+use Rattle.mps_reader.proofs.StayLaws.{items_stay, first_lines_stay, column_names_stay, sections_stay, rows_stand_stay, entries_stay, columns_stand_stay}
 use Rattle.mps_reader.proofs.ColumnLaws.{names_among}
 use Rattle.mps_reader.proofs.PlaceLaws.{place_of_name, place_where_any}
 

@@ -1,19 +1,19 @@
 -- Clamped programs pass the limits that the programs themselves pass, and are the programs where none is passed.
-use Rattle.std.specs.Prelude.{◌≡◌, ℕ, zero, suc, ◌+◌, ◌^◌, ◌<◌, ◌≤◌, nat_lt, Bool, true, false, ◌||◌, List, [], ◌∷◌, ◌++◌, length, map, flat_map, sum_by, slice_get, Option, Some, None, option_map, unsigned_abs, ℤ, pos}
+use Rattle.std.specs.Prelude.{◌≡◌, ℕ, suc, ◌+◌, ◌^◌, ◌≤◌, nat_lt, Bool, true, false, ◌||◌, List, [], ◌∷◌, ◌++◌, length, map, flat_map, sum_by, slice_get, Option, Some, None, option_map, unsigned_abs, ℤ}
 use Rattle.std.specs.List.{enumerate_from, list_any}
 use Rattle.std.specs.Option.{ForSome, option_map_or}
-use Rattle.std.proofs.Common.{refl, arith, ap, sym, ◌∙◌, get_or, subst}
+use Rattle.std.proofs.Common.{refl, arith, ap, sym, ◌∙◌}
 use Rattle.std.proofs.lemmas.Int.{ints, clamps}
 use Rattle.std.proofs.lemmas.List.Sums.{sum_by-cons}
 use Rattle.std.proofs.lemmas.Bool.{ltb-true, ltb-false}
 use Rattle.std.proofs.lemmas.Option.{slice_get-map}
-use Rattle.ip_defs.specs.Limits.{above, limit_at, is_long, column_limits, row_limits, limits_of, value_at, AreSmall, IsWellShaped, IsColumn, IsRow, IsWithinLimits}
+use Rattle.ip_defs.specs.Limits.{above, limit_at, is_long, column_limits, row_limits, limits_of, AreSmall, IsColumn, IsRow, IsWithinLimits}
 use Rattle.ip_defs.specs.declared.programs.Column.{Column}
 use Rattle.ip_defs.specs.declared.programs.Row.{Row}
 use Rattle.ip_defs.specs.declared.programs.Parts.{Parts}
 use Rattle.ip_defs.specs.declared.limits.Limit.{Limit}
 use Rattle.ip_defs.specs.declared.limits.What.TheVariants.{Columns, Rows, Entries, Name, Cost, Lower, Upper, RowName, Coef, Side, Objective, Constant}
-use Rattle.mps_reader.specs.Clamps.{beyond, clamped, clamped_column, clamped_coefs, clamped_row, clamped_parts}
+use Rattle.mps_reader.specs.Clamps.{clamped, clamped_column, clamped_coefs, clamped_row, clamped_parts}
 
 -- a clamped number passes the same sizes
 pub clamp_above : (most : ℕ) (z : ℤ) → most ≤ 2 ^ 62 → above most (clamped z) ≡ above most z

@@ -1,27 +1,17 @@
 -- The columns after a line of COLUMNS.
-use Rattle.std.specs.Prelude.{◌≡◌, ℕ, zero, suc, ◌+◌, ◌==◌, ◌<◌, nat_le, Bool, true, false, cond, not, ◌&&◌, ◌||◌, if◌then◌else◌, List, [], ◌∷◌, ◌++◌, length, drop, map, filter, flat_map, find, position, slice_get, Option, None, Some, option_map, option_and_then, bytes_eq, string_bytes, codes, refl}
-use Rattle.std.specs.Option.{option_map_or, option_or, is_some}
+use Rattle.std.specs.Prelude.{◌≡◌, ℕ, ◌+◌, nat_le, Bool, true, false, cond, not, ◌&&◌, ◌||◌, if◌then◌else◌, List, [], ◌∷◌, ◌++◌, length, drop, map, filter, flat_map, find, None, Some, option_map, bytes_eq, codes, refl}
 use Rattle.std.specs.List.{list_any, cons_option}
-use Rattle.std.proofs.Common.{arith, ap, sym, ◌∙◌, subst}
-use Rattle.std.proofs.lemmas.Bool.{eqb-true, eq-eqb}
+use Rattle.std.proofs.Common.{ap, sym, ◌∙◌}
 use Rattle.std.proofs.lemmas.List.Folds.{list_any-append}
-use Rattle.std.proofs.lemmas.Option.{slice_get_within}
-use Rattle.ip_defs.specs.Lists.{first_of, last_of, is_among, when, with_earlier}
-use Rattle.ip_defs.specs.Records.{Line, Entry, field, items_of, column_lines, column_name, column_names, first_lines, has_column, in_force, is_marker, is_columns, all_entries, entries_of, entries_from, kept_entries, is_kept, bounds_on, set_of, names_set}
-use Rattle.ip_defs.specs.Faults.{is_split}
-use Rattle.ip_defs.specs.TextModels.{is_integer, lower_entry, upper_entry, lower_by, sets_lower, sets_upper, kind_is, written_at, written_in, number_at}
-use Rattle.ip_defs.specs.declared.texts.Number.{Number}
+use Rattle.ip_defs.specs.Lists.{is_among, when}
+use Rattle.ip_defs.specs.Records.{Line, Entry, items_of, column_lines, column_name, column_names, has_column, is_marker, all_entries, entries_of, entries_from, kept_entries, is_kept, set_of, names_set}
+use Rattle.ip_defs.specs.TextModels.{written_at, written_in, number_at}
 use Rattle.mps_reader.specs.declared.draft.RowDraft.{RowDraft}
-use Rattle.mps_reader.specs.declared.draft.ColumnDraft.{ColumnDraft}
-use Rattle.mps_reader.specs.declared.draft.ColumnTable.{ColumnTable}
-use Rattle.mps_reader.specs.Progress.{AreApart, EntriesStand, RowStands, ColumnsStand, ColumnStands, BoundsStand, column_of, upper_said, item}
-use Rattle.mps_reader.specs.Taking.{IsLast, IsColumnAdded, IsColumnOpen, IsMarked}
-use Rattle.mps_reader.proofs.GrowthLaws.{true_not_false, append_nil, append_assoc, filter-append, map-append, items_of-add, last_of-add, column_names-add, is_new_column, placed, or_false_left, or_false_right, and_false}
-use Rattle.mps_reader.proofs.StayLaws.{by_last, items_stay, column_names_stay, first_lines-add, bounds_on_stay}
-use Rattle.mps_reader.proofs.SectionLaws.{and_right}
-use Rattle.mps_reader.proofs.NameLaws.{name_same, name_turn, not_true, same_tests, position_found, among_at}
-use Rattle.mps_reader.proofs.PlaceLaws.{bytes_same, position_append, place_where_any, get_of_more, apart_more}
-use Rattle.mps_reader.proofs.EntryLaws.{written_in-snoc}
+use Rattle.mps_reader.specs.Progress.{EntriesStand, item}
+use Rattle.mps_reader.proofs.GrowthLaws.{append_nil, filter-append, map-append, items_of-add, column_names-add, is_new_column, or_false_left, or_false_right, and_false}
+use Rattle.mps_reader.proofs.StayLaws.{by_last}
+use Rattle.mps_reader.proofs.NameLaws.{name_same, name_turn}
+use Rattle.mps_reader.proofs.EntryLaws.{written_in-snoc, and_right}
 
 or_again : (a b : Bool) → (a || b) ≡ ((a || false) || b)
 or_again true b = refl
@@ -50,8 +40,8 @@ column_lines-add ls l = ap (filter (λ k. not (is_marker k))) (items_of-add (cod
 has_column-add : (ls : List Line) (l : Line) (name : List ℕ) → has_column (ls ++ l ∷ []) name ≡ (has_column ls name || is_among name (map column_name (column_lines (l ∷ []))))
 has_column-add ls l name =
     ap (λ ks. is_among name (map column_name ks)) (column_lines-add ls l)
-        ∙ ap (is_among name) (map-append column_name (column_lines ls) (column_lines (l ∷ [])))
-        ∙ list_any-append (bytes_eq name) (map column_name (column_lines ls)) (map column_name (column_lines (l ∷ [])))
+    ∙ ap (is_among name) (map-append column_name (column_lines ls) (column_lines (l ∷ [])))
+    ∙ list_any-append (bytes_eq name) (map column_name (column_lines ls)) (map column_name (column_lines (l ∷ [])))
 
 -- the columns' lines of one line: none, or itself
 one_line : (l : Line) (P : List Line → Type 0) → P [] → P (l ∷ []) → P (column_lines (l ∷ []))
@@ -81,15 +71,15 @@ names_among name ls = by_last (λ ks. is_among name (column_names ks) ≡ has_co
         → (has_column ks name || is_among name (when (nat_le 1 (length (column_lines (l ∷ []))) && not (has_column ks (column_name l))) (column_name l))) ≡ (has_column ks name || is_among name (map column_name (column_lines (l ∷ []))))
     with_lines ks l =
         one_line l (λ one. (has_column ks name || is_among name (when (nat_le 1 (length one) && not (has_column ks (column_name l))) (column_name l))) ≡ (has_column ks name || is_among name (map column_name one)))
-            refl (came ks l (bytes_eq name (column_name l)) (has_column ks (column_name l)) refl refl)
+        refl (came ks l (bytes_eq name (column_name l)) (has_column ks (column_name l)) refl refl)
 
     more : (ks : List Line) (l : Line) → is_among name (column_names ks) ≡ has_column ks name → is_among name (column_names (ks ++ l ∷ [])) ≡ has_column (ks ++ l ∷ []) name
     more ks l so_far =
         ap (is_among name) (column_names-add ks l)
-            ∙ list_any-append (bytes_eq name) (column_names ks) (when (is_new_column ks l) (column_name l))
-            ∙ ap (λ b. b || is_among name (when (is_new_column ks l) (column_name l))) so_far
-            ∙ with_lines ks l
-            ∙ sym (has_column-add ks l name)
+        ∙ list_any-append (bytes_eq name) (column_names ks) (when (is_new_column ks l) (column_name l))
+        ∙ ap (λ b. b || is_among name (when (is_new_column ks l) (column_name l))) so_far
+        ∙ with_lines ks l
+        ∙ sym (has_column-add ks l name)
 
 -- ---- entries of a new column
 
@@ -106,11 +96,11 @@ no_entries name (l ∷ ls) h = by (l.is_item && bytes_eq l.section (codes "COLUM
     of_line : (m : Bool) → is_marker l ≡ m → bytes_eq l.section (codes "COLUMNS") ≡ true → is_among name (map column_name (cond (not m) (l ∷ []) [])) ≡ false → list_any (λ e. bytes_eq e.owner name) (entries_of l) ≡ false
     of_line true marker of absent =
         ap (λ b. list_any (λ e. bytes_eq e.owner name) (if b then (if is_marker l then [] else entries_from l.number (column_name l) (drop 1 l.fields)) else entries_from l.number (set_of l) (if names_set l then drop 1 l.fields else l.fields))) of
-            ∙ ap (λ b. list_any (λ e. bytes_eq e.owner name) (if b then [] else entries_from l.number (column_name l) (drop 1 l.fields))) marker
+        ∙ ap (λ b. list_any (λ e. bytes_eq e.owner name) (if b then [] else entries_from l.number (column_name l) (drop 1 l.fields))) marker
     of_line false marker of absent =
         ap (λ b. list_any (λ e. bytes_eq e.owner name) (if b then (if is_marker l then [] else entries_from l.number (column_name l) (drop 1 l.fields)) else entries_from l.number (set_of l) (if names_set l then drop 1 l.fields else l.fields))) of
-            ∙ ap (λ b. list_any (λ e. bytes_eq e.owner name) (if b then [] else entries_from l.number (column_name l) (drop 1 l.fields))) marker
-            ∙ none_from l.number (column_name l) name (drop 1 l.fields) (name_turn (column_name l) name ∙ or_false_left (bytes_eq name (column_name l)) false absent)
+        ∙ ap (λ b. list_any (λ e. bytes_eq e.owner name) (if b then [] else entries_from l.number (column_name l) (drop 1 l.fields))) marker
+        ∙ none_from l.number (column_name l) name (drop 1 l.fields) (name_turn (column_name l) name ∙ or_false_left (bytes_eq name (column_name l)) false absent)
 
     split_names : (ks : List Line) → is_among name (map column_name (filter (λ k. not (is_marker k)) (l ∷ ks))) ≡ (is_among name (map column_name (cond (not (is_marker l)) (l ∷ []) [])) || is_among name (map column_name (filter (λ k. not (is_marker k)) ks)))
     split_names ks = with_marker (is_marker l)
@@ -128,8 +118,8 @@ no_entries name (l ∷ ls) h = by (l.is_item && bytes_eq l.section (codes "COLUM
         let mine = or_false_left (is_among name (map column_name (cond (not (is_marker l)) (l ∷ []) []))) (has_column ls name) apart in
         let others = or_false_right (is_among name (map column_name (cond (not (is_marker l)) (l ∷ []) []))) (has_column ls name) apart in
         list_any-append (λ k. bytes_eq k.owner name) (entries_of l) (all_entries (codes "COLUMNS") ls)
-            ∙ ap (λ b. b || list_any (λ k. bytes_eq k.owner name) (all_entries (codes "COLUMNS") ls)) (of_line (is_marker l) refl (and_right l.is_item (bytes_eq l.section (codes "COLUMNS")) e) mine)
-            ∙ rest others
+        ∙ ap (λ b. b || list_any (λ k. bytes_eq k.owner name) (all_entries (codes "COLUMNS") ls)) (of_line (is_marker l) refl (and_right l.is_item (bytes_eq l.section (codes "COLUMNS")) e) mine)
+        ∙ rest others
 
 not_found : (keeps : Entry → Bool) (row name : List ℕ) (es : List Entry) → list_any (λ e. bytes_eq e.owner name) es ≡ false → find (λ e. bytes_eq e.row row && bytes_eq e.owner name) (filter keeps es) ≡ None
 not_found keeps row name [] h = refl
@@ -154,9 +144,9 @@ entries_wait before b c name names rows new h i row r at there =
     record {
       entries_are =
           was.entries_are
-              ∙ sym (append_nil (written_in es (column_names before) row))
-              ∙ sym (ap (λ o. written_in es (column_names before) row ++ cons_option (option_map (λ n. (0 + length (column_names before), n)) o) []) (nothing_written before name row new))
-              ∙ sym (written_in-snoc es row (column_names before) name);
+          ∙ sym (append_nil (written_in es (column_names before) row))
+          ∙ sym (ap (λ o. written_in es (column_names before) row ++ cons_option (option_map (λ n. (0 + length (column_names before), n)) o) []) (nothing_written before name row new))
+          ∙ sym (written_in-snoc es row (column_names before) name);
       right_side = was.right_side;
       range = was.range;
       decimals = was.decimals;

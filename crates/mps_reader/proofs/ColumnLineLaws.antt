@@ -1,20 +1,19 @@
 -- A line of COLUMNS.
-use Rattle.std.specs.Prelude.{◌≡◌, ℕ, zero, suc, ◌==◌, ◌<◌, Bool, true, false, cond, not, ◌&&◌, ◌||◌, if◌then◌else◌, List, [], ◌∷◌, ◌++◌, length, drop, map, slice_index_or, Option, None, Some, bytes_eq, codes, Result, Ok, Err, refl}
+use Rattle.std.specs.Prelude.{◌≡◌, ℕ, zero, suc, ◌==◌, ◌<◌, Bool, true, false, not, ◌&&◌, ◌||◌, if◌then◌else◌, List, [], ◌∷◌, ◌++◌, length, drop, map, slice_index_or, codes, Result, Err, refl}
 use Rattle.std.proofs.Common.{arith, ap, sym, ◌∙◌, ◌-◌, subst, take, get_or, Bor}
 use Rattle.std.proofs.lemmas.Bool.{eqb-true}
 use Rattle.std.proofs.lemmas.List.{length-map}
 use Rattle.std.proofs.Math.Seq.{take-length}
-use Rattle.ip_defs.specs.Lists.{first_of, when, is_among}
-use Rattle.ip_defs.specs.Records.{Line, Entry, field, items_of, words_of, row_lines, row_name, column_name, column_names, has_column, is_marker, in_force, all_entries, entries_of, entries_from, kept_entries}
-use Rattle.ip_defs.specs.Faults.{line_faults, marker_faults, pair_faults, is_split, all_line_faults}
+use Rattle.ip_defs.specs.Lists.{when, is_among}
+use Rattle.ip_defs.specs.Records.{Line, field, words_of, row_lines, row_name, column_name, column_names, has_column, is_marker, all_entries, entries_of, entries_from, kept_entries}
+use Rattle.ip_defs.specs.Faults.{line_faults, marker_faults, pair_faults, is_split}
 use Rattle.ip_defs.specs.declared.texts.MpsError.{MpsError}
 use Rattle.ip_defs.specs.declared.texts.MpsError.TheVariants as Out
 use Rattle.mps_reader.specs.declared.draft.RowTable.{RowTable}
 use Rattle.mps_reader.specs.declared.draft.ColumnTable.{ColumnTable}
 use Rattle.mps_reader.specs.declared.draft.Draft.{Draft}
-use Rattle.mps_reader.specs.declared.entries.Owner.{Owner}
-use Rattle.mps_reader.specs.declared.entries.Owner.TheVariants.{Column, RightSides, Ranges}
-use Rattle.mps_reader.specs.Progress.{EntriesStand, Stands, IsTaken, item}
+use Rattle.mps_reader.specs.declared.entries.Owner.TheVariants.{Column}
+use Rattle.mps_reader.specs.Progress.{EntriesStand, Stands, IsTaken}
 use Rattle.mps_reader.specs.Taking.{IsDone, RowsHave, IsMarked, IsColumnOpen, is_right_marker, faults_after}
 use Rattle.mps_reader.proofs.GrowthLaws.{true_not_false, append_nil, column_names-add}
 use Rattle.mps_reader.proofs.StayLaws.{column_names_stay, sections_stay, rows_stand_stay, sets_stay}
@@ -53,8 +52,8 @@ column_line_faults before n fields m rows marker count =
     let l = column_item n fields in
     let split : List MpsError = when (is_split before l) (Out.SplitColumn n) ++ pair_faults before l in
     ap (λ b. when (not b) (Out.SectionOrder n) ++ (when (not ((length fields == 3) || ((length fields == 5) && not (is_marker l)))) (Out.FieldCount n) ++ (if is_marker l then marker_faults before l else split))) rows
-        ∙ ap (λ b. when (not ((length fields == 3) || ((length fields == 5) && not b))) (Out.FieldCount n) ++ (if b then marker_faults before l else split)) marker
-        ∙ ap (λ b. when (not b) (Out.FieldCount n) ++ (if m then marker_faults before l else split)) count
+    ∙ ap (λ b. when (not ((length fields == 3) || ((length fields == 5) && not b))) (Out.FieldCount n) ++ (if b then marker_faults before l else split)) marker
+    ∙ ap (λ b. when (not b) (Out.FieldCount n) ++ (if m then marker_faults before l else split)) count
 
 -- ---- a marker
 
@@ -63,8 +62,8 @@ pub marker_line : (before : List Line) (d : Draft) (n : ℕ) (xs : List (Bor (Li
     → IsDone (when (not (is_right_marker d.columns.in_integers (get_or xs 2 e).now)) (Out.Marker n)) (λ _. IsMarked d.columns new (get_or xs 2 e).now) r → IsTaken before (column_item n (words xs)) (record d { columns = new }) r
 marker_line before d n xs e new r three long h there has_rows marker done =
     taken before l (record d { columns = new }) r
-        (IsDone_map (when (not (is_right_marker d.columns.in_integers (get_or xs 2 e).now)) (Out.Marker n)) (line_faults before l) (λ _. IsMarked d.columns new (get_or xs 2 e).now) (λ _. Stands ls (record d { columns = new })) r
-            (sym faults) (λ x none is. stand none (subst (IsMarked d.columns new) (sym third) is)) done)
+    (IsDone_map (when (not (is_right_marker d.columns.in_integers (get_or xs 2 e).now)) (Out.Marker n)) (line_faults before l) (λ _. IsMarked d.columns new (get_or xs 2 e).now) (λ _. Stands ls (record d { columns = new })) r
+    (sym faults) (λ x none is. stand none (subst (IsMarked d.columns new) (sym third) is)) done)
   where
     l : Line
     l = column_item n (words xs)
@@ -81,8 +80,8 @@ marker_line before d n xs e new r three long h there has_rows marker done =
     faults : line_faults before l ≡ when (not (is_right_marker d.columns.in_integers (get_or xs 2 e).now)) (Out.Marker n)
     faults =
         column_line_faults before n (words xs) true has_rows marker count
-            ∙ ap (λ b. when (not (is_right_marker b (field l 2))) (Out.Marker n)) (sym h.columns.in_integers)
-            ∙ ap (λ w. when (not (is_right_marker d.columns.in_integers w)) (Out.Marker n)) third
+        ∙ ap (λ b. when (not (is_right_marker b (field l 2))) (Out.Marker n)) (sym h.columns.in_integers)
+        ∙ ap (λ w. when (not (is_right_marker d.columns.in_integers w)) (Out.Marker n)) third
 
     names : column_names before ≡ column_names ls
     names = sym (column_names_stay before l (marker_none n (words xs) marker))
@@ -130,8 +129,8 @@ pub split_line : (before : List Line) (n : ℕ) (fields : List (List ℕ)) (new 
 split_line before n fields new columns r e count rows plain is done =
     let l = column_item n fields in
     taken before l new r
-        (subst (λ fs. IsDone fs (λ _. Stands (before ++ l ∷ []) new) r) (sym (column_line_faults before n fields false rows plain count))
-            (stopped (when (is_split before l) (Out.SplitColumn n)) (pair_faults before l) (λ (j : ℕ). IsColumnOpen before l j columns) (λ _. Stands (before ++ l ∷ []) new) r e is done))
+    (subst (λ fs. IsDone fs (λ _. Stands (before ++ l ∷ []) new) r) (sym (column_line_faults before n fields false rows plain count))
+    (stopped (when (is_split before l) (Out.SplitColumn n)) (pair_faults before l) (λ (j : ℕ). IsColumnOpen before l j columns) (λ _. Stands (before ++ l ∷ []) new) r e is done))
 
 pub entry_line : (before : List Line) (d : Draft) (n : ℕ) (fields entries : List (List ℕ)) (rows : RowTable) (columns : ColumnTable) (number : ℕ) (r : Result (Unit {0}) MpsError) → ((length fields == 3) || ((length fields == 5) && true)) ≡ true → Stands before d
     → is_among (codes "COLUMNS") (words_of before) ≡ true → is_among (codes "ROWS") (words_of before) ≡ true → is_marker (column_item n fields) ≡ false → entries ≡ drop 1 fields
@@ -139,10 +138,10 @@ pub entry_line : (before : List Line) (d : Draft) (n : ℕ) (fields entries : Li
     → IsTaken before (column_item n fields) (record d { rows = rows; columns = columns }) r
 entry_line before d n fields entries rows columns number r count h there has_rows plain rest together opened takes =
     taken before l (record d { rows = rows; columns = columns }) r
-        (IsDone_map (faults_after ls (Column number) (all_entries (codes "COLUMNS") before) (entries_from n (column_name l) entries)) (line_faults before l)
-            (λ _. RowsHave ls (Column number) (all_entries (codes "COLUMNS") before ++ entries_from n (column_name l) entries) rows) (λ _. Stands ls (record d { rows = rows; columns = columns })) r
-            (sym faults) (λ x none have. stand none have)
-            (takes ls (all_entries (codes "COLUMNS") before) (column_name l) (rows_begin before (Column number) n fields d.rows h.rows (rows_wait before d n fields plain h)) opened.last))
+    (IsDone_map (faults_after ls (Column number) (all_entries (codes "COLUMNS") before) (entries_from n (column_name l) entries)) (line_faults before l)
+    (λ _. RowsHave ls (Column number) (all_entries (codes "COLUMNS") before ++ entries_from n (column_name l) entries) rows) (λ _. Stands ls (record d { rows = rows; columns = columns })) r
+    (sym faults) (λ x none have. stand none have)
+    (takes ls (all_entries (codes "COLUMNS") before) (column_name l) (rows_begin before (Column number) n fields d.rows h.rows (rows_wait before d n fields plain h)) opened.last))
   where
     l : Line
     l = column_item n fields
@@ -156,9 +155,9 @@ entry_line before d n fields entries rows columns number r count h there has_row
     faults : line_faults before l ≡ faults_after ls (Column number) (all_entries (codes "COLUMNS") before) (entries_from n (column_name l) entries)
     faults =
         column_line_faults before n fields false has_rows plain count
-            ∙ ap (λ k. k ++ pair_faults before l) together
-            ∙ pair_faults_are before (Column number) n fields
-            ∙ ap (faults_after ls (Column number) (all_entries (codes "COLUMNS") before)) (sym entries_are)
+        ∙ ap (λ k. k ++ pair_faults before l) together
+        ∙ pair_faults_are before (Column number) n fields
+        ∙ ap (faults_after ls (Column number) (all_entries (codes "COLUMNS") before)) (sym entries_are)
 
     stand : faults_after ls (Column number) (all_entries (codes "COLUMNS") before) (entries_from n (column_name l) entries) ≡ [] → RowsHave ls (Column number) (all_entries (codes "COLUMNS") before ++ entries_from n (column_name l) entries) rows
         → Stands ls (record d { rows = rows; columns = columns })

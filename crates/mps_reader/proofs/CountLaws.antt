@@ -1,16 +1,15 @@
 -- Which entries of a row count, by its kind and by whether it is the objective.
-use Rattle.std.specs.Prelude.{◌≡◌, ℕ, zero, suc, ◌==◌, Bool, true, false, cond, not, ◌&&◌, ◌||◌, List, [], ◌∷◌, ◌++◌, length, map, filter, find, position, slice_get, Option, None, Some, bytes_eq, codes, refl}
-use Rattle.std.specs.Option.{option_map, option_map_or, is_some}
-use Rattle.std.proofs.Common.{arith, ap, sym, ◌∙◌}
+use Rattle.std.specs.Prelude.{◌≡◌, ℕ, zero, suc, ◌==◌, Bool, true, false, cond, not, ◌&&◌, ◌||◌, List, [], ◌∷◌, map, filter, find, position, slice_get, Option, None, Some, bytes_eq, codes, refl}
+use Rattle.std.specs.Option.{option_map, option_map_or}
+use Rattle.std.proofs.Common.{ap, sym, ◌∙◌}
 use Rattle.std.proofs.lemmas.Bool.{eqb-true, eq-eqb}
-use Rattle.ip_defs.specs.Lists.{is_among, first_of}
-use Rattle.ip_defs.specs.Records.{Line, Entry, is_free, row_lines, row_name, is_objective, is_dropped_row, is_kept, is_kept_set}
+use Rattle.ip_defs.specs.Lists.{is_among}
+use Rattle.ip_defs.specs.Records.{Line, Entry, is_free, row_lines, row_name, is_kept, is_kept_set}
 use Rattle.mps_reader.specs.declared.entries.Owner.{Owner}
 use Rattle.mps_reader.specs.declared.entries.Owner.TheVariants.{Column, RightSides, Ranges}
 use Rattle.mps_reader.specs.Taking.{Owns, owner_word, counts_on}
 use Rattle.mps_reader.proofs.GrowthLaws.{true_not_false, or_false_left, or_false_right}
-use Rattle.mps_reader.proofs.PlaceLaws.{bytes_same}
-use Rattle.mps_reader.proofs.NameLaws.{Apart, place, place_is, name_turn, not_first, not_true, same_tests}
+use Rattle.mps_reader.proofs.NameLaws.{Apart, place, place_is, name_self, not_first, not_true, same_tests}
 
 -- the number that an option has
 abbrev pub is_at : Option ℕ → ℕ → Bool
@@ -144,20 +143,20 @@ kept_at : (ls : List Line) (i : ℕ) (l : Line) (e : Entry) (in_columns in_set i
     → kept_on (is_among e.row (map row_name (filter is_free (row_lines ls)))) (named_first (row_lines ls) e.row) in_columns in_set in_ranges ≡ kept_on (is_free l) (is_at (position is_free (row_lines ls)) i) in_columns in_set in_ranges
 kept_at ls i l e in_columns in_set in_ranges apart at named =
     ap (λ x. kept_on (is_among x (map row_name (filter is_free (row_lines ls)))) (named_first (row_lines ls) x) in_columns in_set in_ranges) named
-        ∙ ap (λ b. kept_on b (named_first (row_lines ls) (row_name l)) in_columns in_set in_ranges) (among_free (row_lines ls) i l apart at)
-        ∙ ap (λ b. kept_on (is_free l) b in_columns in_set in_ranges) (objective_at (row_lines ls) i l apart at)
+    ∙ ap (λ b. kept_on b (named_first (row_lines ls) (row_name l)) in_columns in_set in_ranges) (among_free (row_lines ls) i l apart at)
+    ∙ ap (λ b. kept_on (is_free l) b in_columns in_set in_ranges) (objective_at (row_lines ls) i l apart at)
 
 -- the code's test says whether an entry on a row counts
 pub counts : (ls : List Line) (owner : Owner) (i : ℕ) (l : Line) (e : Entry) → Owns ls owner e.owner → Apart (map row_name (row_lines ls)) → slice_get (row_lines ls) i ≡ Some l → e.row ≡ row_name l
     → counts_on owner (is_free l) (is_at (position is_free (row_lines ls)) i) ≡ is_kept (owner_word owner) ls e
 counts ls (Column number) i l e owns apart at named =
     column_counts (is_free l) (is_at (position is_free (row_lines ls)) i) (is_kept_set (codes "COLUMNS") ls e.owner)
-        ∙ sym (kept_at ls i l e true (is_kept_set (codes "COLUMNS") ls e.owner) false apart at named)
+    ∙ sym (kept_at ls i l e true (is_kept_set (codes "COLUMNS") ls e.owner) false apart at named)
 counts ls (RightSides kept) i l e owns apart at named =
     ap (λ k. k && (not (is_free l) || is_at (position is_free (row_lines ls)) i)) (sym owns)
-        ∙ right_side_counts (is_free l) (is_at (position is_free (row_lines ls)) i) (is_kept_set (codes "RHS") ls e.owner)
-        ∙ sym (kept_at ls i l e false (is_kept_set (codes "RHS") ls e.owner) false apart at named)
+    ∙ right_side_counts (is_free l) (is_at (position is_free (row_lines ls)) i) (is_kept_set (codes "RHS") ls e.owner)
+    ∙ sym (kept_at ls i l e false (is_kept_set (codes "RHS") ls e.owner) false apart at named)
 counts ls (Ranges kept) i l e owns apart at named =
     ap (λ k. k && not (is_free l)) (sym owns)
-        ∙ range_counts (is_free l) (is_at (position is_free (row_lines ls)) i) (is_kept_set (codes "RANGES") ls e.owner) (objective_free (row_lines ls) i l at)
-        ∙ sym (kept_at ls i l e false (is_kept_set (codes "RANGES") ls e.owner) true apart at named)
+    ∙ range_counts (is_free l) (is_at (position is_free (row_lines ls)) i) (is_kept_set (codes "RANGES") ls e.owner) (objective_free (row_lines ls) i l at)
+    ∙ sym (kept_at ls i l e false (is_kept_set (codes "RANGES") ls e.owner) true apart at named)

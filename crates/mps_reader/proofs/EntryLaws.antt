@@ -1,10 +1,10 @@
 -- What an entry changes in what is written for a row.
-use Rattle.std.specs.Prelude.{◌≡◌, ℕ, zero, suc, ◌+◌, ◌-◌, ◌==◌, ◌<◌, ◌≤◌, max, Bool, true, false, cond, not, ◌&&◌, ◌||◌, if◌then◌else◌, List, [], ◌∷◌, ◌++◌, length, map, filter, filter_map, find, fold, slice_get, slice_set, Option, None, Some, bytes_eq, codes, unwrap_or, refl}
+use Rattle.std.specs.Prelude.{◌≡◌, ℕ, ◌+◌, ◌==◌, ◌<◌, ◌≤◌, max, Bool, true, false, cond, not, ◌&&◌, ◌||◌, if◌then◌else◌, List, [], ◌∷◌, ◌++◌, length, map, filter, filter_map, find, Option, None, Some, bytes_eq, codes, refl}
 use Rattle.std.specs.List.{list_any, enumerate_from, cons_option}
 use Rattle.std.specs.Option.{option_map, option_map_or, option_or, is_some}
 use Rattle.std.proofs.Common.{arith, ap, sym, ◌∙◌, subst}
 use Rattle.std.proofs.lemmas.Bool.{eqb-true, eq-eqb}
-use Rattle.ip_defs.specs.Lists.{first_of, last_of, is_among, when}
+use Rattle.ip_defs.specs.Lists.{first_of, last_of, when}
 use Rattle.ip_defs.specs.Numbers.{decimals_of}
 use Rattle.ip_defs.specs.Records.{Line, Entry, is_kept, is_kept_set, is_dropped_row, is_objective, items_of, set_of, kept_entries, column_names}
 use Rattle.ip_defs.specs.Faults.{same_place}
@@ -15,10 +15,16 @@ use Rattle.mps_reader.specs.declared.entries.Owner.{Owner}
 use Rattle.mps_reader.specs.declared.entries.Owner.TheVariants.{Column, RightSides, Ranges}
 use Rattle.mps_reader.specs.Progress.{RowStands}
 use Rattle.mps_reader.specs.Taking.{IsLast, Owns, IsPut, owner_word, counted, has_number}
-use Rattle.mps_reader.proofs.GrowthLaws.{true_not_false, append_nil, append_assoc, filter-append, map-append, find-append, written_at-other, written_in-add, placed, enumerate-append, filter_map-append, or_none, kept_by, last_of-add}
-use Rattle.mps_reader.proofs.SectionLaws.{and_left, and_right}
-use Rattle.mps_reader.proofs.PlaceLaws.{bytes_same}
-use Rattle.mps_reader.proofs.NameLaws.{name_same, name_turn, not_true, same_tests}
+use Rattle.mps_reader.proofs.GrowthLaws.{true_not_false, append_nil, filter-append, map-append, find-append, written_at-other, written_in-add, placed, enumerate-append, filter_map-append, or_none, last_of-add}
+use Rattle.mps_reader.proofs.NameLaws.{name_same, name_self, name_turn, not_true, same_tests}
+
+and_left : (a b : Bool) → (a && b) ≡ true → a ≡ true
+and_left true b h = refl
+and_left false b h = h
+
+pub and_right : (a b : Bool) → (a && b) ≡ true → b ≡ true
+and_right true b h = h
+and_right false b h = absurd (true_not_false (sym h))
 
 and_both : (a b : Bool) → a ≡ true → b ≡ true → (a && b) ≡ true
 and_both true b h g = g
@@ -44,8 +50,8 @@ most es name = largest 0 (decimals_in es name)
 most-append : (es fs : List Entry) (name : List ℕ) → most (es ++ fs) name ≡ max (most es name) (most fs name)
 most-append es fs name =
     ap (λ k. largest 0 (map (λ e. decimals_of (number_at e.text)) k)) (filter-append (λ e. bytes_eq e.row name) es fs)
-        ∙ ap (largest 0) (map-append (λ e. decimals_of (number_at e.text)) (filter (λ e. bytes_eq e.row name) es) (filter (λ e. bytes_eq e.row name) fs))
-        ∙ largest-append 0 (decimals_in es name) (decimals_in fs name)
+    ∙ ap (largest 0) (map-append (λ e. decimals_of (number_at e.text)) (filter (λ e. bytes_eq e.row name) es) (filter (λ e. bytes_eq e.row name) fs))
+    ∙ largest-append 0 (decimals_in es name) (decimals_in fs name)
 
 most_of_three : (a b c : List Entry) (name : List ℕ) → most (a ++ b ++ c) name ≡ max (max (most a name) (most b name)) (most c name)
 most_of_three a b c name = most-append (a ++ b) c name ∙ ap (λ n. max n (most c name)) (most-append a b name)
@@ -66,7 +72,7 @@ filter_map-same f g (x ∷ xs) h = ap (λ o. cons_option o (filter_map f xs)) (h
 written_in-other : (es : List Entry) (e : Entry) (cs : List (List ℕ)) (row : List ℕ) → bytes_eq e.row row ≡ false → written_in (es ++ e ∷ []) cs row ≡ written_in es cs row
 written_in-other es e cs row h =
     filter_map-same (placed (es ++ e ∷ []) row) (placed es row) (enumerate_from 0 cs)
-        (λ p. ap (option_map (λ n. (p.0, n))) (written_at-other es e row p.1 (ap (λ b. b && bytes_eq e.owner p.1) h)))
+    (λ p. ap (option_map (λ n. (p.0, n))) (written_at-other es e row p.1 (ap (λ b. b && bytes_eq e.owner p.1) h)))
 
 find-more : {A : Type 0} (test : A → Bool) (xs : List A) (x : A) (t : Bool) → test x ≡ t → find test (xs ++ x ∷ []) ≡ option_or (find test xs) (if t then Some x else None)
 find-more test xs x t h = find-append test xs (x ∷ []) ∙ ap (λ b. option_or (find test xs) (cond b (Some x) None)) h ∙ by t
@@ -129,8 +135,8 @@ nothing_found f (Some x) h = absurd (cc h)
 written_at-own : (es : List Entry) (e : Entry) (row : List ℕ) → bytes_eq e.row row ≡ true → written_at es row e.owner ≡ None → written_at (es ++ e ∷ []) row e.owner ≡ Some (number_at e.text)
 written_at-own es e row h none =
     let test : Entry → Bool = λ k. bytes_eq k.row row && bytes_eq k.owner e.owner in
-    ap (option_map (λ k. number_at k.text)) (find-more test es e true (and_both (bytes_eq e.row row) (bytes_eq e.owner e.owner) h (bytes_same e.owner))
-        ∙ ap (λ o. option_or o (Some e)) (nothing_found (λ k. number_at k.text) (find test es) none))
+    ap (option_map (λ k. number_at k.text)) (find-more test es e true (and_both (bytes_eq e.row row) (bytes_eq e.owner e.owner) h (name_self e.owner))
+    ∙ ap (λ o. option_or o (Some e)) (nothing_found (λ k. number_at k.text) (find test es) none))
 
 written_in-own : (es : List Entry) (e : Entry) (row : List ℕ) (cs : List (List ℕ)) (number : ℕ) → IsLast cs e.owner number → bytes_eq e.row row ≡ true → written_at es row e.owner ≡ None
     → written_in (es ++ e ∷ []) cs row ≡ written_in es cs row ++ (number, number_at e.text) ∷ []
@@ -139,10 +145,10 @@ written_in-own es e row cs number last h none =
     let with_none = ap (λ o. written_in es last.front row ++ cons_option (option_map (λ n. (0 + length last.front, n)) o) []) none in
     let place : 0 + length last.front ≡ number = omega (arith, last.number_is) in
     ap (λ l. written_in (es ++ e ∷ []) l row) last.columns_are
-        ∙ written_in-add es e row e.owner last.front last.once
-        ∙ with_one
-        ∙ ap (λ k. written_in es last.front row ++ (k, number_at e.text) ∷ []) place
-        ∙ ap (λ l. l ++ (number, number_at e.text) ∷ []) (sym (append_nil (written_in es last.front row)) ∙ sym with_none ∙ sym (written_in-snoc es row last.front e.owner) ∙ sym (ap (λ l. written_in es l row) last.columns_are))
+    ∙ written_in-add es e row e.owner last.front last.once
+    ∙ with_one
+    ∙ ap (λ k. written_in es last.front row ++ (k, number_at e.text) ∷ []) place
+    ∙ ap (λ l. l ++ (number, number_at e.text) ∷ []) (sym (append_nil (written_in es last.front row)) ∙ sym with_none ∙ sym (written_in-snoc es row last.front e.owner) ∙ sym (ap (λ l. written_in es l row) last.columns_are))
 
 written_for-own : (es : List Entry) (e : Entry) (row : List ℕ) → bytes_eq e.row row ≡ true → written_for es row ≡ None → written_for (es ++ e ∷ []) row ≡ Some (number_at e.text)
 written_for-own es e row h none =
@@ -175,7 +181,7 @@ any_found f test (x ∷ xs) = by (test x) (any_found f test xs)
 kept_alike : (word : List ℕ) (ls : List Line) (e f : Entry) → e.row ≡ f.row → e.owner ≡ f.owner → is_kept word ls e ≡ is_kept word ls f
 kept_alike word ls e f row owner =
     ap (λ x. is_kept word ls (record { line = e.line; owner = e.owner; row = x; text = e.text })) row
-        ∙ ap (λ x. is_kept word ls (record { line = e.line; owner = x; row = f.row; text = e.text })) owner
+    ∙ ap (λ x. is_kept word ls (record { line = e.line; owner = x; row = f.row; text = e.text })) owner
 
 one_set : (word : List ℕ) (ls : List Line) (x y : List ℕ) → is_kept_set word ls x ≡ true → is_kept_set word ls y ≡ true → x ≡ y
 one_set word ls x y h g = by (first_of (items_of word ls)) h g
@@ -193,44 +199,44 @@ on_column : (word : List ℕ) (ls : List Line) (e : Entry) (es : List Entry) →
     → list_any (same_place e) es ≡ list_any (λ f. bytes_eq f.row e.row && bytes_eq f.owner e.owner) (filter (is_kept word ls) es)
 on_column word ls e es kept =
     any-same (same_place e) (λ f. is_kept word ls f && (bytes_eq f.row e.row && bytes_eq f.owner e.owner)) es (λ f. same_tests (same_place e f) (is_kept word ls f && (bytes_eq f.row e.row && bytes_eq f.owner e.owner)) (there f) (back f))
-        ∙ sym (any_kept (is_kept word ls) (λ f. bytes_eq f.row e.row && bytes_eq f.owner e.owner) es)
+    ∙ sym (any_kept (is_kept word ls) (λ f. bytes_eq f.row e.row && bytes_eq f.owner e.owner) es)
   where
     there : (f : Entry) → same_place e f ≡ true → (is_kept word ls f && (bytes_eq f.row e.row && bytes_eq f.owner e.owner)) ≡ true
     there f h =
         let owner = and_left (bytes_eq e.owner f.owner) (bytes_eq e.row f.row) h in
         let row = and_right (bytes_eq e.owner f.owner) (bytes_eq e.row f.row) h in
         and_both (is_kept word ls f) (bytes_eq f.row e.row && bytes_eq f.owner e.owner)
-            (sym (kept_alike word ls e f (name_same e.row f.row row) (name_same e.owner f.owner owner)) ∙ kept)
-            (and_both (bytes_eq f.row e.row) (bytes_eq f.owner e.owner) (name_turn f.row e.row ∙ row) (name_turn f.owner e.owner ∙ owner))
+        (sym (kept_alike word ls e f (name_same e.row f.row row) (name_same e.owner f.owner owner)) ∙ kept)
+        (and_both (bytes_eq f.row e.row) (bytes_eq f.owner e.owner) (name_turn f.row e.row ∙ row) (name_turn f.owner e.owner ∙ owner))
 
     back : (f : Entry) → (is_kept word ls f && (bytes_eq f.row e.row && bytes_eq f.owner e.owner)) ≡ true → same_place e f ≡ true
     back f h =
         let both = and_right (is_kept word ls f) (bytes_eq f.row e.row && bytes_eq f.owner e.owner) h in
         and_both (bytes_eq e.owner f.owner) (bytes_eq e.row f.row)
-            (name_turn e.owner f.owner ∙ and_right (bytes_eq f.row e.row) (bytes_eq f.owner e.owner) both)
-            (name_turn e.row f.row ∙ and_left (bytes_eq f.row e.row) (bytes_eq f.owner e.owner) both)
+        (name_turn e.owner f.owner ∙ and_right (bytes_eq f.row e.row) (bytes_eq f.owner e.owner) both)
+        (name_turn e.row f.row ∙ and_left (bytes_eq f.row e.row) (bytes_eq f.owner e.owner) both)
 
 on_set : (word : List ℕ) (ls : List Line) (e : Entry) (es : List Entry) → is_kept word ls e ≡ true → ((f : Entry) → is_kept word ls f ≡ true → is_kept_set word ls f.owner ≡ true)
     → list_any (same_place e) es ≡ list_any (λ f. bytes_eq f.row e.row) (filter (is_kept word ls) es)
 on_set word ls e es kept in_set =
     any-same (same_place e) (λ f. is_kept word ls f && bytes_eq f.row e.row) es (λ f. same_tests (same_place e f) (is_kept word ls f && bytes_eq f.row e.row) (there f) (back f))
-        ∙ sym (any_kept (is_kept word ls) (λ f. bytes_eq f.row e.row) es)
+    ∙ sym (any_kept (is_kept word ls) (λ f. bytes_eq f.row e.row) es)
   where
     there : (f : Entry) → same_place e f ≡ true → (is_kept word ls f && bytes_eq f.row e.row) ≡ true
     there f h =
         let owner = and_left (bytes_eq e.owner f.owner) (bytes_eq e.row f.row) h in
         let row = and_right (bytes_eq e.owner f.owner) (bytes_eq e.row f.row) h in
         and_both (is_kept word ls f) (bytes_eq f.row e.row)
-            (sym (kept_alike word ls e f (name_same e.row f.row row) (name_same e.owner f.owner owner)) ∙ kept)
-            (name_turn f.row e.row ∙ row)
+        (sym (kept_alike word ls e f (name_same e.row f.row row) (name_same e.owner f.owner owner)) ∙ kept)
+        (name_turn f.row e.row ∙ row)
 
     back : (f : Entry) → (is_kept word ls f && bytes_eq f.row e.row) ≡ true → same_place e f ≡ true
     back f h =
         let counts = and_left (is_kept word ls f) (bytes_eq f.row e.row) h in
         let same = one_set word ls e.owner f.owner (in_set e kept) (in_set f counts) in
         and_both (bytes_eq e.owner f.owner) (bytes_eq e.row f.row)
-            (ap (bytes_eq e.owner) (sym same) ∙ bytes_same e.owner)
-            (name_turn e.row f.row ∙ and_right (is_kept word ls f) (bytes_eq f.row e.row) h)
+        (ap (bytes_eq e.owner) (sym same) ∙ name_self e.owner)
+        (name_turn e.row f.row ∙ and_right (is_kept word ls f) (bytes_eq f.row e.row) h)
 
 -- the columns that are written are below the count of columns
 below_count : (es : List Entry) (row : List ℕ) (n : ℕ) (cs : List (List ℕ)) (p : ℕ × Number) → last_of (filter_map (placed es row) (enumerate_from n cs)) ≡ Some p → p.0 < n + length cs
@@ -258,9 +264,9 @@ last_written : (es : List Entry) (row : List ℕ) (cs : List (List ℕ)) (name :
 last_written es row cs name number last =
     let place : 0 + length last.front ≡ number = omega (arith, last.number_is) in
     ap (λ l. option_map_or (λ p. p.0 == number) (last_of (written_in es l row)) false) last.columns_are
-        ∙ ap (λ l. option_map_or (λ p. p.0 == number) (last_of l) false) (written_in-snoc es row last.front name)
-        ∙ ap (λ k. option_map_or (λ p. p.0 == number) (last_of (written_in es last.front row ++ cons_option (option_map (λ n. (k, n)) (written_at es row name)) [])) false) place
-        ∙ last_number (written_in es last.front row) number (λ p h. (let small = below_count es row 0 last.front p h in omega arith)) (written_at es row name)
+    ∙ ap (λ l. option_map_or (λ p. p.0 == number) (last_of l) false) (written_in-snoc es row last.front name)
+    ∙ ap (λ k. option_map_or (λ p. p.0 == number) (last_of (written_in es last.front row ++ cons_option (option_map (λ n. (k, n)) (written_at es row name)) [])) false) place
+    ∙ last_number (written_in es last.front row) number (λ p h. (let small = below_count es row 0 last.front p h in omega arith)) (written_at es row name)
 
 -- the entries that count in each section, where those of the owner's section are es so far
 abbrev pub RowHas : List Line → Owner → List Entry → List ℕ → RowDraft → Type 0
@@ -271,17 +277,17 @@ pub has_same_place : (ls : List Line) (owner : Owner) (es : List Entry) (r : Row
     → has_number owner r ≡ list_any (same_place e) es
 has_same_place ls (Column number) es r e owns kept has =
     ap (λ l. option_map_or (λ p. p.0 == number) (last_of l) false) has.entries_are
-        ∙ last_written (filter (is_kept (codes "COLUMNS") ls) es) e.row (column_names ls) e.owner number owns
-        ∙ any_found (λ k. number_at k.text) (λ f. bytes_eq f.row e.row && bytes_eq f.owner e.owner) (filter (is_kept (codes "COLUMNS") ls) es)
-        ∙ sym (on_column (codes "COLUMNS") ls e es kept)
+    ∙ last_written (filter (is_kept (codes "COLUMNS") ls) es) e.row (column_names ls) e.owner number owns
+    ∙ any_found (λ k. number_at k.text) (λ f. bytes_eq f.row e.row && bytes_eq f.owner e.owner) (filter (is_kept (codes "COLUMNS") ls) es)
+    ∙ sym (on_column (codes "COLUMNS") ls e es kept)
 has_same_place ls (RightSides is_set) es r e owns kept has =
     ap is_some has.right_side
-        ∙ any_found (λ k. number_at k.text) (λ f. bytes_eq f.row e.row) (filter (is_kept (codes "RHS") ls) es)
-        ∙ sym (on_set (codes "RHS") ls e es kept (λ f counts. in_kept_set (is_dropped_row ls f.row) (is_kept_set (codes "RHS") ls f.owner) (not (false && is_objective ls f.row)) counts))
+    ∙ any_found (λ k. number_at k.text) (λ f. bytes_eq f.row e.row) (filter (is_kept (codes "RHS") ls) es)
+    ∙ sym (on_set (codes "RHS") ls e es kept (λ f counts. in_kept_set (is_dropped_row ls f.row) (is_kept_set (codes "RHS") ls f.owner) (not (false && is_objective ls f.row)) counts))
 has_same_place ls (Ranges is_set) es r e owns kept has =
     ap is_some has.range
-        ∙ any_found (λ k. number_at k.text) (λ f. bytes_eq f.row e.row) (filter (is_kept (codes "RANGES") ls) es)
-        ∙ sym (on_set (codes "RANGES") ls e es kept (λ f counts. in_kept_set (is_dropped_row ls f.row) (is_kept_set (codes "RANGES") ls f.owner) (not (true && is_objective ls f.row)) counts))
+    ∙ any_found (λ k. number_at k.text) (λ f. bytes_eq f.row e.row) (filter (is_kept (codes "RANGES") ls) es)
+    ∙ sym (on_set (codes "RANGES") ls e es kept (λ f counts. in_kept_set (is_dropped_row ls f.row) (is_kept_set (codes "RANGES") ls f.owner) (not (true && is_objective ls f.row)) counts))
 
 -- one more entry counts or does not
 counted_more : (word : List ℕ) (ls : List Line) (es : List Entry) (e : Entry) (t : Bool) → is_kept word ls e ≡ t → filter (is_kept word ls) (es ++ e ∷ []) ≡ filter (is_kept word ls) es ++ when t e
@@ -304,13 +310,13 @@ idle_entry ls (Ranges is_set) es name r e h has =
 pub other_row : (ls : List Line) (owner : Owner) (es : List Entry) (name : List ℕ) (r : RowDraft) (e : Entry) → is_kept (owner_word owner) ls e ≡ true → bytes_eq e.row name ≡ false → RowHas ls owner es name r → RowHas ls owner (es ++ e ∷ []) name r
 other_row ls (Column number) es name r e h other has =
     subst (λ l. RowStands l (kept_entries (codes "RHS") ls) (kept_entries (codes "RANGES") ls) (column_names ls) name r) (sym (counted_more (codes "COLUMNS") ls es e true h))
-        (other_entry (filter (is_kept (codes "COLUMNS") ls) es) (kept_entries (codes "RHS") ls) (kept_entries (codes "RANGES") ls) (column_names ls) name r e other has)
+    (other_entry (filter (is_kept (codes "COLUMNS") ls) es) (kept_entries (codes "RHS") ls) (kept_entries (codes "RANGES") ls) (column_names ls) name r e other has)
 other_row ls (RightSides is_set) es name r e h other has =
     subst (λ l. RowStands (kept_entries (codes "COLUMNS") ls) l (kept_entries (codes "RANGES") ls) (column_names ls) name r) (sym (counted_more (codes "RHS") ls es e true h))
-        (other_right_side (kept_entries (codes "COLUMNS") ls) (filter (is_kept (codes "RHS") ls) es) (kept_entries (codes "RANGES") ls) (column_names ls) name r e other has)
+    (other_right_side (kept_entries (codes "COLUMNS") ls) (filter (is_kept (codes "RHS") ls) es) (kept_entries (codes "RANGES") ls) (column_names ls) name r e other has)
 other_row ls (Ranges is_set) es name r e h other has =
     subst (λ l. RowStands (kept_entries (codes "COLUMNS") ls) (kept_entries (codes "RHS") ls) l (column_names ls) name r) (sym (counted_more (codes "RANGES") ls es e true h))
-        (other_range (kept_entries (codes "COLUMNS") ls) (kept_entries (codes "RHS") ls) (filter (is_kept (codes "RANGES") ls) es) (column_names ls) name r e other has)
+    (other_range (kept_entries (codes "COLUMNS") ls) (kept_entries (codes "RHS") ls) (filter (is_kept (codes "RANGES") ls) es) (column_names ls) name r e other has)
 
 none_there : {A : Type 0} (o : Option A) → is_some o ≡ false → o ≡ None
 none_there None h = refl
@@ -325,36 +331,36 @@ own_row ls (Column number) es r new e n owns h fresh is few put has =
     let c = kept_entries (codes "RANGES") ls in
     let none = none_there (written_at a e.row e.owner) (sym (ap (λ l. option_map_or (λ p. p.0 == number) (last_of l) false) has.entries_are ∙ last_written a e.row (column_names ls) e.owner number owns) ∙ fresh) in
     subst (λ l. RowStands l b c (column_names ls) e.row new) (sym (counted_more (codes "COLUMNS") ls es e true h))
-        (record {
-          entries_are = put.entries_are ∙ ap (λ l. l ++ (number, n) ∷ []) has.entries_are ∙ ap (λ k. written_in a (column_names ls) e.row ++ (number, k) ∷ []) (sym is) ∙ sym (written_in-own a e e.row (column_names ls) number owns (bytes_same e.row) none);
-          right_side = put.right_side ∙ has.right_side;
-          range = put.range ∙ has.range;
-          decimals = (let was = most_of_three a b c e.row in let now = most_of_three (a ++ e ∷ []) b c e.row in let more = most-own a e e.row (bytes_same e.row) in let same = ap decimals_of is in let d = has.decimals in let p = put.decimals in omega arith);
-          few = (let p = put.decimals in let f = has.few in omega arith);
-        })
+    (record {
+      entries_are = put.entries_are ∙ ap (λ l. l ++ (number, n) ∷ []) has.entries_are ∙ ap (λ k. written_in a (column_names ls) e.row ++ (number, k) ∷ []) (sym is) ∙ sym (written_in-own a e e.row (column_names ls) number owns (name_self e.row) none);
+      right_side = put.right_side ∙ has.right_side;
+      range = put.range ∙ has.range;
+      decimals = (let was = most_of_three a b c e.row in let now = most_of_three (a ++ e ∷ []) b c e.row in let more = most-own a e e.row (name_self e.row) in let same = ap decimals_of is in let d = has.decimals in let p = put.decimals in omega arith);
+      few = (let p = put.decimals in let f = has.few in omega arith);
+    })
 own_row ls (RightSides is_set) es r new e n owns h fresh is few put has =
     let a = kept_entries (codes "COLUMNS") ls in
     let b = filter (is_kept (codes "RHS") ls) es in
     let c = kept_entries (codes "RANGES") ls in
     let none = none_there (written_for b e.row) (sym (ap is_some has.right_side) ∙ fresh) in
     subst (λ l. RowStands a l c (column_names ls) e.row new) (sym (counted_more (codes "RHS") ls es e true h))
-        (record {
-          entries_are = put.entries_are ∙ has.entries_are;
-          right_side = put.right_side ∙ ap Some (sym is) ∙ sym (written_for-own b e e.row (bytes_same e.row) none);
-          range = put.range ∙ has.range;
-          decimals = (let was = most_of_three a b c e.row in let now = most_of_three a (b ++ e ∷ []) c e.row in let more = most-own b e e.row (bytes_same e.row) in let same = ap decimals_of is in let d = has.decimals in let p = put.decimals in omega arith);
-          few = (let p = put.decimals in let f = has.few in omega arith);
-        })
+    (record {
+      entries_are = put.entries_are ∙ has.entries_are;
+      right_side = put.right_side ∙ ap Some (sym is) ∙ sym (written_for-own b e e.row (name_self e.row) none);
+      range = put.range ∙ has.range;
+      decimals = (let was = most_of_three a b c e.row in let now = most_of_three a (b ++ e ∷ []) c e.row in let more = most-own b e e.row (name_self e.row) in let same = ap decimals_of is in let d = has.decimals in let p = put.decimals in omega arith);
+      few = (let p = put.decimals in let f = has.few in omega arith);
+    })
 own_row ls (Ranges is_set) es r new e n owns h fresh is few put has =
     let a = kept_entries (codes "COLUMNS") ls in
     let b = kept_entries (codes "RHS") ls in
     let c = filter (is_kept (codes "RANGES") ls) es in
     let none = none_there (written_for c e.row) (sym (ap is_some has.range) ∙ fresh) in
     subst (λ l. RowStands a b l (column_names ls) e.row new) (sym (counted_more (codes "RANGES") ls es e true h))
-        (record {
-          entries_are = put.entries_are ∙ has.entries_are;
-          right_side = put.right_side ∙ has.right_side;
-          range = put.range ∙ ap Some (sym is) ∙ sym (written_for-own c e e.row (bytes_same e.row) none);
-          decimals = (let was = most_of_three a b c e.row in let now = most_of_three a b (c ++ e ∷ []) e.row in let more = most-own c e e.row (bytes_same e.row) in let same = ap decimals_of is in let d = has.decimals in let p = put.decimals in omega arith);
-          few = (let p = put.decimals in let f = has.few in omega arith);
-        })
+    (record {
+      entries_are = put.entries_are ∙ has.entries_are;
+      right_side = put.right_side ∙ has.right_side;
+      range = put.range ∙ ap Some (sym is) ∙ sym (written_for-own c e e.row (name_self e.row) none);
+      decimals = (let was = most_of_three a b c e.row in let now = most_of_three a b (c ++ e ∷ []) e.row in let more = most-own c e e.row (name_self e.row) in let same = ap decimals_of is in let d = has.decimals in let p = put.decimals in omega arith);
+      few = (let p = put.decimals in let f = has.few in omega arith);
+    })

@@ -1,5 +1,5 @@
 -- Lists of a model, one element at a time.
-use Rattle.std.specs.Prelude.{◌≡◌, ℕ, zero, suc, ◌+◌, ◌<◌, ◌==◌, Bool, true, false, cond, not, List, [], ◌∷◌, ◌++◌, length, map, drop, if◌then◌else◌, Option, Some, None, slice_get, unsigned_abs, ℤ, pos, negsuc}
+use Rattle.std.specs.Prelude.{◌≡◌, ℕ, zero, suc, ◌+◌, ◌<◌, ◌==◌, Bool, true, false, cond, not, List, [], ◌∷◌, ◌++◌, length, map, drop, if◌then◌else◌, Some, None, slice_get, unsigned_abs, ℤ, pos, negsuc}
 use Rattle.std.specs.Option.{is_some}
 use Rattle.ip_defs.specs.Lists.{when}
 use Rattle.ip_defs.specs.declared.texts.How.{How}

@@ -42,8 +42,8 @@ flat_map-append f (x ∷ xs) ys = ap (λ l. f x ++ l) (flat_map-append f xs ys) 
 pub faults-add : (ls : List Line) (l : Line) → all_line_faults (ls ++ l ∷ []) ≡ all_line_faults ls ++ line_faults ls l
 faults-add ls l =
     ap (flat_map (λ p. line_faults p.0 p.1)) (with_earlier-add ls l)
-        ∙ flat_map-append (λ p. line_faults p.0 p.1) (with_earlier ls) ((ls, l) ∷ [])
-        ∙ ap (λ k. all_line_faults ls ++ k) (append_nil (line_faults ls l))
+    ∙ flat_map-append (λ p. line_faults p.0 p.1) (with_earlier ls) ((ls, l) ∷ [])
+    ∙ ap (λ k. all_line_faults ls ++ k) (append_nil (line_faults ls l))
 
 -- the first of two lists: what a reader answers once a line has a fault, and that it may go on where none has
 pub first_of-append : {A : Type 0} (xs ys : List A) → first_of (xs ++ ys) ≡ option_or (first_of xs) (first_of ys)
@@ -114,9 +114,9 @@ name_in p = column_name p.1
 pub column_names-add : (ls : List Line) (l : Line) → column_names (ls ++ l ∷ []) ≡ column_names ls ++ when (is_new_column ls l) (column_name l)
 column_names-add ls l =
     ap (λ ps. map name_in (filter is_first ps)) (with_earlier-add ls l)
-        ∙ ap (map name_in) (filter-append is_first (with_earlier ls) ((ls, l) ∷ []))
-        ∙ map-append name_in (first_lines ls) (filter is_first ((ls, l) ∷ []))
-        ∙ by (is_new_column ls l)
+    ∙ ap (map name_in) (filter-append is_first (with_earlier ls) ((ls, l) ∷ []))
+    ∙ map-append name_in (first_lines ls) (filter is_first ((ls, l) ∷ []))
+    ∙ by (is_new_column ls l)
   where
     by : (b : Bool) → column_names ls ++ map name_in (cond b ((ls, l) ∷ []) []) ≡ column_names ls ++ when b (column_name l)
     by true = refl
@@ -179,15 +179,15 @@ placed-same es e row n (c ∷ cs) h =
     let here = written_at-other es e row c (and_false (bytes_eq e.row row) (bytes_eq e.owner c) (or_false_left (bytes_eq e.owner c) (is_among e.owner cs) h)) in
     let rest = placed-same es e row (n + 1) cs (or_false_right (bytes_eq e.owner c) (is_among e.owner cs) h) in
     ap (λ o. cons_option (option_map (λ k. (n, k)) o) (filter_map (placed (es ++ e ∷ []) row) (enumerate_from (n + 1) cs))) here
-        ∙ ap (cons_option (placed es row (n, c))) rest
+    ∙ ap (cons_option (placed es row (n, c))) rest
 
 -- so a row's list grows at its end alone
 pub written_in-add : (es : List Entry) (e : Entry) (row c : List ℕ) (cs : List (List ℕ)) → is_among e.owner cs ≡ false
     → written_in (es ++ e ∷ []) (cs ++ c ∷ []) row ≡ written_in es cs row ++ cons_option (placed (es ++ e ∷ []) row (0 + length cs, c)) []
 written_in-add es e row c cs h =
     ap (filter_map (placed (es ++ e ∷ []) row)) (enumerate-append 0 cs (c ∷ []))
-        ∙ filter_map-append (placed (es ++ e ∷ []) row) (enumerate_from 0 cs) ((0 + length cs, c) ∷ [])
-        ∙ ap (λ l. l ++ cons_option (placed (es ++ e ∷ []) row (0 + length cs, c)) []) (placed-same es e row 0 cs h)
+    ∙ filter_map-append (placed (es ++ e ∷ []) row) (enumerate_from 0 cs) ((0 + length cs, c) ∷ [])
+    ∙ ap (λ l. l ++ cons_option (placed (es ++ e ∷ []) row (0 + length cs, c)) []) (placed-same es e row 0 cs h)
 
 -- what is kept stays kept, once ROWS is over and the section has its first line
 
@@ -197,8 +197,8 @@ objective_in rows name = option_map_or (bytes_eq name) (option_map row_name (fin
 abbrev pub kept_by : List ℕ → List Line → Option Line → Entry → Bool
 kept_by word rows first e =
     not (is_among e.row (map row_name (filter is_free rows)) && not (objective_in rows e.row))
-        && (is_columns word || option_map_or (λ l. bytes_eq (set_of l) e.owner) first false)
-        && not (bytes_eq word (codes "RANGES") && objective_in rows e.row)
+    && (is_columns word || option_map_or (λ l. bytes_eq (set_of l) e.owner) first false)
+    && not (bytes_eq word (codes "RANGES") && objective_in rows e.row)
 
 pub kept_is : (word : List ℕ) (ls : List Line) (e : Entry) → is_kept word ls e ≡ kept_by word (row_lines ls) (first_of (items_of word ls)) e
 kept_is word ls e = refl
@@ -211,7 +211,7 @@ pub kept_stays : (word : List ℕ) (ls : List Line) (l f : Line) (e : Entry) →
     → is_kept word (ls ++ l ∷ []) e ≡ is_kept word ls e
 kept_stays word ls l f e over first =
     ap (λ rows. kept_by word rows (first_of (items_of word (ls ++ l ∷ []))) e) (rows_stay ls l over)
-        ∙ ap (λ o. kept_by word (row_lines ls) o e) (ap first_of (items_of-add word ls l) ∙ first_stays (items_of word ls) (items_of word (l ∷ [])) f first)
+    ∙ ap (λ o. kept_by word (row_lines ls) o e) (ap first_of (items_of-add word ls l) ∙ first_stays (items_of word ls) (items_of word (l ∷ [])) f first)
 
 pub filter-same : {A : Type 0} (f g : A → Bool) (xs : List A) → ((x : A) → f x ≡ g x) → filter f xs ≡ filter g xs
 filter-same f g [] h = refl
@@ -225,5 +225,5 @@ pub kept_entries-add : (word : List ℕ) (ls : List Line) (l f : Line) → items
     → kept_entries word (ls ++ l ∷ []) ≡ kept_entries word ls ++ filter (is_kept word (ls ++ l ∷ [])) (all_entries word (l ∷ []))
 kept_entries-add word ls l f over first =
     ap (filter (is_kept word (ls ++ l ∷ []))) (all_entries-add word ls l)
-        ∙ filter-append (is_kept word (ls ++ l ∷ [])) (all_entries word ls) (all_entries word (l ∷ []))
-        ∙ ap (λ k. k ++ filter (is_kept word (ls ++ l ∷ [])) (all_entries word (l ∷ []))) (filter-same (is_kept word (ls ++ l ∷ [])) (is_kept word ls) (all_entries word ls) (λ e. kept_stays word ls l f e over first))
+    ∙ filter-append (is_kept word (ls ++ l ∷ [])) (all_entries word ls) (all_entries word (l ∷ []))
+    ∙ ap (λ k. k ++ filter (is_kept word (ls ++ l ∷ [])) (all_entries word (l ∷ []))) (filter-same (is_kept word (ls ++ l ∷ [])) (is_kept word ls) (all_entries word ls) (λ e. kept_stays word ls l f e over first))

@@ -1,12 +1,11 @@
 -- The model of a draft whose numbers are clamped, and the limits that it passes.
-use Rattle.std.specs.Prelude.{◌≡◌, ℕ, suc, ◌+◌, ◌<◌, nat_lt, Bool, true, List, [], ◌∷◌, length, map, Option, None, Some, Result, Ok, Err}
+use Rattle.std.specs.Prelude.{◌≡◌, ℕ, suc, ◌<◌, List, [], ◌∷◌, length, map, Some, Result, Ok, Err}
 use Rattle.std.proofs.Common.{refl, arith, ap, sym, ◌∙◌, subst}
 use Rattle.std.proofs.lemmas.Bool.{lt-ltb}
 use Rattle.ip_model.proofs.LimitLaws.{within_limits}
 use Rattle.ip_defs.specs.Lists.{first_of}
-use Rattle.ip_defs.specs.Limits.{limits_of, limit_at, IsWellShaped}
+use Rattle.ip_defs.specs.Limits.{limits_of, IsWellShaped}
 use Rattle.ip_defs.specs.Faults.{limit_faults}
-use Rattle.ip_defs.specs.declared.limits.Limit.{Limit}
 use Rattle.ip_defs.specs.declared.limits.What.TheVariants.{Columns}
 use Rattle.ip_defs.specs.declared.programs.Parts.{Parts}
 use Rattle.ip_defs.specs.declared.texts.How.{How}
@@ -15,7 +14,6 @@ use Rattle.ip_defs.specs.declared.texts.MpsError.{MpsError}
 use Rattle.ip_defs.specs.declared.texts.MpsError.TheVariants as Out
 use Rattle.mps_reader.specs.declared.draft.ColumnDraft.{ColumnDraft}
 use Rattle.mps_reader.specs.Clamps.{clamped_parts}
-use Rattle.ip_defs.specs.Faults.{IsFirst}
 use Rattle.mps_reader.specs.Drafted.{drafted_columns, cost_rest}
 use Rattle.mps_reader.specs.Finished.{IsMade, IsLimited}
 use Rattle.mps_reader.proofs.ClampLaws.{limits_same, clamped_same}

@@ -1,9 +1,9 @@
 -- A line of entries: what the rows have before it and after it, and its faults.
-use Rattle.std.specs.Prelude.{◌≡◌, ◌⊎◌, ℕ, Bool, true, false, cond, not, ◌&&◌, ◌||◌, if◌then◌else◌, List, [], ◌∷◌, ◌++◌, length, map, filter, flat_map, Option, None, Some, bytes_eq, codes, Result, Ok, Err, refl}
+use Rattle.std.specs.Prelude.{◌≡◌, ◌⊎◌, ℕ, Bool, true, false, cond, ◌&&◌, if◌then◌else◌, List, [], ◌∷◌, ◌++◌, map, filter, flat_map, Some, bytes_eq, codes, Result, Ok, Err, refl}
 use Rattle.std.proofs.Common.{ap, sym, ◌∙◌, subst, inl, inr}
-use Rattle.ip_defs.specs.Lists.{first_of, when, is_among, after_those, with_earlier}
-use Rattle.ip_defs.specs.Records.{Line, Entry, items_of, words_of, row_lines, row_name, column_names, all_entries, entries_of, kept_entries, is_kept}
-use Rattle.ip_defs.specs.Faults.{entry_faults, pair_faults, item_faults, line_faults, all_line_faults}
+use Rattle.ip_defs.specs.Lists.{first_of, after_those}
+use Rattle.ip_defs.specs.Records.{Line, Entry, items_of, row_lines, row_name, column_names, all_entries, entries_of, kept_entries, is_kept}
+use Rattle.ip_defs.specs.Faults.{entry_faults, pair_faults, line_faults, all_line_faults}
 use Rattle.ip_defs.specs.declared.texts.MpsError.{MpsError}
 use Rattle.ip_defs.specs.declared.texts.MpsError.TheVariants as Out
 use Rattle.mps_reader.specs.declared.draft.RowDraft.{RowDraft}
@@ -43,11 +43,11 @@ counted_begin before owner n fields word = by (bytes_eq (owner_word owner) word)
     by : (b : Bool) → bytes_eq (owner_word owner) word ≡ b → counted (before ++ l ∷ []) owner (all_entries (owner_word owner) before) word ≡ kept_entries word before
     by true same =
         ap (λ b. if b then filter (is_kept word (before ++ l ∷ [])) (all_entries (owner_word owner) before) else kept_entries word (before ++ l ∷ [])) same
-            ∙ ap (λ w. filter (is_kept word (before ++ l ∷ [])) (all_entries w before)) (name_same (owner_word owner) word same)
-            ∙ own_begin word before l (off_rows owner n fields)
+        ∙ ap (λ w. filter (is_kept word (before ++ l ∷ [])) (all_entries w before)) (name_same (owner_word owner) word same)
+        ∙ own_begin word before l (off_rows owner n fields)
     by false other =
         ap (λ b. if b then filter (is_kept word (before ++ l ∷ [])) (all_entries (owner_word owner) before) else kept_entries word (before ++ l ∷ [])) other
-            ∙ kept_entries_stay word before l (off_rows owner n fields) (off owner n fields word other)
+        ∙ kept_entries_stay word before l (off_rows owner n fields) (off owner n fields word other)
 
 own_entries : (owner : Owner) (n : ℕ) (fields : List (List ℕ)) → all_entries (owner_word owner) (item (owner_word owner) n fields ∷ []) ≡ entries_of (item (owner_word owner) n fields)
 own_entries (Column number) n fields = append_nil (entries_of (item (codes "COLUMNS") n fields))
@@ -67,7 +67,7 @@ counted_end before owner n fields word = by (bytes_eq (owner_word owner) word) r
     by : (b : Bool) → bytes_eq (owner_word owner) word ≡ b → counted (before ++ l ∷ []) owner (all_entries (owner_word owner) before ++ entries_of l) word ≡ kept_entries word (before ++ l ∷ [])
     by true same =
         ap (λ b. if b then filter (is_kept word (before ++ l ∷ [])) (all_entries (owner_word owner) before ++ entries_of l) else kept_entries word (before ++ l ∷ [])) same
-            ∙ ap (filter (is_kept word (before ++ l ∷ []))) (all ∙ ap (λ w. all_entries w (before ++ l ∷ [])) (name_same (owner_word owner) word same))
+        ∙ ap (filter (is_kept word (before ++ l ∷ []))) (all ∙ ap (λ w. all_entries w (before ++ l ∷ [])) (name_same (owner_word owner) word same))
     by false other = ap (λ b. if b then filter (is_kept word (before ++ l ∷ [])) (all_entries (owner_word owner) before ++ entries_of l) else kept_entries word (before ++ l ∷ [])) other
 
 three : (a a' b b' c c' : List Entry) (columns names : List (List ℕ)) (rows : List RowDraft) → a ≡ a' → b ≡ b' → c ≡ c' → EntriesStand a b c columns names rows → EntriesStand a' b' c' columns names rows
@@ -107,7 +107,7 @@ pub pair_faults_are : (before : List Line) (owner : Owner) (n : ℕ) (fields : L
 pair_faults_are before owner n fields =
     let l = item (owner_word owner) n fields in
     flat_after (λ es e. entry_faults (owner_word owner) (before ++ l ∷ []) es e) (all_entries (owner_word owner) before) [] (entries_of l)
-        ∙ ap (λ k. flat_map (λ p. entry_faults (owner_word owner) (before ++ l ∷ []) p.0 p.1) (after_those k (entries_of l))) (append_nil (all_entries (owner_word owner) before))
+    ∙ ap (λ k. flat_map (λ p. entry_faults (owner_word owner) (before ++ l ∷ []) p.0 p.1) (after_those k (entries_of l))) (append_nil (all_entries (owner_word owner) before))
 
 -- no fault so far and none in the line
 pub no_fault_more : (before : List Line) (l : Line) → all_line_faults before ≡ [] → line_faults before l ≡ [] → all_line_faults (before ++ l ∷ []) ≡ []

@@ -1,25 +1,23 @@
 -- The model that a draft says is the model of the lines that it stands for.
-use Rattle.std.specs.Prelude.{◌≡◌, ◌≢◌, ℕ, zero, suc, ◌+◌, ◌<◌, ◌≤◌, ◌==◌, max, Bool, true, false, not, ◌&&◌, ◌||◌, cond, if◌then◌else◌, List, [], ◌∷◌, ◌++◌, length, map, filter, filter_map, find, fold, position, slice_get, string_bytes, Option, None, Some, option_map, option_and_then, unwrap_or, bytes_eq, codes, ℤ, pos, neg_ℤ}
-use Rattle.std.specs.List.{enumerate_from, cons_option, list_any}
-use Rattle.std.specs.Option.{option_map_or, is_none}
-use Rattle.std.proofs.Common.{refl, arith, ap, sym, ◌∙◌, subst}
+use Rattle.std.specs.Prelude.{◌≡◌, ℕ, suc, ◌+◌, ◌<◌, ◌==◌, max, Bool, true, false, not, cond, if◌then◌else◌, List, [], ◌∷◌, ◌++◌, length, map, filter, filter_map, find, position, slice_get, Option, None, Some, option_map, option_and_then, unwrap_or, bytes_eq, codes, ℤ, pos}
+use Rattle.std.specs.List.{enumerate_from, cons_option}
+use Rattle.std.specs.Option.{option_map_or}
+use Rattle.std.proofs.Common.{refl, arith, ap, sym, ◌∙◌}
 use Rattle.std.proofs.lemmas.Bool.{ne_eqb, eqb-false}
 use Rattle.mps_reader.proofs.PlaceLaws.{position_cons}
-use Rattle.ip_defs.specs.Lists.{first_of, when}
-use Rattle.ip_defs.specs.Records.{Line, Entry, row_lines, row_kind, row_name, is_free, objective, column_names, kept_entries}
-use Rattle.ip_defs.specs.TextModels.{units, no_number, number_at, written_at, written_in, written_for, largest, decimals_in, row_decimals, row_sides, coefs_in, row_from, column_from, model_from, lower_by, upper_by, lower_entry, upper_entry, lower_side, upper_side, box_low, box_high}
+use Rattle.ip_defs.specs.Lists.{when}
+use Rattle.ip_defs.specs.Records.{Line, Entry, row_kind, row_name, is_free, column_names, kept_entries}
+use Rattle.ip_defs.specs.TextModels.{units, no_number, written_at, written_in, written_for, largest, decimals_in, row_decimals, row_sides, row_from, column_from, lower_by, upper_by, lower_entry, upper_entry, lower_side, upper_side, box_low, box_high}
 use Rattle.ip_defs.specs.declared.texts.How.{How}
 use Rattle.ip_defs.specs.declared.texts.Number.{Number}
 use Rattle.ip_defs.specs.declared.programs.Column.{Column}
 use Rattle.ip_defs.specs.declared.programs.Row.{Row}
-use Rattle.ip_defs.specs.declared.programs.Parts.{Parts}
 use Rattle.mps_reader.specs.declared.draft.RowKind.{RowKind}
 use Rattle.mps_reader.specs.declared.draft.RowKind.TheVariants.{Free, AtMost, AtLeast, Equal}
 use Rattle.mps_reader.specs.declared.draft.RowDraft.{RowDraft}
 use Rattle.mps_reader.specs.declared.draft.ColumnDraft.{ColumnDraft}
-use Rattle.mps_reader.specs.declared.draft.Draft.{Draft}
-use Rattle.mps_reader.specs.Progress.{kind_word, Stands, RowStands, ColumnStands, upper_said}
-use Rattle.mps_reader.specs.Drafted.{is_free_kind, drafted_decimals, drafted_coefs, drafted_row, drafted_rows, cost_head, cost_rest, drafted_lower, drafted_upper, drafted_column, drafted_columns, drafted_model, row_names}
+use Rattle.mps_reader.specs.Progress.{kind_word, RowStands, ColumnStands, upper_said}
+use Rattle.mps_reader.specs.Drafted.{is_free_kind, drafted_decimals, drafted_coefs, drafted_row, drafted_rows, cost_head, cost_rest, drafted_lower, drafted_upper, drafted_column, drafted_columns}
 use Rattle.mps_reader.proofs.GrowthLaws.{placed}
 
 eqb_same : (n : ℕ) → (n == n) ≡ true

@@ -1,8 +1,8 @@
 -- Names among names: by what place they are found, and lists where each stands once.
-use Rattle.std.specs.Prelude.{◌≡◌, ℕ, zero, suc, ◌+◌, ◌==◌, Bool, true, false, cond, not, ◌&&◌, ◌||◌, List, [], ◌∷◌, ◌++◌, length, map, filter, find, position, slice_get, Option, None, Some, bytes_eq, refl}
-use Rattle.std.specs.List.{list_any, position_from}
-use Rattle.std.specs.Option.{option_map, option_map_or, is_some}
-use Rattle.std.proofs.Common.{arith, ap, sym, ◌∙◌, add-one}
+use Rattle.std.specs.Prelude.{◌≡◌, ℕ, zero, suc, ◌+◌, Bool, true, false, cond, ◌||◌, List, [], ◌∷◌, position, slice_get, Option, None, Some, bytes_eq, refl}
+use Rattle.std.specs.List.{position_from}
+use Rattle.std.specs.Option.{option_map, is_some}
+use Rattle.std.proofs.Common.{arith, ap, sym, ◌∙◌}
 use Rattle.std.proofs.lemmas.Slice.Eq.{bytes_eq-Decides}
 use Rattle.std.proofs.lemmas.Iterator.Adapters.{position_from-zero}
 use Rattle.ip_defs.specs.Lists.{is_among}
@@ -25,8 +25,8 @@ name_same a b h = (bytes_eq-Decides a b).0 h
 pub name_turn : (a b : List ℕ) → bytes_eq a b ≡ bytes_eq b a
 name_turn a b =
     same_tests (bytes_eq a b) (bytes_eq b a)
-        (λ h. (bytes_eq-Decides b a).1 (sym (name_same a b h)))
-        (λ h. (bytes_eq-Decides a b).1 (sym (name_same b a h)))
+    (λ h. (bytes_eq-Decides b a).1 (sym (name_same a b h)))
+    (λ h. (bytes_eq-Decides a b).1 (sym (name_same b a h)))
 
 -- the first place where a test passes, by recursion
 abbrev pub place : {A : Type 0} → (A → Bool) → List A → Option ℕ

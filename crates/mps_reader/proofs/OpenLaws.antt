@@ -1,5 +1,5 @@
 -- The table of columns after a line of COLUMNS: a marker, a line of the last column, or one that begins a column.
-use Rattle.std.specs.Prelude.{◌≡◌, ℕ, zero, suc, ◌+◌, ◌==◌, ◌<◌, nat_le, Bool, true, false, cond, not, ◌&&◌, ◌||◌, if◌then◌else◌, List, [], ◌∷◌, ◌++◌, length, map, filter, position, slice_get, Option, None, Some, option_map, option_and_then, bytes_eq, string_bytes, codes, refl}
+use Rattle.std.specs.Prelude.{◌≡◌, ℕ, zero, suc, ◌+◌, ◌==◌, Bool, true, false, cond, not, ◌&&◌, ◌||◌, if◌then◌else◌, List, [], ◌∷◌, ◌++◌, length, map, filter, position, slice_get, Option, None, Some, option_map, option_and_then, bytes_eq, string_bytes, codes, refl}
 use Rattle.std.specs.Option.{option_map_or, option_or, is_some}
 use Rattle.std.specs.List.{list_any}
 use Rattle.std.proofs.Common.{length-append, arith, ap, sym, ◌∙◌, subst}
@@ -8,9 +8,9 @@ use Rattle.std.proofs.lemmas.Bool.{eqb-true, eq-eqb}
 use Rattle.std.proofs.lemmas.List.Folds.{list_any-append}
 use Rattle.std.proofs.lemmas.Option.{slice_get_within}
 use Rattle.ip_defs.specs.Lists.{first_of, last_of, is_among, when}
-use Rattle.ip_defs.specs.Records.{Line, field, items_of, column_lines, column_name, column_names, first_lines, has_column, in_force, is_marker, bounds_on, bound_set, bound_column}
+use Rattle.ip_defs.specs.Records.{Line, field, items_of, column_name, column_names, first_lines, has_column, in_force, is_marker, bounds_on, bound_set, bound_column}
 use Rattle.ip_defs.specs.Faults.{is_split}
-use Rattle.ip_defs.specs.TextModels.{is_integer, lower_entry, upper_entry, lower_by, sets_lower, sets_upper, kind_is}
+use Rattle.ip_defs.specs.TextModels.{lower_by, sets_lower, sets_upper, kind_is}
 use Rattle.mps_reader.specs.declared.draft.ColumnDraft.{ColumnDraft}
 use Rattle.mps_reader.specs.declared.draft.ColumnTable.{ColumnTable}
 use Rattle.mps_reader.specs.Progress.{AreApart, ColumnsStand, ColumnStands, BoundsStand, column_of, upper_said}
@@ -30,9 +30,9 @@ markers_more : (before : List Line) (n : ℕ) (fields : List (List ℕ)) (m : Bo
     → filter is_marker (items_of (codes "COLUMNS") (before ++ column_item n fields ∷ [])) ≡ filter is_marker (items_of (codes "COLUMNS") before) ++ when m (column_item n fields)
 markers_more before n fields m h =
     ap (filter is_marker) (items_of-add (codes "COLUMNS") before (column_item n fields))
-        ∙ filter-append is_marker (items_of (codes "COLUMNS") before) (column_item n fields ∷ [])
-        ∙ ap (λ b. filter is_marker (items_of (codes "COLUMNS") before) ++ cond b (column_item n fields ∷ []) []) h
-        ∙ by m
+    ∙ filter-append is_marker (items_of (codes "COLUMNS") before) (column_item n fields ∷ [])
+    ∙ ap (λ b. filter is_marker (items_of (codes "COLUMNS") before) ++ cond b (column_item n fields ∷ []) []) h
+    ∙ by m
   where
     by : (b : Bool) → filter is_marker (items_of (codes "COLUMNS") before) ++ cond b (column_item n fields ∷ []) [] ≡ filter is_marker (items_of (codes "COLUMNS") before) ++ when b (column_item n fields)
     by true = refl
@@ -54,8 +54,8 @@ bounds_rest before l cs firsts none h j name c at there =
     let on = sym (bounds_on_stay before l name none) in record {
       integer =
           was.integer
-              ∙ ap (λ ps. list_any (λ p. bytes_eq (column_name p.1) name && in_force p.0) ps || list_any (kind_is (codes "BV" ∷ codes "LI" ∷ codes "UI" ∷ [])) (bounds_on before name)) (sym firsts)
-              ∙ ap (λ ks. list_any (λ p. bytes_eq (column_name p.1) name && in_force p.0) (first_lines (before ++ l ∷ [])) || list_any (kind_is (codes "BV" ∷ codes "LI" ∷ codes "UI" ∷ [])) ks) on;
+          ∙ ap (λ ps. list_any (λ p. bytes_eq (column_name p.1) name && in_force p.0) ps || list_any (kind_is (codes "BV" ∷ codes "LI" ∷ codes "UI" ∷ [])) (bounds_on before name)) (sym firsts)
+          ∙ ap (λ ks. list_any (λ p. bytes_eq (column_name p.1) name && in_force p.0) (first_lines (before ++ l ∷ [])) || list_any (kind_is (codes "BV" ∷ codes "LI" ∷ codes "UI" ∷ [])) ks) on;
       lower = was.lower ∙ ap (λ ks. option_map lower_by (last_of (filter sets_lower ks))) on;
       upper = was.upper ∙ ap (λ ks. option_map upper_said (last_of (filter sets_upper ks))) on;
     }
@@ -78,7 +78,7 @@ marked_columns before n fields t new marker h is =
 pub marked_bounds : (before : List Line) (n : ℕ) (fields : List (List ℕ)) (t new : ColumnTable) → is_marker (column_item n fields) ≡ true → BoundsStand before t.columns.items → IsMarked t new (field (column_item n fields) 2) → BoundsStand (before ++ column_item n fields ∷ []) new.columns.items
 marked_bounds before n fields t new marker h is =
     subst (λ (k : ColumnTable). BoundsStand (before ++ column_item n fields ∷ []) k.columns.items) (sym is)
-        (bounds_rest before (column_item n fields) t.columns.items (first_lines_stay before (column_item n fields) (marker_none n fields marker)) refl h)
+    (bounds_rest before (column_item n fields) t.columns.items (first_lines_stay before (column_item n fields) (marker_none n fields marker)) refl h)
 
 -- ---- a line of a column
 
@@ -123,7 +123,7 @@ open_now : (before : List Line) (n : ℕ) (fields : List (List ℕ)) → is_mark
     → option_and_then (column_of (column_names (before ++ column_item n fields ∷ []))) (last_of (items_of (codes "COLUMNS") (before ++ column_item n fields ∷ []))) ≡ position (bytes_eq (column_name (column_item n fields))) (column_names (before ++ column_item n fields ∷ []))
 open_now before n fields plain =
     ap (option_and_then (column_of (column_names (before ++ column_item n fields ∷ [])))) (last_line before n fields)
-        ∙ ap (λ b. if b then None else position (bytes_eq (column_name (column_item n fields))) (column_names (before ++ column_item n fields ∷ []))) plain
+    ∙ ap (λ b. if b then None else position (bytes_eq (column_name (column_item n fields))) (column_names (before ++ column_item n fields ∷ []))) plain
 
 -- the number of a column that came
 here_before : (before : List Line) (t : ColumnTable) (name : List ℕ) (j : ℕ) → ColumnsStand before t → position (bytes_eq name) (map string_bytes t.names.keys) ≡ Some j → position (bytes_eq name) (column_names before) ≡ Some j
@@ -162,7 +162,7 @@ pub split_or_not : (before : List Line) (t : ColumnTable) (n : ℕ) (fields : Li
     → option_map_or (λ i. i == j) t.open false ≡ b → is_split before (column_item n fields) ≡ not b
 split_or_not before t n fields j b h at is =
     ap (λ c. c && not (option_map_or (same_as_last (column_item n fields)) (last_of (items_of (codes "COLUMNS") before)) false)) (came before t (column_name (column_item n fields)) j h at)
-        ∙ ap not (last_is before t n fields j h at b is)
+    ∙ ap not (last_is before t n fields j h at b is)
 
 -- the columns after a line that goes on with the last one
 pub went_on : (before : List Line) (t : ColumnTable) (n : ℕ) (fields : List (List ℕ)) (j : ℕ) → is_marker (column_item n fields) ≡ false → ColumnsStand before t → BoundsStand before t.columns.items
@@ -210,7 +210,7 @@ no_first : (name : List ℕ) (force : List Line × Line → Bool) (ps : List (Li
 no_first name force [] h = refl
 no_first name force (p ∷ ps) h =
     ap (λ b. (b && force p) || list_any (λ q. bytes_eq (column_name q.1) name && force q) ps) (name_turn (column_name p.1) name ∙ or_false_left (bytes_eq name (column_name p.1)) (is_among name (map name_in ps)) h)
-        ∙ no_first name force ps (or_false_right (bytes_eq name (column_name p.1)) (is_among name (map name_in ps)) h)
+    ∙ no_first name force ps (or_false_right (bytes_eq name (column_name p.1)) (is_among name (map name_in ps)) h)
 
 -- the columns after a line that begins one
 pub begun : (before : List Line) (t new : ColumnTable) (n : ℕ) (fields : List (List ℕ)) → is_marker (column_item n fields) ≡ false → ColumnsStand before t → BoundsStand before t.columns.items → items_of (codes "BOUNDS") before ≡ []
@@ -261,8 +261,8 @@ begun before t new n fields plain h bounds no_bounds at added = record {
     firsts_any : (other : List ℕ) → list_any (λ p. bytes_eq (column_name p.1) other && starts p) (first_lines (before ++ l ∷ [])) ≡ (list_any (λ p. bytes_eq (column_name p.1) other && starts p) (first_lines before) || (bytes_eq name other && in_force before))
     firsts_any other =
         ap (list_any (λ p. bytes_eq (column_name p.1) other && starts p)) firsts
-            ∙ list_any-append (λ p. bytes_eq (column_name p.1) other && starts p) (first_lines before) (this ∷ [])
-            ∙ ap (λ b. list_any (λ p. bytes_eq (column_name p.1) other && starts p) (first_lines before) || b) (or-false (bytes_eq name other && in_force before))
+        ∙ list_any-append (λ p. bytes_eq (column_name p.1) other && starts p) (first_lines before) (this ∷ [])
+        ∙ ap (λ b. list_any (λ p. bytes_eq (column_name p.1) other && starts p) (first_lines before) || b) (or_nothing (bytes_eq name other && in_force before))
 
     old_column : (j : ℕ) (other : List ℕ) (c : ColumnDraft) → slice_get (column_names before) j ≡ Some other → slice_get t.columns.items j ≡ Some c → ColumnStands (before ++ l ∷ []) other c
     old_column j other c here there =
@@ -272,9 +272,9 @@ begun before t new n fields plain h bounds no_bounds at added = record {
         record {
           integer =
               was.integer
-                  ∙ ap (λ b. b || list_any (kind_is (codes "BV" ∷ codes "LI" ∷ codes "UI" ∷ [])) (bounds_on before other))
-                      (sym (firsts_any other ∙ ap (λ b. list_any (λ p. bytes_eq (column_name p.1) other && starts p) (first_lines before) || (b && in_force before)) away ∙ or-false (list_any (λ p. bytes_eq (column_name p.1) other && starts p) (first_lines before))))
-                  ∙ ap (λ ks. list_any (λ p. bytes_eq (column_name p.1) other && starts p) (first_lines (before ++ l ∷ [])) || list_any (kind_is (codes "BV" ∷ codes "LI" ∷ codes "UI" ∷ [])) ks) on;
+              ∙ ap (λ b. b || list_any (kind_is (codes "BV" ∷ codes "LI" ∷ codes "UI" ∷ [])) (bounds_on before other))
+              (sym (firsts_any other ∙ ap (λ b. list_any (λ p. bytes_eq (column_name p.1) other && starts p) (first_lines before) || (b && in_force before)) away ∙ or_nothing (list_any (λ p. bytes_eq (column_name p.1) other && starts p) (first_lines before))))
+              ∙ ap (λ ks. list_any (λ p. bytes_eq (column_name p.1) other && starts p) (first_lines (before ++ l ∷ [])) || list_any (kind_is (codes "BV" ∷ codes "LI" ∷ codes "UI" ∷ [])) ks) on;
           lower = was.lower ∙ ap (λ ks. option_map lower_by (last_of (filter sets_lower ks))) on;
           upper = was.upper ∙ ap (λ ks. option_map upper_said (last_of (filter sets_upper ks))) on;
         }
@@ -286,9 +286,9 @@ begun before t new n fields plain h bounds no_bounds at added = record {
     new_column = record {
       integer =
           h.in_integers
-              ∙ sym (ap (λ ks. list_any (λ p. bytes_eq (column_name p.1) name && starts p) (first_lines (before ++ l ∷ [])) || list_any (kind_is (codes "BV" ∷ codes "LI" ∷ codes "UI" ∷ [])) ks) none_on
-                  ∙ ap (λ b. b || false) (firsts_any name ∙ ap (λ b. b || (bytes_eq name name && in_force before)) (no_first name starts (first_lines before) (names_among name before ∙ new_name)) ∙ ap (λ b. b && in_force before) (bytes_same name))
-                  ∙ or-false (in_force before));
+          ∙ sym (ap (λ ks. list_any (λ p. bytes_eq (column_name p.1) name && starts p) (first_lines (before ++ l ∷ [])) || list_any (kind_is (codes "BV" ∷ codes "LI" ∷ codes "UI" ∷ [])) ks) none_on
+          ∙ ap (λ b. b || false) (firsts_any name ∙ ap (λ b. b || (bytes_eq name name && in_force before)) (no_first name starts (first_lines before) (names_among name before ∙ new_name)) ∙ ap (λ b. b && in_force before) (name_self name))
+          ∙ or_nothing (in_force before));
       lower = sym (ap (λ ks. option_map lower_by (last_of (filter sets_lower ks))) none_on);
       upper = sym (ap (λ ks. option_map upper_said (last_of (filter sets_upper ks))) none_on);
     }
@@ -296,12 +296,12 @@ begun before t new n fields plain h bounds no_bounds at added = record {
     known_columns : BoundsStand (before ++ l ∷ []) new.columns.items
     known_columns j other c here there =
         get_of_more (column_names before) name j other (ColumnStands (before ++ l ∷ []) other c) (ap (λ k. slice_get k j) (sym names) ∙ here)
-            (λ old. get_of_more t.columns.items fresh j c (ColumnStands (before ++ l ∷ []) other c) (ap (λ k. slice_get k j) (sym added.columns) ∙ there)
-                (λ was. old_column j other c old was)
-                (λ size _. absurd (let within = slice_get_within (column_names before) j other old in let count = h.count in omega arith)))
-            (λ size is. get_of_more t.columns.items fresh j c (ColumnStands (before ++ l ∷ []) other c) (ap (λ k. slice_get k j) (sym added.columns) ∙ there)
-                (λ was. absurd (let within = slice_get_within t.columns.items j c was in let count = h.count in omega arith))
-                (λ _ made. subst (λ x. ColumnStands (before ++ l ∷ []) x c) is (subst (ColumnStands (before ++ l ∷ []) name) made new_column)))
+        (λ old. get_of_more t.columns.items fresh j c (ColumnStands (before ++ l ∷ []) other c) (ap (λ k. slice_get k j) (sym added.columns) ∙ there)
+        (λ was. old_column j other c old was)
+        (λ size _. absurd (let within = slice_get_within (column_names before) j other old in let count = h.count in omega arith)))
+        (λ size is. get_of_more t.columns.items fresh j c (ColumnStands (before ++ l ∷ []) other c) (ap (λ k. slice_get k j) (sym added.columns) ∙ there)
+        (λ was. absurd (let within = slice_get_within t.columns.items j c was in let count = h.count in omega arith))
+        (λ _ made. subst (λ x. ColumnStands (before ++ l ∷ []) x c) is (subst (ColumnStands (before ++ l ∷ []) name) made new_column)))
 
 -- a number that an option has
 pub opened_at : (o : Option ℕ) (j : ℕ) → option_map_or (λ i. i == j) o false ≡ true → o ≡ Some j

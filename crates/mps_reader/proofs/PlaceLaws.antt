@@ -1,14 +1,14 @@
 -- The places of names in a list that grows at its end.
-use Rattle.std.specs.Prelude.{◌≡◌, ℕ, zero, suc, ◌+◌, ◌-◌, nat_lt, nat_le, Bool, true, false, cond, List, [], ◌∷◌, ◌++◌, length, map, position, slice_get, Option, None, Some, option_map, ◌||◌, not, bytes_eq, string_bytes, if◌then◌else◌, refl}
+use Rattle.std.specs.Prelude.{◌≡◌, ℕ, zero, suc, ◌+◌, ◌-◌, nat_lt, Bool, true, false, cond, List, [], ◌∷◌, ◌++◌, length, map, position, slice_get, Option, None, Some, option_map, ◌||◌, not, bytes_eq, string_bytes, if◌then◌else◌, refl}
 use Rattle.std.specs.List.{list_any, position_or_len}
-use Rattle.std.specs.Option.{option_or, is_some, is_none}
+use Rattle.std.specs.Option.{option_or, is_some}
 use Rattle.std.specs.String.{string_eq}
 use Rattle.std.proofs.Common.{String, Global, sym, ◌∙◌, ap, arith}
 use Rattle.std.proofs.lemmas.Bool.{le-ltb, lt-ltb, ltb-false, ltb-true}
 use Rattle.std.proofs.lemmas.Slice.Eq.{bytes_eq-Decides}
 use Rattle.ip_defs.specs.Lists.{is_among, last_of}
 use Rattle.mps_reader.specs.Progress.{AreApart}
-use Rattle.mps_reader.proofs.GrowthLaws.{true_not_false, or_none, map-append}
+use Rattle.mps_reader.proofs.GrowthLaws.{true_not_false, map-append}
 use Rattle.mps_reader.proofs.SectionLaws.{any_of_map}
 
 -- the first place is at the head, or one past the first in the tail
@@ -82,9 +82,6 @@ get_of_more [] x (suc i) y P e old new = absurd (cc e)
 get_of_more (z ∷ xs) x zero y P e old new = old e
 get_of_more (z ∷ xs) x (suc i) y P e old new = get_of_more xs x i y P e old (λ f. new (omega (arith, f)))
 
-pub bytes_same : (name : List ℕ) → bytes_eq name name ≡ true
-bytes_same name = (bytes_eq-Decides name name).1 refl
-
 -- a new name leaves names apart
 pub apart_more : (names : List (List ℕ)) (name : List ℕ) → AreApart names → is_among name names ≡ false → AreApart (names ++ name ∷ [])
 apart_more names name apart new i other there = get_of_more names name i other (position (bytes_eq other) (names ++ name ∷ []) ≡ Some i) there
@@ -92,16 +89,8 @@ apart_more names name apart new i other there = get_of_more names name i other (
     (λ e f. ap (λ k. position (bytes_eq k) (names ++ name ∷ [])) (sym f)
     ∙ position_append (bytes_eq name) names (name ∷ [])
     ∙ ap (λ o. option_or o (option_map (λ k. length names + k) (position (bytes_eq name) (name ∷ [])))) (no_place (bytes_eq name) names new)
-    ∙ ap (option_map (λ k. length names + k)) (position_cons (bytes_eq name) name [] ∙ ap (λ t. if t then Some 0 else None) (bytes_same name))
+    ∙ ap (option_map (λ k. length names + k)) (position_cons (bytes_eq name) name [] ∙ ap (λ t. if t then Some 0 else None) ((bytes_eq-Decides name name).1 refl))
     ∙ ap Some (omega (arith, e)))
-
-pub bytes_turned : (a b : List ℕ) → bytes_eq a b ≡ bytes_eq b a
-bytes_turned a b = by (bytes_eq a b) (bytes_eq b a) refl refl
-  where
-    by : (t u : Bool) → bytes_eq a b ≡ t → bytes_eq b a ≡ u → bytes_eq a b ≡ bytes_eq b a
-    by true u e f = e ∙ sym ((bytes_eq-Decides b a).1 (sym ((bytes_eq-Decides a b).0 e)))
-    by false true e f = absurd (true_not_false (sym ((bytes_eq-Decides a b).1 (sym ((bytes_eq-Decides b a).0 f))) ∙ e))
-    by false false e f = e ∙ sym f
 
 -- where a set of names finds one
 pub place_of_name : (keys : List (String Global)) (name : List ℕ) → position (λ k. bytes_eq name (string_bytes k)) keys ≡ position (bytes_eq name) (map string_bytes keys)

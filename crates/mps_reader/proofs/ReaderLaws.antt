@@ -1,22 +1,22 @@
 -- Going through the lines of a text.
-use Rattle.std.specs.Prelude.{◌≡◌, ℕ, suc, ◌+◌, Bool, true, false, cond, List, [], ◌∷◌, ◌++◌, length, map, filter, flat_map, Option, None, Some, option_map, unwrap_or, not, ◌&&◌, ◌||◌, nat_le, bytes_eq, codes, slice_get, slice_index_or, take, drop, if◌then◌else◌, Result, Ok, Err, refl}
-use Rattle.std.specs.Option.{option_or, option_map_or, is_some}
-use Rattle.std.specs.List.{list_any, slice_split, enumerate_from}
+use Rattle.std.specs.Prelude.{◌≡◌, ℕ, Bool, true, false, cond, List, [], ◌∷◌, ◌++◌, length, map, filter, Option, None, Some, option_map, unwrap_or, not, ◌&&◌, ◌||◌, nat_le, bytes_eq, codes, slice_get, slice_index_or, if◌then◌else◌, Result, Ok, Err, refl}
+use Rattle.std.specs.Option.{option_map_or}
+use Rattle.std.specs.List.{list_any}
 use Rattle.std.proofs.Common.{sym, ◌∙◌, ap, subst, arith}
 use Rattle.std.proofs.lemmas.Bool.{le-leb}
-use Rattle.ip_defs.specs.Lists.{first_of, last_of, is_among, when, with_earlier, after_those, through_first}
-use Rattle.ip_defs.specs.Records.{Line, items_of, words_of, first_field, opens, opens_end, last_word, line_of, lines_of, numbered, fields_of, is_end, is_star, is_blank, begins_with, without_return}
-use Rattle.ip_defs.specs.Faults.{all_line_faults, line_faults, item_faults, is_before}
+use Rattle.ip_defs.specs.Lists.{first_of, last_of, is_among, when}
+use Rattle.ip_defs.specs.Records.{Line, items_of, words_of, first_field, opens, opens_end, last_word, line_of, fields_of, is_star, is_blank, begins_with}
+use Rattle.ip_defs.specs.Faults.{all_line_faults, line_faults, is_before}
 use Rattle.ip_defs.specs.declared.texts.MpsError.{MpsError}
 use Rattle.ip_defs.specs.declared.texts.MpsError.TheVariants.{SectionOrder}
 use Rattle.mps_reader.specs.declared.sections.Section.{Section}
 use Rattle.mps_reader.specs.declared.draft.Draft.{Draft}
 use Rattle.mps_reader.specs.Progress.{section_word, Stands, IsTaken, IsFirstFault, item, opening}
-use Rattle.mps_reader.specs.Reading.{is_read, lines_by, last_section, IsDraftOf, IsLineTaken}
-use Rattle.mps_reader.proofs.GrowthLaws.{true_not_false, append_nil, append_assoc, faults-add, filter-append, map-append, last_word-add, lines-add, with_earlier-add, through-append, flat_map-append, enumerate-append}
+use Rattle.mps_reader.specs.Reading.{is_read, lines_by, last_section, IsLineTaken}
+use Rattle.mps_reader.proofs.GrowthLaws.{true_not_false, append_nil, faults-add, filter-append, map-append, last_word-add, lines-add}
 use Rattle.mps_reader.proofs.StayLaws.{by_last, words_stay, words_grow}
-use Rattle.mps_reader.proofs.PlaceLaws.{bytes_turned}
-use Rattle.mps_reader.proofs.SectionLaws.{in_order, have_rows, last_word_is, last_is_among, last_of_map, none_is_among, later_is_empty}
+use Rattle.mps_reader.proofs.NameLaws.{name_turn}
+use Rattle.mps_reader.proofs.SectionLaws.{in_order, have_rows, last_word_is, last_is_among, last_of_map, later_is_empty}
 
 -- ---- a data line by its section
 
@@ -100,7 +100,7 @@ ended_where ps = ap (is_among (codes "ENDATA")) (words_are ps) ∙ all ps
     all [] = refl
     all (p ∷ qs) =
         by p qs (opens p)
-        ∙ ap (λ t. (opens p && t) || is_among (codes "ENDATA") (map first_field (filter opens qs))) (bytes_turned (codes "ENDATA") (first_field p))
+        ∙ ap (λ t. (opens p && t) || is_among (codes "ENDATA") (map first_field (filter opens qs))) (name_turn (codes "ENDATA") (first_field p))
         ∙ ap (λ t. opens_end p || t) (all qs)
 
 item_line : (ps : List (ℕ × List ℕ)) (p : ℕ × List ℕ) → opens p ≡ false → line_of (ps, p) ≡ item (last_section (words_of (lines_by ps))) p.0 (fields_of p.1)

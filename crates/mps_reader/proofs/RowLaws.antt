@@ -1,25 +1,23 @@
 -- How a draft grows by a line of ROWS.
-use Rattle.std.specs.Prelude.{◌≡◌, ℕ, ◌+◌, Bool, true, false, cond, List, [], ◌∷◌, ◌++◌, length, map, filter, flat_map, position, slice_get, Option, None, Some, option_map, option_and_then, not, ◌&&◌, ◌==◌, bytes_eq, codes, string_bytes, if◌then◌else◌, refl}
+use Rattle.std.specs.Prelude.{◌≡◌, ℕ, ◌+◌, Bool, true, false, List, [], ◌∷◌, ◌++◌, length, map, filter, flat_map, position, Option, None, Some, option_map, not, bytes_eq, codes, string_bytes, if◌then◌else◌, refl}
 use Rattle.std.specs.Option.{option_or, is_some}
 use Rattle.std.proofs.Common.{sym, ◌∙◌, ap, subst, arith}
 use Rattle.std.proofs.lemmas.List.{length-map}
 use Rattle.std.proofs.lemmas.Option.{slice_get_within}
 use Rattle.ip_defs.specs.Lists.{first_of, last_of, is_among, when, or_else, where_true}
-use Rattle.ip_defs.specs.Records.{Line, Entry, items_of, words_of, row_lines, row_kind, row_name, is_free, column_names, kept_entries, all_entries, entries_of, is_kept}
-use Rattle.ip_defs.specs.Faults.{all_line_faults, line_faults, row_faults, is_before}
-use Rattle.ip_defs.specs.TextModels.{written_in, written_for}
-use Rattle.ip_defs.specs.declared.texts.MpsError.{MpsError}
-use Rattle.ip_defs.specs.declared.texts.MpsError.TheVariants.{SectionOrder, TwiceRow, Marker, FieldCount, RowKind as WrongKind}
+use Rattle.ip_defs.specs.Records.{Line, Entry, items_of, words_of, row_lines, row_kind, row_name, is_free, column_names, kept_entries, entries_of, is_kept}
+use Rattle.ip_defs.specs.Faults.{line_faults, row_faults, is_before}
+use Rattle.ip_defs.specs.declared.texts.MpsError.TheVariants.{SectionOrder, TwiceRow, Marker, RowKind as WrongKind}
 use Rattle.mps_reader.specs.declared.draft.RowKind.{RowKind}
 use Rattle.mps_reader.specs.declared.draft.RowKind.TheVariants.{Free, AtMost, AtLeast, Equal}
 use Rattle.mps_reader.specs.declared.draft.RowDraft.{RowDraft}
 use Rattle.mps_reader.specs.declared.draft.RowTable.{RowTable}
 use Rattle.mps_reader.specs.declared.draft.Draft.{Draft}
-use Rattle.mps_reader.specs.Progress.{section_word, kind_word, item, Stands, SectionsStand, RowsStand, RowStands, EntriesStand, ColumnsStand, BoundsStand, SetsStand, IsNewRow, IsWithRow, AreApart}
-use Rattle.mps_reader.proofs.GrowthLaws.{true_not_false, faults-add, map-append, items_of-add, append_nil}
+use Rattle.mps_reader.specs.Progress.{kind_word, item, Stands, RowsStand, RowStands, EntriesStand, IsNewRow, IsWithRow, AreApart}
+use Rattle.mps_reader.proofs.GrowthLaws.{faults-add, map-append, items_of-add}
 use Rattle.mps_reader.proofs.StayLaws.{by_last, column_lines_stay, items_stay, sections_stay, columns_stand_stay, bounds_stand_stay, sets_stay, column_names_stay}
-use Rattle.mps_reader.proofs.SectionLaws.{in_order, later_is_empty, no_left, no_right}
-use Rattle.mps_reader.proofs.PlaceLaws.{apart_more, position_append, position_cons, no_place, place_where_any, place_of_name, get_of_more}
+use Rattle.mps_reader.proofs.SectionLaws.{later_is_empty, no_left, no_right}
+use Rattle.mps_reader.proofs.PlaceLaws.{apart_more, position_append, position_cons, place_where_any, place_of_name, get_of_more}
 
 abbrev pub row_item : ℕ → List ℕ → List ℕ → Line
 row_item n kind name = item (codes "ROWS") n (kind ∷ name ∷ [])

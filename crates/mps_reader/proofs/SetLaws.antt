@@ -1,10 +1,10 @@
 -- A line of RHS or RANGES.
-use Rattle.std.specs.Prelude.{◌≡◌, ℕ, ◌==◌, ◌%◌, nat_le, Bool, true, false, not, ◌&&◌, ◌||◌, if◌then◌else◌, List, [], ◌∷◌, ◌++◌, length, drop, map, Option, None, Some, option_map, unwrap_or, bytes_eq, string_bytes, codes, Result, Ok, Err, refl}
+use Rattle.std.specs.Prelude.{◌≡◌, ℕ, nat_le, true, false, not, ◌&&◌, List, [], ◌∷◌, ◌++◌, length, map, Option, Some, option_map, unwrap_or, bytes_eq, string_bytes, codes, Result, refl}
 use Rattle.std.specs.Option.{option_map_or}
 use Rattle.std.proofs.Common.{ap, sym, ◌∙◌, subst}
 use Rattle.ip_defs.specs.Lists.{first_of, when, is_among}
-use Rattle.ip_defs.specs.Records.{Line, Entry, items_of, words_of, row_lines, row_name, column_names, all_entries, entries_of, entries_from, kept_entries, set_of, bound_set, is_kept_set}
-use Rattle.ip_defs.specs.Faults.{line_faults, pair_faults, all_line_faults}
+use Rattle.ip_defs.specs.Records.{Line, Entry, items_of, words_of, row_lines, row_name, column_names, all_entries, entries_of, entries_from, kept_entries, set_of, bound_set}
+use Rattle.ip_defs.specs.Faults.{line_faults, pair_faults}
 use Rattle.ip_defs.specs.declared.texts.MpsError.{MpsError}
 use Rattle.ip_defs.specs.declared.texts.MpsError.TheVariants as Out
 use Rattle.mps_reader.specs.declared.sections.Section.{Section}
@@ -13,12 +13,10 @@ use Rattle.mps_reader.specs.declared.draft.RowTable.{RowTable}
 use Rattle.mps_reader.specs.declared.draft.Sets.{Sets}
 use Rattle.mps_reader.specs.declared.draft.Draft.{Draft}
 use Rattle.mps_reader.specs.declared.entries.Owner.{Owner}
-use Rattle.mps_reader.specs.declared.entries.Owner.TheVariants.{Column, RightSides, Ranges}
-use Rattle.mps_reader.specs.Progress.{EntriesStand, SetsStand, Stands, IsTaken, section_word, item}
-use Rattle.mps_reader.specs.Taking.{IsDone, RowsHave, Owns, AreEntriesTaken, IsSetLine, IsSetKept, owner_word, set_owner, faults_after}
+use Rattle.mps_reader.specs.Progress.{EntriesStand, Stands, IsTaken, section_word, item}
+use Rattle.mps_reader.specs.Taking.{RowsHave, Owns, AreEntriesTaken, IsSetLine, IsSetKept, set_owner, faults_after}
 use Rattle.mps_reader.proofs.GrowthLaws.{true_not_false, items_of-add}
-use Rattle.mps_reader.proofs.StayLaws.{items_stay, column_lines_stay, column_names_stay, sections_stay, columns_stand_stay, bounds_stand_stay}
-use Rattle.mps_reader.proofs.PlaceLaws.{bytes_same}
+use Rattle.mps_reader.proofs.StayLaws.{items_stay, column_names_stay, sections_stay, columns_stand_stay, bounds_stand_stay}
 use Rattle.mps_reader.proofs.TakingLaws.{IsDone_map}
 use Rattle.mps_reader.proofs.LineLaws.{rows_begin, rows_end, pair_faults_are, no_fault_more, taken}
 
@@ -38,7 +36,7 @@ set_line_faults : (before : List Line) (pairs : List MpsError) (n : ℕ) (fields
     → when (not (is_among (codes "ROWS") (words_of before))) (Out.SectionOrder n) ++ (when (not (nat_le 2 (length fields) && nat_le (length fields) 5)) (Out.FieldCount n) ++ pairs) ≡ pairs
 set_line_faults before pairs n fields rows count =
     ap (λ b. when (not b) (Out.SectionOrder n) ++ (when (not (nat_le 2 (length fields) && nat_le (length fields) 5)) (Out.FieldCount n) ++ pairs)) rows
-        ∙ ap (λ b. when (not b) (Out.FieldCount n) ++ pairs) count
+    ∙ ap (λ b. when (not b) (Out.FieldCount n) ++ pairs) count
 
 -- what a section's own line gives once its entries are taken
 abbrev pub Takes : Owner → ℕ → List (List ℕ) → RowTable → RowTable → Result (Unit {0}) MpsError → Type 0
@@ -57,8 +55,10 @@ owned_line : (before : List Line) (d : Draft) (owner : Owner) (n : ℕ) (fields 
     → SetsStand (before ++ item (owner_word owner) n fields ∷ []) sets → Takes owner n entries d.rows rows r → IsTaken before (item (owner_word owner) n fields) (record d { rows = rows; sets = sets }) r
 owned_line before d owner n fields set entries rows sets r is h there has_rows parts owns kept takes =
     taken before l (record d { rows = rows; sets = sets }) r
-        (IsDone_map (faults_after ls owner all (entries_from n set entries)) (line_faults before l) (λ _. RowsHave ls owner (all ++ entries_from n set entries) rows) (λ _. Stands ls (record d { rows = rows; sets = sets })) r
-            (sym faults) (λ x none have. stand none have) (takes ls all set begin owns))
+    (IsDone_map (faults_after ls owner (all_entries (codes "RHS") before) (entries_from n set entries)) (line_faults before l)
+    (λ _. RowsHave ls owner (all_entries (codes "RHS") before ++ entries_from n set entries) rows) (λ _. Stands ls (record d { rows = rows; sets = sets })) r
+    (sym faults) (λ x none have. stand none have)
+    (takes ls (all_entries (codes "RHS") before) set begin owns))
   where
     l : Line
     l = item (owner_word owner) n fields
@@ -78,8 +78,11 @@ owned_line before d owner n fields set entries rows sets r is h there has_rows p
     entries_are : entries_from n set entries ≡ entries_of l
     entries_are = ap (λ k. entries_from n k entries) parts.set_is ∙ ap (entries_from n (set_of l)) parts.entries_are ∙ sym is.entries
 
-    faults : line_faults before l ≡ faults_after ls owner all (entries_from n set entries)
-    faults = is.faults ∙ set_line_faults before (pair_faults before l) n fields has_rows parts.count ∙ pair_faults_are before owner n fields ∙ ap (faults_after ls owner all) (sym entries_are)
+    faults : line_faults before l ≡ faults_after ls owner (all_entries (codes "RHS") before) (entries_from n set entries)
+    faults =
+        set_line_faults before (codes "RHS") (pair_faults before l) n fields has_rows parts.count
+        ∙ pair_faults_are before owner n fields
+        ∙ ap (faults_after ls owner (all_entries (codes "RHS") before)) (sym entries_are)
 
     stand : faults_after ls owner all (entries_from n set entries) ≡ [] → RowsHave ls owner (all ++ entries_from n set entries) rows → Stands ls (record d { rows = rows; sets = sets })
     stand none have = record {
@@ -123,15 +126,53 @@ ranges_line : (before : List Line) (d : Draft) (n : ℕ) (fields : List (List �
     → is_among (codes "RANGES") (words_of before) ≡ true → is_among (codes "ROWS") (words_of before) ≡ true → IsSetLine fields set entries → IsSetKept Sections.Ranges set d.sets sets
     → Takes (set_owner Sections.Ranges d.sets set) n entries d.rows rows r → IsTaken before (item (codes "RANGES") n fields) (record d { rows = rows; sets = sets }) r
 ranges_line before d n fields set entries rows sets r h there has_rows parts kept takes =
-    let l = item (codes "RANGES") n fields in
-    owned_line before d (set_owner Sections.Ranges d.sets set) n fields set entries rows sets r (record { no_column = refl; no_bound = refl; entries = refl; faults = refl }) h there has_rows parts
-        (owner_is (codes "RANGES") before l set _ refl h.sets.ranges parts.set_is)
-        (record {
-          right_sides = ap (option_map string_bytes) kept.0 ∙ h.sets.right_sides ∙ ap (λ ks. option_map set_of (first_of ks)) (sym (items_stay (codes "RHS") before l refl));
-          ranges = kept.1 ∙ name_is (codes "RANGES") before l set _ refl h.sets.ranges parts.set_is;
-          bounds = ap (option_map string_bytes) kept.2 ∙ h.sets.bounds ∙ ap (λ ks. option_map bound_set (first_of ks)) (sym (items_stay (codes "BOUNDS") before l refl));
-        })
-        takes
+    taken before l (record d { rows = rows; sets = sets }) r
+    (IsDone_map (faults_after ls owner (all_entries (codes "RANGES") before) (entries_from n set entries)) (line_faults before l)
+    (λ _. RowsHave ls owner (all_entries (codes "RANGES") before ++ entries_from n set entries) rows) (λ _. Stands ls (record d { rows = rows; sets = sets })) r
+    (sym faults) (λ x none have. stand none have)
+    (takes ls (all_entries (codes "RANGES") before) set begin owns))
+  where
+    l : Line
+    l = item (codes "RANGES") n fields
+
+    ls : List Line
+    ls = before ++ l ∷ []
+
+    owner : Owner
+    owner = set_owner Sections.Ranges d.sets set
+
+    owns : Owns ls owner set
+    owns = ap (λ ks. option_map_or (λ k. bytes_eq (set_of k) set) (first_of ks) false) (items_of-add (codes "RANGES") before l) ∙ kept_set (items_of (codes "RANGES") before) l set _ h.sets.ranges parts.set_is
+
+    columns : column_names ls ≡ column_names before
+    columns = column_names_stay before l refl
+
+    begin : RowsHave ls owner (all_entries (codes "RANGES") before) d.rows
+    begin = rows_begin before owner n fields d.rows h.rows (subst (λ names. EntriesStand (kept_entries (codes "COLUMNS") before) (kept_entries (codes "RHS") before) (kept_entries (codes "RANGES") before) names (map row_name (row_lines before)) d.rows.rows.items) (sym columns) h.entries)
+
+    entries_are : entries_from n set entries ≡ entries_of l
+    entries_are = ap (λ k. entries_from n k entries) parts.set_is ∙ ap (entries_from n (set_of l)) parts.entries_are
+
+    faults : line_faults before l ≡ faults_after ls owner (all_entries (codes "RANGES") before) (entries_from n set entries)
+    faults =
+        set_line_faults before (codes "RANGES") (pair_faults before l) n fields has_rows parts.count
+        ∙ pair_faults_are before owner n fields
+        ∙ ap (faults_after ls owner (all_entries (codes "RANGES") before)) (sym entries_are)
+
+    stand : faults_after ls owner (all_entries (codes "RANGES") before) (entries_from n set entries) ≡ [] → RowsHave ls owner (all_entries (codes "RANGES") before ++ entries_from n set entries) rows → Stands ls (record d { rows = rows; sets = sets })
+    stand none have = record {
+      no_fault = no_fault_more before l h.no_fault (faults ∙ none);
+      sections = sections_stay before l d.sections.items refl there h.sections;
+      rows = have.rows;
+      entries = rows_end before owner n fields rows (subst (λ k. RowsHave ls owner (all_entries (codes "RANGES") before ++ k) rows) entries_are have);
+      columns = columns_stand_stay before l d.columns refl h.columns;
+      bounds = bounds_stand_stay before l d.columns.columns.items refl refl h.bounds;
+      sets = record {
+        right_sides = ap (option_map string_bytes) kept.0 ∙ h.sets.right_sides ∙ ap (λ ks. option_map set_of (first_of ks)) (sym (items_stay (codes "RHS") before l refl));
+        ranges = kept.1 ∙ kept_name (items_of (codes "RANGES") before) l set _ h.sets.ranges parts.set_is ∙ ap (λ ks. option_map set_of (first_of ks)) (sym (items_of-add (codes "RANGES") before l));
+        bounds = ap (option_map string_bytes) kept.2 ∙ h.sets.bounds ∙ ap (λ ks. option_map bound_set (first_of ks)) (sym (items_stay (codes "BOUNDS") before l refl));
+      };
+    }
 
 -- a line of RHS or RANGES is taken
 pub set_line : (before : List Line) (d : Draft) (section : Section) (n : ℕ) (fields : List (List ℕ)) (set : List ℕ) (entries : List (List ℕ)) (rows : RowTable) (sets : Sets) (r : Result (Unit {0}) MpsError) → Stands before d

@@ -1,20 +1,20 @@
 -- What stays when a line comes that says nothing of it.
-use Rattle.std.specs.Prelude.{◌≡◌, ℕ, suc, Bool, true, false, cond, List, [], ◌∷◌, ◌++◌, length, map, filter, flat_map, Option, None, Some, not, ◌&&◌, ◌||◌, position, slice_get, option_map, option_and_then, nat_le, bytes_eq, codes, string_bytes, refl}
+use Rattle.std.specs.Prelude.{◌≡◌, ℕ, Bool, true, false, cond, List, [], ◌∷◌, ◌++◌, length, map, filter, flat_map, not, ◌&&◌, ◌||◌, position, slice_get, option_map, option_and_then, nat_le, bytes_eq, codes, refl}
 use Rattle.std.specs.Option.{option_map_or}
 use Rattle.std.specs.List.{list_any}
 use Rattle.std.proofs.Common.{sym, ◌∙◌, ap, subst}
 use Rattle.std.proofs.lemmas.Slice.Eq.{bytes_eq-Decides}
 use Rattle.ip_defs.specs.Lists.{first_of, last_of, with_earlier, is_among, when}
-use Rattle.ip_defs.specs.Records.{Line, Entry, items_of, words_of, row_lines, row_name, row_kind, is_free, column_lines, column_name, column_names, first_lines, has_column, in_force, is_marker, set_of, bound_set, is_kept, is_kept_bound, bound_column, bounds_on, all_entries, kept_entries, entries_of, field}
-use Rattle.ip_defs.specs.TextModels.{is_integer, lower_entry, upper_entry, lower_by, sets_lower, sets_upper, kind_is}
+use Rattle.ip_defs.specs.Records.{Line, Entry, items_of, words_of, row_lines, row_name, row_kind, is_free, column_lines, column_name, column_names, first_lines, has_column, in_force, is_marker, set_of, bound_set, is_kept, bound_column, bounds_on, all_entries, kept_entries, entries_of, field}
+use Rattle.ip_defs.specs.TextModels.{is_integer, lower_by, sets_lower, sets_upper, kind_is}
 use Rattle.mps_reader.specs.declared.sections.Section.{Section}
 use Rattle.mps_reader.specs.declared.draft.RowDraft.{RowDraft}
 use Rattle.mps_reader.specs.declared.draft.RowTable.{RowTable}
 use Rattle.mps_reader.specs.declared.draft.ColumnDraft.{ColumnDraft}
 use Rattle.mps_reader.specs.declared.draft.ColumnTable.{ColumnTable}
 use Rattle.mps_reader.specs.declared.draft.Sets.{Sets}
-use Rattle.mps_reader.specs.Progress.{section_word, SectionsStand, RowsStand, EntriesStand, RowStands, ColumnsStand, ColumnStands, BoundsStand, SetsStand, AreApart, column_of, upper_said}
-use Rattle.mps_reader.proofs.GrowthLaws.{true_not_false, append_nil, append_assoc, filter-append, map-append, items_of-add, rows_stay, kept_is, is_new_column, is_first, name_in, column_names-add, with_earlier-add, all_entries-add, filter-same, kept_by}
+use Rattle.mps_reader.specs.Progress.{SectionsStand, RowsStand, EntriesStand, ColumnsStand, BoundsStand, SetsStand, AreApart, column_of, upper_said}
+use Rattle.mps_reader.proofs.GrowthLaws.{true_not_false, append_nil, append_assoc, filter-append, map-append, items_of-add, rows_stay, is_new_column, is_first, column_names-add, with_earlier-add, filter-same, kept_by}
 
 -- ---- lists from their ends
 

@@ -1,14 +1,14 @@
 -- The table of rows after an entry.
-use Rattle.std.specs.Prelude.{◌≡◌, ◌⊎◌, ℕ, zero, suc, ◌==◌, ◌≤◌, nat_lt, Bool, true, false, not, ◌&&◌, ◌||◌, List, [], ◌∷◌, ◌++◌, length, map, filter, position, slice_get, slice_set, Option, None, Some, bytes_eq, string_bytes, codes, unwrap_or, Result, Ok, Err, refl}
+use Rattle.std.specs.Prelude.{◌≡◌, ℕ, zero, suc, ◌==◌, ◌≤◌, nat_lt, Bool, true, false, not, ◌&&◌, List, [], ◌∷◌, ◌++◌, length, map, position, slice_get, slice_set, None, Some, bytes_eq, string_bytes, codes, unwrap_or, Result, refl}
 use Rattle.std.specs.List.{list_any}
 use Rattle.std.specs.Vec.{with_item}
 use Rattle.std.proofs.Common.{arith, ap, sym, ◌∙◌, subst, ◌-◌, ◌<◌, get_or, take, drop, Bor}
 use Rattle.std.proofs.lemmas.Bool.{eqb-true, eqb-false, ltb-false}
 use Rattle.std.proofs.lemmas.Option.{get_or_from_slice_get, slice_get_past}
 use Rattle.std.proofs.Math.Seq.{map-set_same, take-length}
-use Rattle.ip_defs.specs.Lists.{first_of, is_among, when, where_true}
+use Rattle.ip_defs.specs.Lists.{first_of, is_among, when}
 use Rattle.ip_defs.specs.Numbers.{number_of, is_number, decimals_of}
-use Rattle.ip_defs.specs.Records.{Line, Entry, is_free, row_kind, row_name, row_lines, is_kept, column_names, entries_from}
+use Rattle.ip_defs.specs.Records.{Line, Entry, is_free, row_kind, row_name, row_lines, is_kept, entries_from}
 use Rattle.ip_defs.specs.Faults.{entry_faults, same_place}
 use Rattle.ip_defs.specs.TextModels.{number_at, no_number}
 use Rattle.ip_defs.specs.declared.texts.Number.{Number}
@@ -19,7 +19,7 @@ use Rattle.mps_reader.specs.declared.draft.RowTable.{RowTable}
 use Rattle.mps_reader.specs.declared.entries.Owner.{Owner}
 use Rattle.mps_reader.specs.Progress.{RowsStand, kind_word}
 use Rattle.mps_reader.specs.Taking.{IsDone, Owns, IsPut, RowsHave, IsEntryTaken, AreEntriesTaken, faults_after, entry, owner_word, has_number, counts_on}
-use Rattle.mps_reader.proofs.GrowthLaws.{true_not_false, first_stays, append_assoc}
+use Rattle.mps_reader.proofs.GrowthLaws.{first_stays, append_assoc}
 use Rattle.mps_reader.proofs.NameLaws.{position_found, Apart-from, name_same, not_true}
 use Rattle.mps_reader.proofs.CountLaws.{counts, is_at}
 use Rattle.mps_reader.proofs.EntryLaws.{RowHas, has_same_place, idle_entry, other_row, own_row}
@@ -70,8 +70,8 @@ entry_counts : (ls : List Line) (owner : Owner) (t : RowTable) (i : ℕ) (r : Ro
 entry_counts ls owner t i r e rows owns at there =
     let found = found_row ls t e.row i rows at in
     ap (λ k. counts_on owner (bytes_eq k (codes "N")) (is_at t.objective i)) (kind_is ls t i found.0 r rows found.1 there)
-        ∙ ap (λ o. counts_on owner (is_free found.0) (is_at o i)) rows.objective
-        ∙ counts ls owner i found.0 e owns (Apart-from (map row_name (row_lines ls)) rows.apart) found.1 (sym found.2)
+    ∙ ap (λ o. counts_on owner (is_free found.0) (is_at o i)) rows.objective
+    ∙ counts ls owner i found.0 e owns (Apart-from (map row_name (row_lines ls)) rows.apart) found.1 (sym found.2)
 
 -- a row is replaced by one of its kind
 rows_after : (ls : List Line) (t : RowTable) (i : ℕ) (r new : RowDraft) → RowsStand ls t → slice_get t.rows.items i ≡ Some r → new.kind ≡ r.kind
@@ -121,8 +121,8 @@ late_faults : (word : List ℕ) (ls : List Line) (es : List Entry) (e : Entry) (
 late_faults word ls es e n there is =
     let kept = is_kept word ls e in
     ap (λ a. four (not a) (not (is_number e.text)) (kept && nat_lt 9 (decimals_of (number_at e.text))) (kept && list_any (same_place e) es) e.line) there
-        ∙ ap (λ b. four false (not b) (kept && nat_lt 9 (decimals_of (number_at e.text))) (kept && list_any (same_place e) es) e.line) (where_some (is_number e.text) _ n is)
-        ∙ ap (λ o. four false false (kept && nat_lt 9 (decimals_of (unwrap_or o no_number))) (kept && list_any (same_place e) es) e.line) is
+    ∙ ap (λ b. four false (not b) (kept && nat_lt 9 (decimals_of (number_at e.text))) (kept && list_any (same_place e) es) e.line) (where_some (is_number e.text) _ n is)
+    ∙ ap (λ o. four false false (kept && nat_lt 9 (decimals_of (unwrap_or o no_number))) (kept && list_any (same_place e) es) e.line) is
 
 known_row : (ls : List Line) (t : RowTable) (row : List ℕ) (i : ℕ) → RowsStand ls t → position (bytes_eq row) (map string_bytes t.names.keys) ≡ Some i → is_among row (map row_name (row_lines ls)) ≡ true
 known_row ls t row i rows at = known row (map row_name (row_lines ls)) i (ap (position (bytes_eq row)) (sym rows.names) ∙ at)
@@ -146,10 +146,11 @@ pub not_counted : (ls : List Line) (owner : Owner) (es : List Entry) (t : RowTab
     → slice_get t.rows.items i ≡ Some r → number_of e.text ≡ Some n → counts_on owner (bytes_eq (kind_word r.kind) (codes "N")) (is_at t.objective i) ≡ false
     → (entry_faults (owner_word owner) ls es e ≡ []) × RowsHave ls owner (es ++ e ∷ []) (record { names = t.names; rows = with_item t.rows i r; objective = t.objective })
 not_counted ls owner es t i r e n have owns at there is idle =
-    let kept = sym (entry_counts ls owner t i r e have.rows owns at there) ∙ idle in
-    (late_faults (owner_word owner) ls es e n (known_row ls t e.row i have.rows at) is
-        ∙ ap (λ k. four false false (k && nat_lt 9 (decimals_of n)) (k && list_any (same_place e) es) e.line) kept,
-    table_after ls owner es t i r r e have at there refl (λ has. idle_entry ls owner es e.row r e kept has) (λ name k other has. idle_entry ls owner es name k e kept has))
+    let kept = sym (entry_counts ls owner t i r e have.rows owns at there) ∙ idle in (
+      late_faults (owner_word owner) ls es e n (known_row ls t e.row i have.rows at) is
+          ∙ ap (λ k. four false false (k && nat_lt 9 (decimals_of n)) (k && list_any (same_place e) es) e.line) kept,
+      table_after ls owner es t i r r e have at there refl (λ has. idle_entry ls owner es e.row r e kept has) (λ name k other has. idle_entry ls owner es name k e kept has),
+    )
 
 nothing_left : {A : Type 0} (xs ys : List A) → xs ++ ys ≡ [] → (xs ≡ []) × (ys ≡ [])
 nothing_left [] ys h = (refl, h)
@@ -166,7 +167,7 @@ pub counted_entry : (ls : List Line) (owner : Owner) (es : List Entry) (t : RowT
     → IsEntryTaken ls owner es (record { names = t.names; rows = with_item t.rows i new; objective = t.objective }) e result
 counted_entry ls owner es t i r new e n result have owns at there is counts done =
     IsDone_map _ (entry_faults (owner_word owner) ls es e) (λ _. IsPut owner n r new) (λ _. RowsHave ls owner (es ++ e ∷ []) (record { names = t.names; rows = with_item t.rows i new; objective = t.objective })) result
-        (sym same) written done
+    (sym same) written done
   where
     kept : is_kept (owner_word owner) ls e ≡ true
     kept = sym (entry_counts ls owner t i r e have.rows owns at there) ∙ counts
@@ -180,8 +181,8 @@ counted_entry ls owner es t i r new e n result have owns at there is counts done
     same : entry_faults (owner_word owner) ls es e ≡ when (nat_lt 9 (decimals_of n)) (Out.Digits e.line) ++ when (has_number owner r) (Out.TwiceEntry e.line)
     same =
         late_faults (owner_word owner) ls es e n (known_row ls t e.row i have.rows at) is
-            ∙ ap (λ k. four false false (k && nat_lt 9 (decimals_of n)) (k && list_any (same_place e) es) e.line) kept
-            ∙ ap (λ b. four false false (nat_lt 9 (decimals_of n)) b e.line) (sym (has_same_place ls owner es r e owns kept has))
+        ∙ ap (λ k. four false false (k && nat_lt 9 (decimals_of n)) (k && list_any (same_place e) es) e.line) kept
+        ∙ ap (λ b. four false false (nat_lt 9 (decimals_of n)) b e.line) (sym (has_same_place ls owner es r e owns kept has))
 
     written : (x : Unit {0}) → when (nat_lt 9 (decimals_of n)) (Out.Digits e.line) ++ when (has_number owner r) (Out.TwiceEntry e.line) ≡ [] → IsPut owner n r new
         → RowsHave ls owner (es ++ e ∷ []) (record { names = t.names; rows = with_item t.rows i new; objective = t.objective })
@@ -190,8 +191,8 @@ counted_entry ls owner es t i r new e n result have owns at there is counts done
         let few : decimals_of n ≤ 9 = omega (arith, ltb-false 9 (decimals_of n) (not_there (nat_lt 9 (decimals_of n)) (Out.Digits e.line) parts.0)) in
         let fresh = not_there (has_number owner r) (Out.TwiceEntry e.line) parts.1 in
         table_after ls owner es t i r new e have at there put.kind
-            (λ before. own_row ls owner es r new e n owns kept fresh (ap (λ o. unwrap_or o no_number) is) few put before)
-            (λ name k other before. other_row ls owner es name k e kept other before)
+        (λ before. own_row ls owner es r new e n owns kept fresh (ap (λ o. unwrap_or o no_number) is) few put before)
+        (λ name k other before. other_row ls owner es name k e kept other before)
 
 -- a row that is found by its name is in the table
 pub row_there : (ls : List Line) (t : RowTable) (row : List ℕ) (i : ℕ) → RowsStand ls t → position (bytes_eq row) (map string_bytes t.names.keys) ≡ Some i → length t.rows.items ≤ i → ⊥
@@ -223,6 +224,6 @@ pub go_on : (ls : List Line) (owner : Owner) (es more : List Entry) (e : Entry) 
     → AreEntriesTaken ls owner (es ++ e ∷ []) t more r → AreEntriesTaken ls owner es t (e ∷ more) r
 go_on ls owner es more e t r none done =
     IsDone_map (faults_after ls owner (es ++ e ∷ []) more) (faults_after ls owner es (e ∷ more)) (λ _. RowsHave ls owner ((es ++ e ∷ []) ++ more) t) (λ _. RowsHave ls owner (es ++ (e ∷ more)) t) r
-        (ap (λ l. l ++ faults_after ls owner (es ++ e ∷ []) more) (sym none))
-        (λ x _ have. subst (λ l. RowsHave ls owner l t) (append_assoc es (e ∷ []) more) have)
-        done
+    (ap (λ l. l ++ faults_after ls owner (es ++ e ∷ []) more) (sym none))
+    (λ x _ have. subst (λ l. RowsHave ls owner l t) (append_assoc es (e ∷ []) more) have)
+    done

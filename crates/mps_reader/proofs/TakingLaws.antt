@@ -1,9 +1,8 @@
 -- How parts of a line are taken one after the other, and the faults that are met.
-use Rattle.std.specs.Prelude.{◌≡◌, ℕ, Bool, true, false, not, List, [], ◌∷◌, ◌++◌, map, position, Option, None, Some, bytes_eq, Result, Ok, Err, refl}
+use Rattle.std.specs.Prelude.{◌≡◌, ℕ, Bool, true, false, List, [], ◌++◌, position, None, Some, bytes_eq, Result, Ok, Err, refl}
 use Rattle.std.specs.Option.{is_some}
 use Rattle.std.proofs.Common.{ap, sym, ◌∙◌, subst, IsErr, IsErrAnd, inr, inl}
 use Rattle.ip_defs.specs.Lists.{first_of, when, where_true, is_among}
-use Rattle.ip_defs.specs.Numbers.{number_of, is_number}
 use Rattle.ip_defs.specs.declared.texts.MpsError.{MpsError}
 use Rattle.mps_reader.specs.Taking.{IsDone}
 use Rattle.mps_reader.proofs.GrowthLaws.{true_not_false, first_stays}

@@ -1,5 +1,5 @@
 -- The lines of a text, taken one by one.
-use Rattle.std.specs.Prelude.{◌≡◌, ℕ, ◌+◌, ◌<◌, ◌≤◌, Bool, true, false, cond, List, [], ◌∷◌, ◌++◌, length, map, filter, flat_map, Option, None, Some, option_map, not, ◌&&◌, ◌||◌, take, drop, slice_get, if◌then◌else◌, Result, Ok, Err, refl}
+use Rattle.std.specs.Prelude.{◌≡◌, ℕ, ◌+◌, ◌<◌, ◌≤◌, Bool, true, false, cond, List, [], ◌∷◌, ◌++◌, length, map, filter, flat_map, Some, option_map, ◌&&◌, take, drop, slice_get, if◌then◌else◌, refl}
 use Rattle.std.specs.Option.{option_or}
 use Rattle.std.specs.List.{list_any, slice_split, enumerate_from}
 use Rattle.std.proofs.Common.{sym, ◌∙◌, ap, subst, arith, get_or}
@@ -9,14 +9,13 @@ use Rattle.std.proofs.lemmas.List.Splits.{length-slice_split}
 use Rattle.std.proofs.lemmas.List.Sums.{count_by-le-length}
 use Rattle.std.proofs.lemmas.List.Folds.{list_any-append}
 use Rattle.ip_defs.specs.Lists.{first_of, when, with_earlier, after_those, through_first}
-use Rattle.ip_defs.specs.Records.{Line, opens_end, line_of, lines_of, numbered, is_end, without_return}
+use Rattle.ip_defs.specs.Records.{Line, opens_end, line_of, is_end, without_return}
 use Rattle.ip_defs.specs.Faults.{all_line_faults, line_faults}
 use Rattle.ip_defs.specs.declared.texts.MpsError.{MpsError}
 use Rattle.ip_defs.specs.declared.texts.MpsError.TheVariants as Out
-use Rattle.mps_reader.specs.declared.draft.Draft.{Draft}
-use Rattle.mps_reader.specs.Progress.{Stands, IsFirstFault}
-use Rattle.mps_reader.specs.Reading.{is_read, lines_by, IsDraftOf, IsLineTaken}
-use Rattle.mps_reader.proofs.GrowthLaws.{true_not_false, append_nil, append_assoc, filter-append, map-append, through-append, flat_map-append, enumerate-append, first_of-append}
+use Rattle.mps_reader.specs.Progress.{IsFirstFault}
+use Rattle.mps_reader.specs.Reading.{is_read, lines_by}
+use Rattle.mps_reader.proofs.GrowthLaws.{append_nil, append_assoc, filter-append, map-append, through-append, flat_map-append, enumerate-append, first_of-append}
 use Rattle.mps_reader.proofs.SectionLaws.{and_left, and_right, or_false}
 
 -- the lines that are read of the lines of a text, from a number on

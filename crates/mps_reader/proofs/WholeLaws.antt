@@ -1,5 +1,5 @@
 -- What a draft says of the whole is what its lines say.
-use Rattle.std.specs.Prelude.{◌≡◌, ℕ, zero, suc, ◌+◌, ◌<◌, ◌≤◌, max, ◌||◌, if◌then◌else◌, neg_ℤ, filter, Bool, true, false, not, ◌&&◌, cond, List, [], ◌∷◌, ◌++◌, length, map, flat_map, find, position, slice_get, string_bytes, Option, None, Some, option_map, unwrap_or, bytes_eq, codes, Result, Ok, Err, ℤ}
+use Rattle.std.specs.Prelude.{◌≡◌, ℕ, zero, suc, ◌<◌, ◌≤◌, max, ◌||◌, if◌then◌else◌, neg_ℤ, filter, Bool, true, false, not, ◌&&◌, cond, List, [], ◌∷◌, ◌++◌, length, map, flat_map, find, position, slice_get, string_bytes, Option, None, Some, option_map, unwrap_or, bytes_eq, codes, Result, Ok, Err, ℤ}
 use Rattle.std.specs.List.{list_any}
 use Rattle.std.specs.Option.{option_map_or, is_none, ForSome}
 use Rattle.std.proofs.Common.{refl, arith, ap, sym, ◌∙◌, get_or, subst}
@@ -8,9 +8,9 @@ use Rattle.mps_reader.proofs.PlaceLaws.{position_cons}
 use Rattle.decimals.specs.Decimals.{IsBelowLarge}
 use Rattle.ip_defs.specs.Lists.{first_of, when, is_among}
 use Rattle.ip_defs.specs.Limits.{AreOrdered, IsRowShaped, IsWellShaped}
-use Rattle.ip_defs.specs.Records.{Line, row_lines, row_name, row_kind, is_free, objective, column_names, kept_entries, words_of}
-use Rattle.ip_defs.specs.Faults.{all_line_faults, is_ended, continuous_faults, bound_missing, upper_faults, is_negative_upper, limit_faults, faults_of_lines, lower_is_missing, upper_is_missing}
-use Rattle.ip_defs.specs.TextModels.{units, no_number, decimals_in, column_from, row_from, model_from, row_decimals, is_integer, lower_entry, upper_entry, lower_side, upper_side, lower_by, written_in, written_for}
+use Rattle.ip_defs.specs.Records.{Line, row_lines, row_name, row_kind, is_free, objective, column_names, kept_entries}
+use Rattle.ip_defs.specs.Faults.{is_ended, continuous_faults, bound_missing, upper_faults, is_negative_upper, limit_faults, faults_of_lines, lower_is_missing, upper_is_missing}
+use Rattle.ip_defs.specs.TextModels.{units, no_number, decimals_in, column_from, row_from, model_from, row_decimals, lower_entry, upper_entry, upper_side, lower_by, written_in, written_for}
 use Rattle.ip_defs.specs.declared.texts.Number.{Number}
 use Rattle.ip_defs.specs.declared.texts.How.{How}
 use Rattle.ip_defs.specs.declared.texts.Side.TheVariants.{Lower, Upper}
@@ -23,17 +23,14 @@ use Rattle.mps_reader.specs.declared.sections.Section.{Section}
 use Rattle.mps_reader.specs.declared.sections.Section.TheVariants as Sections
 use Rattle.mps_reader.specs.declared.draft.RowDraft.{RowDraft}
 use Rattle.mps_reader.specs.declared.draft.ColumnDraft.{ColumnDraft}
-use Rattle.mps_reader.specs.declared.draft.UpperBound.{UpperBound}
 use Rattle.mps_reader.specs.declared.draft.Draft.{Draft}
-use Rattle.mps_reader.specs.declared.whole.Rule.{Rule}
 use Rattle.mps_reader.specs.declared.whole.Rule.TheVariants.{Integer, Bounded, NotNegative}
-use Rattle.mps_reader.specs.Below.{AreBelowLarge, AreWithin, IsRowBelow, AreRowsBelow}
+use Rattle.mps_reader.specs.Below.{AreBelowLarge, AreWithin, AreRowsBelow}
 use Rattle.mps_reader.specs.Clamps.{clamped_coefs, clamped_row, clamped_column, clamped_parts}
 use Rattle.ip_defs.specs.Faults.{IsFirst}
-use Rattle.mps_reader.specs.Drafted.{asked, column_faults, continuous_fault, missing_sides, negative_fault, is_negative_bound, is_end, is_free_kind, drafted_coefs, drafted_row, drafted_rows, drafted_columns, drafted_decimals, drafted_lower, drafted_upper, drafted_model, drafted_column_faults, row_names}
+use Rattle.mps_reader.specs.Drafted.{asked, column_faults, is_negative_bound, is_end, is_free_kind, drafted_coefs, drafted_row, drafted_rows, drafted_columns, drafted_decimals, drafted_lower, drafted_model, drafted_column_faults, row_names}
 use Rattle.mps_reader.specs.Drafted.{column_names as drafted_names}
 use Rattle.mps_reader.specs.Finished.{HasCounts, IsDrafted, IsFinished, IsLimited}
-use Rattle.ip_defs.specs.TextModels.{IsHow}
 use Rattle.mps_reader.specs.Progress.{Stands, ColumnStands, section_word, kind_word, upper_said}
 use Rattle.mps_reader.proofs.WrittenLaws.{entries_below, entries_within, written_for_below, coefs_ordered}
 use Rattle.mps_reader.proofs.FaultLaws.{first_later}
@@ -103,13 +100,13 @@ model_shaped ls d how name r o s digits named at =
     let k = drafted_decimals how r in
     let width = drafted_columns how k 0 r.entries.items (drafted_names d) d.columns.columns.items in
     let columns : length (map clamped_column width) ≡ length (column_names ls) =
-        mapped_count clamped_column width ∙ count_columns how k 0 r.entries.items (drafted_names d) d.columns.columns.items (ap length s.columns.names ∙ sym s.columns.count) ∙ s.columns.count in
+    mapped_count clamped_column width ∙ count_columns how k 0 r.entries.items (drafted_names d) d.columns.columns.items (ap length s.columns.names ∙ sym s.columns.count) ∙ s.columns.count in
     let same = s.rows.names in
     let row = s.entries o name r (ap (λ ns. slice_get ns o) (sym same) ∙ named) at in
     record {
       decimals = let few = row.few in omega arith;
       rows = λ i x found. rows_shaped how (length (map clamped_column width)) (row_names d) d.rows.rows.items (ap length same ∙ sym (row_count ls d s))
-        (λ j n y called there.
+          (λ j n y called there.
           let each = s.entries j n y (ap (λ ns. slice_get ns j) (sym same) ∙ called) there in
           let few = each.few in
           record {
@@ -117,7 +114,7 @@ model_shaped ls d how name r o s digits named at =
             coefs = subst (λ (es : List (ℕ × Number)). AreOrdered (length (map clamped_column width)) (clamped_coefs (drafted_coefs (drafted_decimals how y) es))) (sym each.entries_are)
                 (subst (λ m. AreOrdered m (clamped_coefs (drafted_coefs (drafted_decimals how y) (written_in (kept_entries (codes "COLUMNS") ls) (column_names ls) n)))) (sym columns) (coefs_ordered (kept_entries (codes "COLUMNS") ls) (column_names ls) n (drafted_decimals how y)));
           })
-        i x found;
+          i x found;
     }
 
 -- ---- the model
@@ -140,9 +137,9 @@ model_is ls d how name r o s e named at =
     let k : drafted_decimals how r ≡ row_decimals ls how name = ap (max how.digits) row.decimals ∙ decimals_are how.digits (decimals_in (es ++ right ++ kept_entries (codes "RANGES") ls) name) in
     let constant = ap (λ w. neg_ℤ (units (drafted_decimals how r) (unwrap_or w no_number))) row.right_side ∙ ap (λ n. neg_ℤ (units n (unwrap_or (written_for right name) no_number))) k in
     let columns =
-        ap (λ ns. drafted_columns how (drafted_decimals how r) 0 r.entries.items ns d.columns.columns.items) s.columns.names
-        ∙ columns_are ls how name (drafted_decimals how r) 0 r.entries.items (column_names ls) d.columns.columns.items row.entries_are (sym s.columns.count) s.bounds
-        ∙ ap (λ n. map (column_from ls how name n) (column_names ls)) k in
+    ap (λ ns. drafted_columns how (drafted_decimals how r) 0 r.entries.items ns d.columns.columns.items) s.columns.names
+    ∙ columns_are ls how name (drafted_decimals how r) 0 r.entries.items (column_names ls) d.columns.columns.items row.entries_are (sym s.columns.count) s.bounds
+    ∙ ap (λ n. map (column_from ls how name n) (column_names ls)) k in
     let rows = ap (λ ns. drafted_rows how ns d.rows.rows.items) s.rows.names ∙ rows_are ls how (row_lines ls) d.rows.rows.items s.rows.kinds s.entries in
     ap (λ n. made name n (neg_ℤ (units (drafted_decimals how r) (unwrap_or r.right_side no_number))) (drafted_columns how (drafted_decimals how r) 0 r.entries.items (drafted_names d) d.columns.columns.items) (drafted_rows how (row_names d) d.rows.rows.items)) k
     ∙ ap (λ z. made name (row_decimals ls how name) z (drafted_columns how (drafted_decimals how r) 0 r.entries.items (drafted_names d) d.columns.columns.items) (drafted_rows how (row_names d) d.rows.rows.items)) constant

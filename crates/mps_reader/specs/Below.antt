@@ -1,5 +1,5 @@
 -- Numbers of a draft that are Large or below 10^20 in size, as all numbers that are read.
-use Rattle.std.specs.Prelude.{◌≡◌, ◌<◌, ◌≤◌, ℕ, List, slice_get, Option, Some}
+use Rattle.std.specs.Prelude.{◌≡◌, ◌<◌, ◌≤◌, ℕ, List, slice_get, Some}
 use Rattle.std.specs.Option.{ForSome}
 use Rattle.decimals.specs.Decimals.{IsBelowLarge}
 use Rattle.ip_defs.specs.declared.texts.Number.{Number}

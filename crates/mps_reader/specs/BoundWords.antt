@@ -1,8 +1,8 @@
 -- The kinds of bounds, and what a bound says of its column.
-use Rattle.std.specs.Prelude.{◌≡◌, ℕ, ◌==◌, nat_le, Bool, false, ◌&&◌, ◌||◌, not, if◌then◌else◌, List, [], ◌∷◌, length, Option, None, Some, codes, ℤ, pos}
+use Rattle.std.specs.Prelude.{◌≡◌, ℕ, nat_le, Bool, true, ◌&&◌, ◌||◌, not, if◌then◌else◌, List, [], ◌∷◌, length, Option, Some, codes, ℤ, pos}
 use Rattle.ip_defs.specs.Lists.{is_among, where_true, or_else}
 use Rattle.ip_defs.specs.Numbers.{is_large}
-use Rattle.ip_defs.specs.Records.{Line, takes_number}
+use Rattle.ip_defs.specs.Records.{Line, bound_column, bound_kind, bound_set, bound_text, takes_number}
 use Rattle.ip_defs.specs.TextModels.{is_negative_number, rounded_down, rounded_up}
 use Rattle.ip_defs.specs.declared.texts.Number.{Number}
 use Rattle.mps_reader.specs.declared.bounds.BoundKind.{BoundKind}
@@ -35,6 +35,14 @@ integer_words = codes "BV" ∷ codes "LI" ∷ codes "UI" ∷ []
 -- a line has a number of fields that its kind has
 abbrev pub has_right_count : Line → Bool
 has_right_count l = nat_le (if takes_number l then 3 else 2) (length l.fields) && nat_le (length l.fields) 4
+
+-- a line of a kind with the right number of fields: its set, its column and its number
+pub record IsBound (l : Line) (kind : BoundKind) (set column text : List ℕ) : Type 0 where
+  pub kind_is : bound_kind l ≡ bound_word kind
+  pub count : has_right_count l ≡ true
+  pub set_is : bound_set l ≡ set
+  pub column_is : bound_column l ≡ column
+  pub text_is : bound_text l ≡ text
 
 -- what a bound of a kind and a number says as a lower side, where it is one for that side
 abbrev pub lower_of : List ℕ → Number → Option (Option ℤ)

@@ -1,5 +1,5 @@
 -- What a draft that is whole ends with: a model, or the first fault.
-use Rattle.std.specs.Prelude.{◌≡◌, ◌≤◌, ℕ, List, [], ◌++◌, length, Option, None, Some, Result, Ok, Err}
+use Rattle.std.specs.Prelude.{◌≡◌, ℕ, List, [], ◌++◌, length, None, Some, Result, Ok, Err}
 use Rattle.ip_defs.specs.Lists.{first_of}
 use Rattle.ip_defs.specs.Limits.{limits_of}
 use Rattle.ip_defs.specs.Faults.{limit_faults, faults_of_lines}
@@ -11,7 +11,7 @@ use Rattle.ip_defs.specs.declared.texts.MpsError.{MpsError}
 use Rattle.mps_reader.specs.declared.draft.RowDraft.{RowDraft}
 use Rattle.mps_reader.specs.declared.draft.Draft.{Draft}
 use Rattle.ip_defs.specs.Faults.{IsFirst}
-use Rattle.mps_reader.specs.Drafted.{drafted_column_faults, drafted_model, row_names, column_names}
+use Rattle.mps_reader.specs.Drafted.{drafted_column_faults, drafted_model}
 
 -- there are as many names as rows, and as many as columns
 pub record HasCounts (d : Draft) : Type 0 where

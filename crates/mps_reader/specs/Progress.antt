@@ -1,11 +1,10 @@
 -- What a draft has of the lines of a text that were read so far.
-use Rattle.std.specs.Prelude.{◌≡◌, ◌≤◌, ℕ, suc, ◌==◌, Bool, true, false, not, if◌then◌else◌, List, [], ◌∷◌, ◌++◌, length, map, position, slice_get, Option, None, Some, option_map, option_and_then, bytes_eq, string_bytes, codes, Result, Ok, Err}
+use Rattle.std.specs.Prelude.{◌≡◌, ◌≤◌, ℕ, suc, true, false, if◌then◌else◌, List, [], ◌∷◌, ◌++◌, length, map, position, slice_get, Option, None, Some, option_map, option_and_then, bytes_eq, string_bytes, codes, Result, Ok, Err}
 use Rattle.ip_defs.specs.Lists.{first_of, last_of, is_among, or_else, where_true}
 use Rattle.ip_defs.specs.Records.{Line, Entry, items_of, words_of, row_lines, row_kind, row_name, is_free, is_marker, in_force, column_name, column_names, set_of, bound_set, kept_entries}
 use Rattle.ip_defs.specs.TextModels.{written_in, written_for, decimals_in, largest, is_integer, lower_entry, upper_entry, lower_by, upper_by}
 use Rattle.ip_defs.specs.Faults.{IsFirst, line_faults, all_line_faults, is_negative_upper}
 use Rattle.ip_defs.specs.declared.texts.MpsError.{MpsError}
-use Rattle.ip_defs.specs.declared.texts.MpsError.TheVariants as Out
 use Rattle.mps_reader.specs.declared.sections.Section.{Section}
 use Rattle.mps_reader.specs.declared.sections.Section.TheVariants as Sections
 use Rattle.mps_reader.specs.declared.draft.RowKind.{RowKind}

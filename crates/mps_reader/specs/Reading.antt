@@ -1,7 +1,7 @@
 -- What going through the lines of a text answers.
-use Rattle.std.specs.Prelude.{◌≡◌, ℕ, Bool, ◌&&◌, not, nat_le, List, [], ◌∷◌, ◌++◌, length, map, Option, unwrap_or, Result, Ok, Err}
+use Rattle.std.specs.Prelude.{◌≡◌, ℕ, Bool, ◌&&◌, not, nat_le, List, [], ◌++◌, length, map, unwrap_or, Result, Ok, Err}
 use Rattle.ip_defs.specs.Lists.{with_earlier, last_of, when}
-use Rattle.ip_defs.specs.Records.{Line, begins_with, is_star, fields_of, line_of, lines_of, opens_end}
+use Rattle.ip_defs.specs.Records.{Line, begins_with, is_star, fields_of, line_of, opens_end}
 use Rattle.ip_defs.specs.Faults.{all_line_faults}
 use Rattle.ip_defs.specs.declared.texts.MpsError.{MpsError}
 use Rattle.mps_reader.specs.declared.draft.Draft.{Draft}

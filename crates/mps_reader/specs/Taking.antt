@@ -4,7 +4,7 @@ use Rattle.std.specs.Option.{option_map_or, is_some}
 use Rattle.ip_defs.specs.Lists.{first_of, last_of, is_among, when, after_those}
 use Rattle.ip_defs.specs.Numbers.{decimals_of, is_number, number_of}
 use Rattle.ip_defs.specs.Faults.{entry_faults}
-use Rattle.ip_defs.specs.Records.{Line, Entry, set_of, is_marker, column_name, row_lines, row_name, column_names, is_kept, is_kept_set, kept_entries}
+use Rattle.ip_defs.specs.Records.{Line, Entry, set_of, column_name, row_lines, row_name, column_names, is_kept, is_kept_set, kept_entries}
 use Rattle.ip_defs.specs.declared.texts.Number.{Number}
 use Rattle.ip_defs.specs.declared.texts.MpsError.{MpsError}
 use Rattle.ip_defs.specs.declared.texts.MpsError.TheVariants as Out

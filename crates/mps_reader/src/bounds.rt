@@ -1,11 +1,11 @@
-ghost use Rattle.std.specs.Prelude.{◌≡◌, ℕ, ◌||◌, ◌&&◌, ◌<◌, [], List, None, Some, true, false, codes, length, map, not, position, bytes_eq, string_bytes, slice_get, slice_set, OnOk, IfSome};
+ghost use Rattle.std.specs.Prelude.{◌≡◌, ℕ, ◌||◌, ◌&&◌, [], List, None, Some, true, false, codes, map, not, slice_get, slice_set, IfSome};
 ghost use Rattle.std.specs.Option.{MatchOption};
 ghost use Rattle.decimals.specs.Decimals.{IsBelowLarge};
 ghost use Rattle.ip_defs.specs.Lists.{is_among, last_of, where_true};
 ghost use Rattle.ip_defs.specs.Numbers.{is_large, number_of};
-ghost use Rattle.ip_defs.specs.Records.{Line, bound_column, bound_kind, bound_set, bound_text, takes_none, takes_number as takes_number_of, words_of};
+ghost use Rattle.ip_defs.specs.Records.{Line, bound_kind, takes_none, takes_number as takes_number_of, words_of};
 ghost use Rattle.ip_defs.specs.TextModels.{is_negative_number, no_number, rounded_down as rounded_down_of, rounded_up as rounded_up_of};
-ghost use Rattle.mps_reader.specs.BoundWords.{Says, after_bound as after_bound_of, bound_word, has_right_count, integer_words, lower_of, numbered_words, plain_words, upper_of};
+ghost use Rattle.mps_reader.specs.BoundWords.{IsBound, Says, after_bound as after_bound_of, bound_word, has_right_count, integer_words, lower_of, numbered_words, plain_words, upper_of};
 ghost use Rattle.mps_reader.specs.declared.draft.ColumnDraft.{ColumnDraft as ColumnDraftOf};
 ghost use Rattle.mps_reader.specs.Progress.{IsTaken, Stands, item};
 
@@ -207,7 +207,7 @@ fn number_in(kind: BoundKind, text: &str) -> Option<Number>
 
 /// The fields of a line of BOUNDS after its kind. None comes where the kind does not have that number of fields.
 fn fields_after<'a>(kind: BoundKind, fields: &[&'a str]) -> Option<BoundFields<'a>>
-    ensures { (l : Line) → bound_kind l ≡ bound_word kind → l.fields ≡ map (λ f. f.now) fields.now → MatchOption result (has_right_count l ≡ false) (λ b. (has_right_count l ≡ true) × (bound_set l ≡ b.set.now) × (bound_column l ≡ b.column.now) × (bound_text l ≡ b.text.now)) }
+    ensures { (l : Line) → bound_kind l ≡ bound_word kind → l.fields ≡ map (λ f. f.now) fields.now → MatchOption result (has_right_count l ≡ false) (λ b. IsBound l kind b.set.now b.column.now b.text.now) }
 {
     match (takes_number(kind), fields) {
         (true, [_, column, text]) => Some(BoundFields {
@@ -258,7 +258,7 @@ fn take_bound(
     kind: BoundKind,
     bound: BoundFields<'_>,
 ) -> Result<(), MpsError>
-    ensures { (before : List Line) (fields : List (List ℕ)) → Stands before draft.old → is_among (codes "ROWS") (words_of before) ≡ true → is_among (codes "BOUNDS") (words_of before) ≡ true → bound_kind (item (codes "BOUNDS") line fields) ≡ bound_word kind → has_right_count (item (codes "BOUNDS") line fields) ≡ true → bound_set (item (codes "BOUNDS") line fields) ≡ bound.entry.set.now → bound_column (item (codes "BOUNDS") line fields) ≡ bound.entry.column.now → bound_text (item (codes "BOUNDS") line fields) ≡ bound.entry.text.now → IsTaken before (item (codes "BOUNDS") line fields) draft.new result }
+    ensures { (before : List Line) (fields : List (List ℕ)) → Stands before draft.old → is_among (codes "ROWS") (words_of before) ≡ true → is_among (codes "BOUNDS") (words_of before) ≡ true → IsBound (item (codes "BOUNDS") line fields) kind bound.entry.set.now bound.entry.column.now bound.entry.text.now → IsTaken before (item (codes "BOUNDS") line fields) draft.new result }
 {
     let column = match draft.columns.names.get_index_of(bound.column) {
         Some(column) => column,

@@ -56,7 +56,14 @@ fn box_high(how: How) -> i128
 }
 
 /// A column of the model.
-fn column_of(alloc: Global, name: &str, column: &ColumnDraft, cost: Option<Number>, decimals: u8, how: How) -> Result<Column, AllocError>
+fn column_of(
+    alloc: Global,
+    name: &str,
+    column: &ColumnDraft,
+    cost: Option<Number>,
+    decimals: u8,
+    how: How,
+) -> Result<Column, AllocError>
     requires how { IsHow how }
     requires decimals { decimals ≤ 9 }
     requires below { ForSome cost IsBelowLarge }

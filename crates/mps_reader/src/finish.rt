@@ -113,7 +113,12 @@ fn limited(parts: Parts) -> Result<IntModel, MpsError>
 }
 
 /// The model of a draft with its objective, or the first limit that it passes. Too many columns are the first of all.
-fn model_within(alloc: Global, draft: &Draft, objective: usize, how: How) -> Result<IntModel, MpsError>
+fn model_within(
+    alloc: Global,
+    draft: &Draft,
+    objective: usize,
+    how: How,
+) -> Result<IntModel, MpsError>
     requires how { IsHow how }
     requires counts { HasCounts draft.now }
     requires below { length draft.now.columns.columns.items ≤ 4096 → AreRowsBelow draft.now.rows.rows.items }
@@ -136,7 +141,12 @@ fn model_within(alloc: Global, draft: &Draft, objective: usize, how: How) -> Res
 }
 
 /// The model of a draft with its objective, or the first fault of its columns and limits.
-fn model_with(alloc: Global, draft: &Draft, objective: usize, how: How) -> Result<IntModel, MpsError>
+fn model_with(
+    alloc: Global,
+    draft: &Draft,
+    objective: usize,
+    how: How,
+) -> Result<IntModel, MpsError>
     requires how { IsHow how }
     requires counts { HasCounts draft.now }
     requires below { length draft.now.columns.columns.items ≤ 4096 → AreRowsBelow draft.now.rows.rows.items }

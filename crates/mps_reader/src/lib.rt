@@ -17,6 +17,8 @@ mod row_list;
 mod rows;
 mod sections;
 mod sets;
+#[cfg(test)]
+mod tests;
 mod texts;
 mod whole;
 

@@ -58,7 +58,11 @@ fn column_number(column: usize) -> u32
 }
 
 /// The entries of a row that are not 0, in units.
-fn coefs_of(alloc: Global, entries: &[(usize, Number)], decimals: u8) -> Result<Vec<(u32, i64)>, AllocError>
+fn coefs_of(
+    alloc: Global,
+    entries: &[(usize, Number)],
+    decimals: u8,
+) -> Result<Vec<(u32, i64)>, AllocError>
     requires decimals { decimals ≤ 9 }
     requires below { AreBelowLarge entries.now }
     requires columns { AreWithin 4096 entries.now }
@@ -163,7 +167,12 @@ fn row_of(alloc: Global, name: &str, row: &RowDraft, how: How) -> Result<Row, Al
 {
     let decimals = decimals_of(row, how);
     let coefs = coefs_of(alloc, row.entries.as_slice(), decimals)?;
-    let (low, high) = row_sides(row.kind, decimals, row.right_side.unwrap_or(NO_NUMBER), row.range);
+    let (low, high) = row_sides(
+        row.kind,
+        decimals,
+        row.right_side.unwrap_or(NO_NUMBER),
+        row.range,
+    );
     Ok(Row {
         name: name_of(alloc, name)?,
         decimals,
@@ -174,7 +183,12 @@ fn row_of(alloc: Global, name: &str, row: &RowDraft, how: How) -> Result<Row, Al
 }
 
 /// The rows of the model: those that are not free.
-pub fn row_list(alloc: Global, names: &[String], rows: &[RowDraft], how: How) -> Result<Vec<Row>, AllocError>
+pub fn row_list(
+    alloc: Global,
+    names: &[String],
+    rows: &[RowDraft],
+    how: How,
+) -> Result<Vec<Row>, AllocError>
     requires digits { how.digits ≤ 9 }
     requires below { AreRowsBelow rows.now }
     requires names { length names.now ≡ length rows.now }

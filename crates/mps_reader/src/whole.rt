@@ -76,7 +76,13 @@ fn check_sides(alloc: Global, how: How, name: &str, column: &ColumnDraft) -> Res
 }
 
 /// A column that does not meet a rule.
-fn check_column(alloc: Global, rule: Rule, how: How, name: &str, column: &ColumnDraft) -> Result<(), MpsError>
+fn check_column(
+    alloc: Global,
+    rule: Rule,
+    how: How,
+    name: &str,
+    column: &ColumnDraft,
+) -> Result<(), MpsError>
     requires { IsHow how }
     ensures { AnswersFaults (asked rule how name.now column.now) result }
 {
@@ -100,7 +106,13 @@ fn check_column(alloc: Global, rule: Rule, how: How, name: &str, column: &Column
 }
 
 /// The first column that does not meet a rule.
-pub fn check_columns(alloc: Global, rule: Rule, how: How, names: &[String], columns: &[ColumnDraft]) -> Result<(), MpsError>
+pub fn check_columns(
+    alloc: Global,
+    rule: Rule,
+    how: How,
+    names: &[String],
+    columns: &[ColumnDraft],
+) -> Result<(), MpsError>
     requires how { IsHow how }
     requires names { length names.now ≡ length columns.now }
     ensures { AnswersFaults (column_faults (asked rule how) (map string_bytes names.now) columns.now) result }

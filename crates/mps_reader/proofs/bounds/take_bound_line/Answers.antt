@@ -21,5 +21,4 @@ returns c before h rows last =
     let fields = map (λ f. f.now) c.args.fields.now in
     let l = bound_item c.args.line fields in
     let kind = c.in-Some.ensures l refl in
-    let said = c.in-Some-fields_after.ensures l kind refl in
-    c.take_bound.ensures before fields h rows (last_is_among (words_of before) (codes "BOUNDS") last) kind said.0 said.1 said.2 said.3
+    c.take_bound.ensures before fields h rows (last_is_among (words_of before) (codes "BOUNDS") last) (c.in-Some-fields_after.ensures l kind refl)

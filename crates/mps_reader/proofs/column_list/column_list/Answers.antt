@@ -1,4 +1,4 @@
-use Rattle.std.proofs.Common.{arith, refl, sym, ap, ◌∙◌, ◌≡◌, ◌≤◌, ◌++◌, ℕ, suc, ◌+◌, ◌<◌, List, [], drop, get_or, length, ◌∷◌, map}
+use Rattle.std.proofs.Common.{arith, sym, ap, ◌∙◌, ◌≡◌, ◌++◌, ℕ, suc, ◌+◌, List, [], drop, get_or, ◌∷◌, map}
 use Rattle.std.specs.Prelude.{string_bytes, false, None}
 use Rattle.std.specs.Option.{is_some}
 use Rattle.ip_defs.specs.declared.texts.Number.{Number}
@@ -24,18 +24,18 @@ loop-j-preserved c =
     let named = drop_mapped string_bytes c.args.names.now j c.index-names-j.result (let same = c.requires.names in let inside = c.loop-j-test.true in omega arith) c.index-names-j.is in
     let listed = drop_at columns j none c.loop-j-test.true in
     let made =
-        c.in_ok-column_of.ensures
-        ∙ ap (λ n. clamped_column (drafted_column how k n c.cost_at-cost.result column)) c.as_str.ensures.value
-        ∙ ap (λ o. clamped_column (drafted_column how k (string_bytes c.index-names-j.result) o column)) c.cost_at-cost.ensures.cost in
+    c.in_ok-column_of.ensures
+    ∙ ap (λ n. clamped_column (drafted_column how k n c.cost_at-cost.result column)) c.as_str.ensures.value
+    ∙ ap (λ o. clamped_column (drafted_column how k (string_bytes c.index-names-j.result) o column)) c.cost_at-cost.ensures.cost in
     let more = columns_more how k j left (drop j names) (drop (j + 1) names) (drop j columns) (drop (j + 1) columns) (string_bytes c.index-names-j.result) column c.loop-j.list.items c.in_ok-column_of.field-0 named listed made in
     let next : suc j ≡ j + 1 = omega arith in
     let rest : List (ℕ × Number) → List Column = λ ps. map clamped_column (drafted_columns how k (j + 1) ps (drop (j + 1) names) (drop (j + 1) columns)) in
     let counted : (c.loop-j.list.items ++ c.in_ok-column_of.field-0 ∷ []) ++ rest (cost_rest j left) ≡ c.loop-j.list.items ++ map clamped_column (drafted_columns how k j left (drop j names) (drop j columns)) =
-        ap (λ i. (c.loop-j.list.items ++ c.in_ok-column_of.field-0 ∷ []) ++ map clamped_column (drafted_columns how k i (cost_rest j left) (drop (j + 1) names) (drop (j + 1) columns))) (sym next) ∙ more in
+    ap (λ i. (c.loop-j.list.items ++ c.in_ok-column_of.field-0 ∷ []) ++ map clamped_column (drafted_columns how k i (cost_rest j left) (drop (j + 1) names) (drop (j + 1) columns))) (sym next) ∙ more in
     let pushed : c.push.new.self.items ≡ c.loop-j.list.items ++ c.in_ok-column_of.field-0 ∷ [] = c.in_ok-push.ensures.items in
     let tell : is_some (cost_head j left) ≡ c.is_some.result = ap is_some (sym c.cost_at-cost.ensures.cost) ∙ sym c.is_some.ensures in
     elim c.if-is_some.branch [
-        then-is_some w ↦
+      | then-is_some w ↦
           let taken = cost_taken j costs c.loop-j.next (tell ∙ w.if-is_some.true) in
           record {
             same = ap (λ l. l ++ rest (drop c.if-is_some.next costs)) pushed

@@ -1,4 +1,4 @@
-use Rattle.std.proofs.Common.{◌≡◌, ◌∙◌, ap, sym, subst, map, position, bytes_eq, string_bytes, inr}
+use Rattle.std.proofs.Common.{◌∙◌, ap, sym, subst, map, position, bytes_eq, string_bytes, inr}
 use Rattle.ip_defs.specs.Lists.{first_of, when}
 use Rattle.ip_defs.specs.declared.texts.MpsError.TheVariants as Out
 use Rattle.mps_reader.specs.Taking.{IsColumnAdded, IsColumnOpen}
@@ -27,6 +27,7 @@ returns-in_ok-add_column-in-None c before fields h bounds none plain named =
     let table = c.args.columns.now in
     let new = c.add_column.new.columns in
     let at = ap (λ name. position (bytes_eq name) (map string_bytes table.names.keys)) named ∙ sym (place_of_name table.names.keys c.args.name.now) ∙ sym c.in-None.ensures.index in
-    let added = subst (λ name. IsColumnAdded name table new) (sym named) c.in_ok-add_column-in-None.ensures.added in
-    (ap (λ b. when b (Out.SplitColumn c.args.line)) (begun_faultless before table c.args.line fields h at),
-        subst (λ j. IsColumnOpen before (column_item c.args.line fields) j new) (sym c.in_ok-add_column-in-None.ensures.number) (begun before table new c.args.line fields plain h bounds none at added))
+    let added = subst (λ name. IsColumnAdded name table new) (sym named) c.in_ok-add_column-in-None.ensures.added in (
+      ap (λ b. when b (Out.SplitColumn c.args.line)) (begun_faultless before table c.args.line fields h at),
+      subst (λ j. IsColumnOpen before (column_item c.args.line fields) j new) (sym c.in_ok-add_column-in-None.ensures.number) (begun before table new c.args.line fields plain h bounds none at added),
+    )

@@ -18,7 +18,7 @@ returns-in_err-take_entry-in-len2-up t c =
     let e = entry c.args.line name (get_or fields 0 _).now (get_or fields 1 _).now in
     let more = entries_from c.args.line name (words rest) in
     subst (λ l. AreEntriesTaken ls c.args.owner es c.take_entry.new.rows l c.from_residual.result) (sym (one_entry c.args.line name fields _ c.in-len2-up.len_at_least))
-        (stopped (entry_faults (owner_word c.args.owner) ls es e) (faults_after ls c.args.owner (es ++ e ∷ []) more) (λ (u : Unit {0}). RowsHave ls c.args.owner (es ++ e ∷ []) c.take_entry.new.rows) _ c.from_residual.result error is (c.in_err-take_entry-in-len2-up.ensures ls es name have owns))
+    (stopped (entry_faults (owner_word c.args.owner) ls es e) (faults_after ls c.args.owner (es ++ e ∷ []) more) (λ (u : Unit {0}). RowsHave ls c.args.owner (es ++ e ∷ []) c.take_entry.new.rows) _ c.from_residual.result error is (c.in_err-take_entry-in-len2-up.ensures ls es name have owns))
 
 pub returns-in_default : goal.returns-in_default
 returns-in_default t c = λ ls es name have owns.
@@ -34,4 +34,4 @@ returns-in_ok-take_entry-in-len2-up t c =
     let more = entries_from c.args.line name (words rest) in
     let first = c.in_ok-take_entry-in-len2-up.ensures ls es name have owns in
     subst (λ l. AreEntriesTaken ls c.args.owner es c.take_entries.new.rows l c.take_entries.result) (sym (one_entry c.args.line name fields _ c.in-len2-up.len_at_least))
-        (go_on ls c.args.owner es more e c.take_entries.new.rows c.take_entries.result first.0 (c.take_entries.ensures ls (es ++ e ∷ []) name first.1 owns))
+    (go_on ls c.args.owner es more e c.take_entries.new.rows c.take_entries.result first.0 (c.take_entries.ensures ls (es ++ e ∷ []) name first.1 owns))

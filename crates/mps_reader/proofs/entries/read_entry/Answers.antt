@@ -1,5 +1,5 @@
 use Rattle.std.specs.Prelude.{not}
-use Rattle.std.proofs.Common.{◌≡◌, ◌∙◌, sym, ap, map, string_bytes, bytes_eq, position, Some, None}
+use Rattle.std.proofs.Common.{◌∙◌, sym, ap, map, string_bytes}
 use Rattle.ip_defs.specs.Lists.{first_of, when, is_among}
 use Rattle.ip_defs.specs.Numbers.{is_number}
 use Rattle.ip_defs.specs.declared.texts.MpsError.TheVariants as Out
@@ -18,7 +18,7 @@ returns-in-None-read_number c =
     let at = sym (place_of_name c.args.rows.now.names.keys row) ∙ sym c.in-Some.ensures.index in
     let none = where_none (is_number text) _ (sym c.in-None-read_number.ensures.number) in
     ap first_of (not_met (not (is_among row names)) (Out.UnknownRow c.args.line) (when (not (is_number text)) (Out.Number c.args.line)) (ap not (known row names c.in-Some.place at)))
-        ∙ ap (λ b. first_of (when (not b) (Out.Number c.args.line))) none
+    ∙ ap (λ b. first_of (when (not b) (Out.Number c.args.line))) none
 
 pub returns-in-None : goal.returns-in-None
 returns-in-None c =

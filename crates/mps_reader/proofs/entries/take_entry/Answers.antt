@@ -6,6 +6,7 @@ use Rattle.mps_reader.specs.Taking.{entry, counts_on}
 use Rattle.mps_reader.proofs.TakingLaws.{passed_on, is_faulty}
 use Rattle.mps_reader.proofs.TableLaws.{not_read, not_counted, counted_entry, row_there}
 use Rattle.mps_reader.proofs.entries.take_entry.Goals as goal
+
 pub returns-in_err-place : goal.returns-in_err-place
 returns-in_err-place c =
     let a = c.from_residual.ensures in
@@ -14,6 +15,7 @@ returns-in_err-place c =
     λ ls es name have owns.
     let e = entry c.args.line name c.args.row.now c.args.text.now in
     is_faulty _ _ c.from_residual.result error is (not_read ls c.args.owner es c.args.rows.now e error have.rows c.in_err-place.ensures)
+
 pub returns-then-keeps : goal.returns-then-keeps
 returns-then-keeps c =
     let table = c.args.rows.now in
@@ -23,7 +25,7 @@ returns-then-keeps c =
     λ ls es name have owns.
     let e = entry c.args.line name c.args.row.now c.args.text.now in
     counted_entry ls c.args.owner es table place row c.write.new.self e c.in_ok-place.number c.write.result have owns c.in_ok-place.ensures.0 there c.in_ok-place.ensures.1
-        (ap (λ b. counts_on c.args.owner b (is_at table.objective place)) (sym c.is_free.ensures) ∙ ap (counts_on c.args.owner c.is_free.result) (sym c.is_objective-is_objective.ensures) ∙ sym c.if-keeps.ensures) c.write.ensures
+    (ap (λ b. counts_on c.args.owner b (is_at table.objective place)) (sym c.is_free.ensures) ∙ ap (counts_on c.args.owner c.is_free.result) (sym c.is_objective-is_objective.ensures) ∙ sym c.if-keeps.ensures) c.write.ensures
 
 pub returns-else-keeps : goal.returns-else-keeps
 returns-else-keeps c =
@@ -34,7 +36,7 @@ returns-else-keeps c =
     λ ls es name have owns.
     let e = entry c.args.line name c.args.row.now c.args.text.now in
     not_counted ls c.args.owner es table place row e c.in_ok-place.number have owns c.in_ok-place.ensures.0 there c.in_ok-place.ensures.1
-        (ap (λ b. counts_on c.args.owner b (is_at table.objective place)) (sym c.is_free.ensures) ∙ ap (counts_on c.args.owner c.is_free.result) (sym c.is_objective-is_objective.ensures) ∙ sym c.if-keeps.ensures)
+    (ap (λ b. counts_on c.args.owner b (is_at table.objective place)) (sym c.is_free.ensures) ∙ ap (counts_on c.args.owner c.is_free.result) (sym c.is_objective-is_objective.ensures) ∙ sym c.if-keeps.ensures)
 
 pub returns-in-None : goal.returns-in-None
 returns-in-None c =

@@ -14,7 +14,7 @@ returns-in-Err c =
     let d = c.args.draft.now in
     let faults : Rule → List MpsError = λ rule. column_faults (asked rule c.args.how) (column_names d) d.columns.columns.items in
     let same : (rule : Rule) → column_faults (asked rule c.args.how) (map string_bytes c.as_slice-names.result.now) c.as_slice-columns.result.now ≡ faults rule =
-        λ rule. ap (λ ks. column_faults (asked rule c.args.how) (map string_bytes ks) c.as_slice-columns.result.now) c.as_slice-names.ensures.keys ∙ ap (column_faults (asked rule c.args.how) (column_names d)) c.as_slice-columns.ensures.value in
+    λ rule. ap (λ ks. column_faults (asked rule c.args.how) (map string_bytes ks) c.as_slice-columns.result.now) c.as_slice-names.ensures.keys ∙ ap (column_faults (asked rule c.args.how) (column_names d)) c.as_slice-columns.ensures.value in
     let here = subst (λ l. IsFirst (first_of l) c.in-Err.error) (same Integer) c.in-Err.ensures in
     first_here (faults Integer ++ faults Bounded) (faults NotNegative) c.in-Err.error (first_here (faults Integer) (faults Bounded) c.in-Err.error here)
 
@@ -24,7 +24,7 @@ returns-in-Err-check_columns c =
     let e = c.in-Err-check_columns.error in
     let faults : Rule → List MpsError = λ rule. column_faults (asked rule c.args.how) (column_names d) d.columns.columns.items in
     let same : (rule : Rule) → column_faults (asked rule c.args.how) (map string_bytes c.as_slice-names.result.now) c.as_slice-columns.result.now ≡ faults rule =
-        λ rule. ap (λ ks. column_faults (asked rule c.args.how) (map string_bytes ks) c.as_slice-columns.result.now) c.as_slice-names.ensures.keys ∙ ap (column_faults (asked rule c.args.how) (column_names d)) c.as_slice-columns.ensures.value in
+    λ rule. ap (λ ks. column_faults (asked rule c.args.how) (map string_bytes ks) c.as_slice-columns.result.now) c.as_slice-names.ensures.keys ∙ ap (column_faults (asked rule c.args.how) (column_names d)) c.as_slice-columns.ensures.value in
     let none : first_of (faults Integer) ≡ None = ap first_of (sym (same Integer)) ∙ c.in-Ok.ensures in
     let here = subst (λ l. IsFirst (first_of l) e) (same Bounded) c.in-Err-check_columns.ensures in
     first_here (faults Integer ++ faults Bounded) (faults NotNegative) e (subst (λ o. IsFirst o e) (sym (first_later (faults Integer) (faults Bounded) none)) here)
@@ -34,8 +34,8 @@ returns c =
     let d = c.args.draft.now in
     let faults : Rule → List MpsError = λ rule. column_faults (asked rule c.args.how) (column_names d) d.columns.columns.items in
     let same : (rule : Rule) → column_faults (asked rule c.args.how) (map string_bytes c.as_slice-names.result.now) c.as_slice-columns.result.now ≡ faults rule =
-        λ rule. ap (λ ks. column_faults (asked rule c.args.how) (map string_bytes ks) c.as_slice-columns.result.now) c.as_slice-names.ensures.keys ∙ ap (column_faults (asked rule c.args.how) (column_names d)) c.as_slice-columns.ensures.value in
+    λ rule. ap (λ ks. column_faults (asked rule c.args.how) (map string_bytes ks) c.as_slice-columns.result.now) c.as_slice-names.ensures.keys ∙ ap (column_faults (asked rule c.args.how) (column_names d)) c.as_slice-columns.ensures.value in
     let none : first_of (faults Integer) ≡ None = ap first_of (sym (same Integer)) ∙ c.in-Ok.ensures in
     let also : first_of (faults Bounded) ≡ None = ap first_of (sym (same Bounded)) ∙ c.in-Ok-check_columns.ensures in
     answers_later (faults Integer ++ faults Bounded) (faults NotNegative) c.check_columns-3.result (first_later (faults Integer) (faults Bounded) none ∙ also)
-        (subst (λ l. AnswersFaults l c.check_columns-3.result) (same NotNegative) c.check_columns-3.ensures)
+    (subst (λ l. AnswersFaults l c.check_columns-3.result) (same NotNegative) c.check_columns-3.ensures)

@@ -1,9 +1,3 @@
-use Rattle.std.proofs.Common.{sym, ap, ◌∙◌, ◌≡◌, ◌++◌, List, [], subst, Some, None}
-use Rattle.std.specs.Prelude.{Result, Ok, Err, map}
-use Rattle.ip_defs.specs.Lists.{first_of}
-use Rattle.ip_defs.specs.Faults.{limit_faults}
-use Rattle.ip_defs.specs.declared.programs.Parts.{Parts}
-use Rattle.mps_reader.specs.Drafted.{drafted_column_faults, drafted_model}
 use Rattle.mps_reader.proofs.WholeLaws.{drafted_is}
 use Rattle.mps_reader.proofs.finish.model_with.Goals as goal
 

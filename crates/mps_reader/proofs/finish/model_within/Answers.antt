@@ -1,4 +1,4 @@
-use Rattle.std.proofs.Common.{arith, sym, ap, ◌∙◌, ◌≡◌, ℕ, length, ◌<◌, refl, subst}
+use Rattle.std.proofs.Common.{arith, sym, ◌∙◌, ◌≡◌, length, subst}
 use Rattle.std.specs.Prelude.{string_bytes}
 use Rattle.ip_defs.specs.Limits.{IsWellShaped}
 use Rattle.mps_reader.specs.Drafted.{drafted_model, drafted_decimals, column_names}

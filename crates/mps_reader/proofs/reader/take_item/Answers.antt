@@ -1,14 +1,13 @@
 use Rattle.std.specs.Prelude.{Some, option_map, refl, map, codes}
 use Rattle.std.proofs.Common.{◌∙◌, ap, sym}
 use Rattle.ip_defs.specs.Lists.{last_of}
-use Rattle.ip_defs.specs.Records.{Line, words_of}
+use Rattle.ip_defs.specs.Records.{words_of}
 use Rattle.mps_reader.specs.Progress.{section_word}
 use Rattle.mps_reader.specs.Reading.{last_section as last_word}
-use Rattle.mps_reader.specs.declared.sections.Section.{Section}
 use Rattle.mps_reader.specs.declared.sections.Section.TheVariants.{Name, Rows, Columns, RightSides, Ranges, Bounds, End}
 use Rattle.mps_reader.proofs.GrowthLaws.{true_not_false}
 use Rattle.mps_reader.proofs.SectionLaws.{last_word_is, none_is_among}
-use Rattle.mps_reader.proofs.ReaderLaws.{BelongsTo, at_section, before_rows, belongs}
+use Rattle.mps_reader.proofs.ReaderLaws.{at_section, before_rows, belongs}
 use Rattle.mps_reader.proofs.reader.take_item.Goals as goal
 
 pub returns-in-None : goal.returns-in-None

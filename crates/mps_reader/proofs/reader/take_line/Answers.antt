@@ -1,9 +1,8 @@
-use Rattle.std.specs.Prelude.{◌≡◌, ℕ, List, ◌∷◌, map, true, false, Some, Ok, Err, slice_get, codes, refl}
+use Rattle.std.specs.Prelude.{◌≡◌, ℕ, List, ◌∷◌, map, true, false, Ok}
 use Rattle.std.proofs.Common.{◌∙◌, ap, sym, subst}
-use Rattle.ip_defs.specs.Records.{Line, fields_of, begins_with, is_star, is_blank, without_return, words_of, line_of, opens_end}
-use Rattle.ip_defs.specs.Faults.{line_faults}
+use Rattle.ip_defs.specs.Records.{fields_of, begins_with, is_star, is_blank, without_return, words_of}
 use Rattle.mps_reader.specs.Progress.{IsTaken, item, opening}
-use Rattle.mps_reader.specs.Reading.{IsLineTaken, is_read, lines_by, last_section}
+use Rattle.mps_reader.specs.Reading.{IsLineTaken, lines_by, last_section}
 use Rattle.mps_reader.proofs.ReaderLaws.{ended_where, end_by_word, head_is, is_read_by, item_is_no_end, item_said, opening_said, read_as, refused_as}
 use Rattle.mps_reader.proofs.reader.take_line.Goals.{in-Ok, in-Err}
 use Rattle.mps_reader.proofs.reader.take_line.Goals as goal

@@ -1,4 +1,4 @@
-use Rattle.std.proofs.Common.{arith, refl, sym, ap, ◌∙◌, ◌≡◌, ◌++◌, ◌+◌, ◌<◌, [], drop, length, ◌∷◌, map}
+use Rattle.std.proofs.Common.{arith, sym, ap, ◌∙◌, ◌++◌, ◌+◌, drop, map}
 use Rattle.std.specs.Prelude.{string_bytes}
 use Rattle.mps_reader.specs.Clamps.{clamped_row}
 use Rattle.mps_reader.specs.Drafted.{drafted_row, drafted_rows}
@@ -19,7 +19,7 @@ loop-i-preserved c =
     let name = string_bytes c.index-names-i.result in
     let done = c.loop-i.list.items in
     elim c.if-not-is_free.branch [
-        then-not-is_free+in_ok-row_of+in_ok-push w ↦
+      | then-not-is_free+in_ok-row_of+in_ok-push w ↦
           ap (λ v. v.items ++ rest) w.list-is ∙ ap (λ l. l ++ rest) w.in_ok-push.ensures.items
           ∙ rows_take how (drop i names) (drop (i + 1) names) (drop i rows) (drop (i + 1) rows) name row done w.in_ok-row_of.field-0 named listed (sym c.is_free.ensures ∙ w.if-not-is_free.true) (w.in_ok-row_of.ensures ∙ ap (λ n. clamped_row (drafted_row how n row)) c.as_str-name.ensures.value)
           ∙ c.loop-i.invariant

@@ -1,9 +1,5 @@
-use Rattle.std.specs.Prelude.{◌≡◌, Bool, true, false}
 use Rattle.std.specs.Option.{is_some}
-use Rattle.std.proofs.Common.{◌∙◌, ap, sym, subst, rules}
-use Rattle.ip_defs.specs.Lists.{is_among}
-use Rattle.ip_defs.specs.Records.{Line, row_lines, row_name}
-use Rattle.mps_reader.specs.declared.draft.Draft.{Draft}
+use Rattle.std.proofs.Common.{◌∙◌, ap, sym, subst}
 use Rattle.mps_reader.specs.Progress.{RowsStand, IsWithRow}
 use Rattle.mps_reader.proofs.RowLaws.{found_name, twice_row, marker_row, row_stands}
 use Rattle.mps_reader.proofs.rows.take_row.Goals as goal

@@ -1,4 +1,4 @@
-use Rattle.std.proofs.Common.{sym, ap, ◌∙◌, ◌≡◌, true, false, subst, refl}
+use Rattle.std.proofs.Common.{ap, ◌≡◌, true, false, subst, refl}
 use Rattle.std.specs.Prelude.{Bool, Some, if◌then◌else◌}
 use Rattle.std.specs.Str.{is_utf8}
 use Rattle.std.proofs.lemmas.Str.{IsUtf8-from_is_utf8, is_utf8-from_IsUtf8}

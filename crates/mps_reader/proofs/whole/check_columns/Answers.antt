@@ -1,4 +1,4 @@
-use Rattle.std.proofs.Common.{arith, refl, sym, ap, ◌∙◌, ◌≡◌, ◌++◌, ◌+◌, ◌<◌, drop, get_or, length, ◌∷◌, map, subst}
+use Rattle.std.proofs.Common.{arith, sym, ap, ◌∙◌, ◌≡◌, ◌+◌, drop, get_or, map, subst}
 use Rattle.std.specs.Prelude.{string_bytes, false, None}
 use Rattle.ip_defs.specs.Lists.{first_of}
 use Rattle.mps_reader.specs.declared.draft.ColumnDraft.{ColumnDraft}

@@ -168,6 +168,10 @@ or_assoc : (a b c : Bool) → ((a || b) || c) ≡ (a || (b || c))
 or_assoc true b c = refl
 or_assoc false b c = refl
 
+or_nothing : (a : Bool) → (a || false) ≡ a
+or_nothing true = refl
+or_nothing false = refl
+
 -- a column after a bound of it in the kept set
 column_with : (before : List Line) (n : ℕ) (fields : List (List ℕ)) (name : List ℕ) (c s : ColumnDraft)
     → (of_first (items_of (codes "BOUNDS") before ++ bound_item n fields ∷ []) (bound_item n fields) && bytes_eq (bound_column (bound_item n fields)) name) ≡ true
@@ -179,7 +183,7 @@ column_with before n fields name c s counts says h = record {
       ∙ sym (ap (λ ps. list_any (λ p. bytes_eq (column_name p.1) name && in_force p.0) ps || names_integer (bounds_on after name)) (first_lines_stay before l refl)
       ∙ ap (λ ks. begins_integer before name || names_integer ks) on
       ∙ ap (λ t. begins_integer before name || t) (list_any-append (kind_is (codes "BV" ∷ codes "LI" ∷ codes "UI" ∷ [])) (bounds_on before name) (l ∷ [])
-      ∙ ap (λ t. names_integer (bounds_on before name) || t) (or-false (kind_is (codes "BV" ∷ codes "LI" ∷ codes "UI" ∷ []) l))));
+      ∙ ap (λ t. names_integer (bounds_on before name) || t) (or_nothing (kind_is (codes "BV" ∷ codes "LI" ∷ codes "UI" ∷ []) l))));
   lower =
       ap (λ o. or_else s.lower o) h.lower ∙ ap (λ o. or_else o (option_map lower_by (lower_entry before name))) says.lower
       ∙ sym (mapped_else lower_by (where_true (sets_lower l) l) (lower_entry before name))

@@ -37,7 +37,7 @@ among_free (r ∷ rs) zero l apart at =
     ap (λ k. is_among (row_name k) (map row_name (filter is_free (r ∷ rs)))) (sym same) ∙ by (is_free r) (some_free_not (row_name r) rs apart.0) ∙ ap is_free same
   where
     by : (b : Bool) → is_among (row_name r) (map row_name (filter is_free rs)) ≡ false → is_among (row_name r) (map row_name (cond b (r ∷ filter is_free rs) (filter is_free rs))) ≡ b
-    by true h = ap (λ b. b || is_among (row_name r) (map row_name (filter is_free rs))) (bytes_same (row_name r))
+    by true h = ap (λ b. b || is_among (row_name r) (map row_name (filter is_free rs))) (name_self (row_name r))
     by false h = h
 among_free (r ∷ rs) (suc i) l apart at = by (is_free r) (not_first (row_name r) (map row_name rs) i (row_name l) apart.0 (name_at rs i l at)) (among_free rs i l apart.1 at)
   where
@@ -79,7 +79,7 @@ first_at (r ∷ rs) zero l apart at =
   where
     by : (b : Bool) → named_first rs (row_name r) ≡ false
         → option_map_or (bytes_eq (row_name r)) (option_map row_name (cond b (Some r) (find is_free rs))) false ≡ is_at (cond b (Some 0) (option_map suc (place is_free rs))) 0
-    by true h = bytes_same (row_name r)
+    by true h = name_self (row_name r)
     by false h = h ∙ sym (never_zero (place is_free rs))
 first_at (r ∷ rs) (suc i) l apart at = by (is_free r) (not_first (row_name r) (map row_name rs) i (row_name l) apart.0 (name_at rs i l at)) (first_at rs i l apart.1 at)
   where

@@ -8,7 +8,7 @@ use Rattle.std.proofs.lemmas.Iterator.Adapters.{position_from-zero}
 use Rattle.ip_defs.specs.Lists.{is_among}
 use Rattle.mps_reader.specs.Progress.{AreApart}
 use Rattle.mps_reader.proofs.GrowthLaws.{true_not_false}
-use Rattle.mps_reader.proofs.PlaceLaws.{place_where_any, bytes_same}
+use Rattle.mps_reader.proofs.PlaceLaws.{place_where_any}
 
 pub same_tests : (x y : Bool) → (x ≡ true → y ≡ true) → (y ≡ true → x ≡ true) → x ≡ y
 same_tests true y f g = sym (f refl)
@@ -21,6 +21,9 @@ not_true false f = refl
 
 pub name_same : (a b : List ℕ) → bytes_eq a b ≡ true → a ≡ b
 name_same a b h = (bytes_eq-Decides a b).0 h
+
+pub name_self : (a : List ℕ) → bytes_eq a a ≡ true
+name_self a = (bytes_eq-Decides a a).1 refl
 
 pub name_turn : (a b : List ℕ) → bytes_eq a b ≡ bytes_eq b a
 name_turn a b =
@@ -67,7 +70,7 @@ pub among_at : (names : List (List ℕ)) (i : ℕ) (name : List ℕ) → slice_g
 among_at [] i name h = absurd (cc h)
 among_at (x ∷ xs) zero name h =
     let same : name ≡ x = cc h in
-    ap (λ b. b || is_among name xs) (ap (bytes_eq name) (sym same) ∙ bytes_same name)
+    ap (λ b. b || is_among name xs) (ap (bytes_eq name) (sym same) ∙ name_self name)
 among_at (x ∷ xs) (suc i) name h = by (bytes_eq name x) (among_at xs i name h)
   where
     by : (b : Bool) → is_among name xs ≡ true → (b || is_among name xs) ≡ true
@@ -87,7 +90,7 @@ front_once x xs apart = not_true (is_among x xs) (λ h. by (position (bytes_eq x
     by : (o : Option ℕ) → ((k : ℕ) → o ≡ Some k → slice_get xs k ≡ Some x) → is_some o ≡ true → ⊥
     by None found h = cc h
     by (Some k) found h =
-        let first = place_is (bytes_eq x) (x ∷ xs) ∙ ap (λ b. cond b (Some 0) (option_map suc (place (bytes_eq x) xs))) (bytes_same x) in
+        let first = place_is (bytes_eq x) (x ∷ xs) ∙ ap (λ b. cond b (Some 0) (option_map suc (place (bytes_eq x) xs))) (name_self x) in
         let later = apart (suc k) x (found k refl) in
         cc (first, later)
 

@@ -3,7 +3,6 @@ use Rattle.std.specs.Prelude.{◌≡◌, ℕ, zero, suc, ◌+◌, ◌==◌, Bool
 use Rattle.std.specs.Option.{option_map_or, option_or, is_some}
 use Rattle.std.specs.List.{list_any}
 use Rattle.std.proofs.Common.{length-append, arith, ap, sym, ◌∙◌, subst}
-use Rattle.std.proofs.Math.Bool.{or-false}
 use Rattle.std.proofs.lemmas.Bool.{eqb-true, eq-eqb}
 use Rattle.std.proofs.lemmas.List.Folds.{list_any-append}
 use Rattle.std.proofs.lemmas.Option.{slice_get_within}
@@ -17,10 +16,14 @@ use Rattle.mps_reader.specs.Progress.{AreApart, ColumnsStand, ColumnStands, Boun
 use Rattle.mps_reader.specs.Taking.{IsLast, IsColumnAdded, IsColumnOpen, IsMarked}
 use Rattle.mps_reader.proofs.GrowthLaws.{true_not_false, append_nil, filter-append, items_of-add, last_of-add, map-append, or_false_left, or_false_right, name_in}
 use Rattle.mps_reader.proofs.StayLaws.{column_names_stay, first_lines_stay, first_lines-add, bounds_on_stay}
-use Rattle.mps_reader.proofs.NameLaws.{name_same, name_turn, not_true, same_tests, position_found, among_at}
-use Rattle.mps_reader.proofs.PlaceLaws.{bytes_same, position_append, place_where_any, get_of_more, apart_more}
+use Rattle.mps_reader.proofs.NameLaws.{name_same, name_self, name_turn, not_true, same_tests, position_found, among_at}
+use Rattle.mps_reader.proofs.PlaceLaws.{position_append, place_where_any, get_of_more, apart_more}
 use Rattle.mps_reader.proofs.TakingLaws.{known, unknown}
 use Rattle.mps_reader.proofs.ColumnLaws.{column_item, marker_none, newness, names_among}
+
+or_nothing : (b : Bool) → (b || false) ≡ b
+or_nothing true = refl
+or_nothing false = refl
 
 -- the last line of COLUMNS
 last_line : (before : List Line) (n : ℕ) (fields : List (List ℕ)) → last_of (items_of (codes "COLUMNS") (before ++ column_item n fields ∷ [])) ≡ Some (column_item n fields)
@@ -146,7 +149,7 @@ last_is before t n fields j h at b is = sym (by (last_of (items_of (codes "COLUM
     same : (k : Line) (o : Option ℕ) → position (bytes_eq (column_name k)) (column_names before) ≡ o → option_map_or (λ i. i == j) o false ≡ bytes_eq (column_name k) (column_name l)
     same k None e = sym (not_true (bytes_eq (column_name k) (column_name l)) (λ g. cc (sym e ∙ ap (λ x. position (bytes_eq x) (column_names before)) (name_same (column_name k) (column_name l) g) ∙ there)))
     same k (Some i) e = same_tests (i == j) (bytes_eq (column_name k) (column_name l))
-        (λ g. (let here = eqb-true i j g in let one : column_name k ≡ column_name l = cc (sym (position_found (column_name k) (column_names before) i e) ∙ ap (slice_get (column_names before)) here ∙ position_found (column_name l) (column_names before) j there) in ap (bytes_eq (column_name k)) (sym one) ∙ bytes_same (column_name k)))
+        (λ g. (let here = eqb-true i j g in let one : column_name k ≡ column_name l = cc (sym (position_found (column_name k) (column_names before) i e) ∙ ap (slice_get (column_names before)) here ∙ position_found (column_name l) (column_names before) j there) in ap (bytes_eq (column_name k)) (sym one) ∙ name_self (column_name k)))
         (λ g. eq-eqb i j (cc (sym e ∙ ap (λ x. position (bytes_eq x) (column_names before)) (name_same (column_name k) (column_name l) g) ∙ there)))
 
     with_marker : (k : Line) (m : Bool) → option_map_or (λ i. i == j) (if m then None else position (bytes_eq (column_name k)) (column_names before)) false ≡ (not m && bytes_eq (column_name k) (column_name l))

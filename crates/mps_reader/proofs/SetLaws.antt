@@ -32,9 +32,9 @@ kept_set [] l set o is set_is = ap (λ k. bytes_eq k set) (sym set_is) ∙ sym (
 kept_set (f ∷ ks) l set o is set_is = sym (ap (λ k. bytes_eq (unwrap_or k set) set) is)
 
 -- the faults of a line whose number of fields is right, where ROWS came
-set_line_faults : (before : List Line) (pairs : List MpsError) (n : ℕ) (fields : List (List ℕ)) → is_among (codes "ROWS") (words_of before) ≡ true → (nat_le 2 (length fields) && nat_le (length fields) 5) ≡ true
+set_line_faults : (before : List Line) (word : List ℕ) (pairs : List MpsError) (n : ℕ) (fields : List (List ℕ)) → is_among (codes "ROWS") (words_of before) ≡ true → (nat_le 2 (length fields) && nat_le (length fields) 5) ≡ true
     → when (not (is_among (codes "ROWS") (words_of before))) (Out.SectionOrder n) ++ (when (not (nat_le 2 (length fields) && nat_le (length fields) 5)) (Out.FieldCount n) ++ pairs) ≡ pairs
-set_line_faults before pairs n fields rows count =
+set_line_faults before word pairs n fields rows count =
     ap (λ b. when (not b) (Out.SectionOrder n) ++ (when (not (nat_le 2 (length fields) && nat_le (length fields) 5)) (Out.FieldCount n) ++ pairs)) rows
     ∙ ap (λ b. when (not b) (Out.FieldCount n) ++ pairs) count
 
@@ -42,18 +42,10 @@ set_line_faults before pairs n fields rows count =
 abbrev pub Takes : Owner → ℕ → List (List ℕ) → RowTable → RowTable → Result (Unit {0}) MpsError → Type 0
 Takes owner n entries old new r = (ls : List Line) (es : List Entry) (name : List ℕ) → RowsHave ls owner es old → Owns ls owner name → AreEntriesTaken ls owner es new (entries_from n name entries) r
 
--- what the definitions say of a line of a section by its word alone
-record IsSetItem (before : List Line) (owner : Owner) (n : ℕ) (fields : List (List ℕ)) : Type 0 where
-  no_column : items_of (codes "COLUMNS") (item (owner_word owner) n fields ∷ []) ≡ []
-  no_bound : items_of (codes "BOUNDS") (item (owner_word owner) n fields ∷ []) ≡ []
-  entries : entries_of (item (owner_word owner) n fields) ≡ entries_from n (set_of (item (owner_word owner) n fields)) (if length fields % 2 == 1 then drop 1 fields else fields)
-  faults : line_faults before (item (owner_word owner) n fields) ≡ when (not (is_among (codes "ROWS") (words_of before))) (Out.SectionOrder n) ++ (when (not (nat_le 2 (length fields) && nat_le (length fields) 5)) (Out.FieldCount n) ++ pair_faults before (item (owner_word owner) n fields))
-
--- a line of a set whose owner and whose kept sets are right
-owned_line : (before : List Line) (d : Draft) (owner : Owner) (n : ℕ) (fields : List (List ℕ)) (set : List ℕ) (entries : List (List ℕ)) (rows : RowTable) (sets : Sets) (r : Result (Unit {0}) MpsError) → IsSetItem before owner n fields → Stands before d
-    → is_among (owner_word owner) (words_of before) ≡ true → is_among (codes "ROWS") (words_of before) ≡ true → IsSetLine fields set entries → Owns (before ++ item (owner_word owner) n fields ∷ []) owner set
-    → SetsStand (before ++ item (owner_word owner) n fields ∷ []) sets → Takes owner n entries d.rows rows r → IsTaken before (item (owner_word owner) n fields) (record d { rows = rows; sets = sets }) r
-owned_line before d owner n fields set entries rows sets r is h there has_rows parts owns kept takes =
+right_sides_line : (before : List Line) (d : Draft) (n : ℕ) (fields : List (List ℕ)) (set : List ℕ) (entries : List (List ℕ)) (rows : RowTable) (sets : Sets) (r : Result (Unit {0}) MpsError) → Stands before d
+    → is_among (codes "RHS") (words_of before) ≡ true → is_among (codes "ROWS") (words_of before) ≡ true → IsSetLine fields set entries → IsSetKept Sections.RightSides set d.sets sets
+    → Takes (set_owner Sections.RightSides d.sets set) n entries d.rows rows r → IsTaken before (item (codes "RHS") n fields) (record d { rows = rows; sets = sets }) r
+right_sides_line before d n fields set entries rows sets r h there has_rows parts kept takes =
     taken before l (record d { rows = rows; sets = sets }) r
     (IsDone_map (faults_after ls owner (all_entries (codes "RHS") before) (entries_from n set entries)) (line_faults before l)
     (λ _. RowsHave ls owner (all_entries (codes "RHS") before ++ entries_from n set entries) rows) (λ _. Stands ls (record d { rows = rows; sets = sets })) r
@@ -61,22 +53,25 @@ owned_line before d owner n fields set entries rows sets r is h there has_rows p
     (takes ls (all_entries (codes "RHS") before) set begin owns))
   where
     l : Line
-    l = item (owner_word owner) n fields
+    l = item (codes "RHS") n fields
 
     ls : List Line
     ls = before ++ l ∷ []
 
-    all : List Entry
-    all = all_entries (owner_word owner) before
+    owner : Owner
+    owner = set_owner Sections.RightSides d.sets set
 
-    columns : column_names before ≡ column_names ls
-    columns = sym (column_names_stay before l (column_lines_stay l is.no_column))
+    owns : Owns ls owner set
+    owns = ap (λ ks. option_map_or (λ k. bytes_eq (set_of k) set) (first_of ks) false) (items_of-add (codes "RHS") before l) ∙ kept_set (items_of (codes "RHS") before) l set _ h.sets.right_sides parts.set_is
 
-    begin : RowsHave ls owner all d.rows
-    begin = rows_begin before owner n fields d.rows h.rows (subst (λ names. EntriesStand (kept_entries (codes "COLUMNS") before) (kept_entries (codes "RHS") before) (kept_entries (codes "RANGES") before) names (map row_name (row_lines before)) d.rows.rows.items) columns h.entries)
+    columns : column_names ls ≡ column_names before
+    columns = column_names_stay before l refl
+
+    begin : RowsHave ls owner (all_entries (codes "RHS") before) d.rows
+    begin = rows_begin before owner n fields d.rows h.rows (subst (λ names. EntriesStand (kept_entries (codes "COLUMNS") before) (kept_entries (codes "RHS") before) (kept_entries (codes "RANGES") before) names (map row_name (row_lines before)) d.rows.rows.items) (sym columns) h.entries)
 
     entries_are : entries_from n set entries ≡ entries_of l
-    entries_are = ap (λ k. entries_from n k entries) parts.set_is ∙ ap (entries_from n (set_of l)) parts.entries_are ∙ sym is.entries
+    entries_are = ap (λ k. entries_from n k entries) parts.set_is ∙ ap (entries_from n (set_of l)) parts.entries_are
 
     faults : line_faults before l ≡ faults_after ls owner (all_entries (codes "RHS") before) (entries_from n set entries)
     faults =
@@ -84,43 +79,20 @@ owned_line before d owner n fields set entries rows sets r is h there has_rows p
         ∙ pair_faults_are before owner n fields
         ∙ ap (faults_after ls owner (all_entries (codes "RHS") before)) (sym entries_are)
 
-    stand : faults_after ls owner all (entries_from n set entries) ≡ [] → RowsHave ls owner (all ++ entries_from n set entries) rows → Stands ls (record d { rows = rows; sets = sets })
+    stand : faults_after ls owner (all_entries (codes "RHS") before) (entries_from n set entries) ≡ [] → RowsHave ls owner (all_entries (codes "RHS") before ++ entries_from n set entries) rows → Stands ls (record d { rows = rows; sets = sets })
     stand none have = record {
       no_fault = no_fault_more before l h.no_fault (faults ∙ none);
       sections = sections_stay before l d.sections.items refl there h.sections;
       rows = have.rows;
-      entries = rows_end before owner n fields rows (subst (λ k. RowsHave ls owner (all ++ k) rows) entries_are have);
-      columns = columns_stand_stay before l d.columns is.no_column h.columns;
-      bounds = bounds_stand_stay before l d.columns.columns.items is.no_column is.no_bound h.bounds;
-      sets = kept;
+      entries = rows_end before owner n fields rows (subst (λ k. RowsHave ls owner (all_entries (codes "RHS") before ++ k) rows) entries_are have);
+      columns = columns_stand_stay before l d.columns refl h.columns;
+      bounds = bounds_stand_stay before l d.columns.columns.items refl refl h.bounds;
+      sets = record {
+        right_sides = kept.0 ∙ kept_name (items_of (codes "RHS") before) l set _ h.sets.right_sides parts.set_is ∙ ap (λ ks. option_map set_of (first_of ks)) (sym (items_of-add (codes "RHS") before l));
+        ranges = ap (option_map string_bytes) kept.1 ∙ h.sets.ranges ∙ ap (λ ks. option_map set_of (first_of ks)) (sym (items_stay (codes "RANGES") before l refl));
+        bounds = ap (option_map string_bytes) kept.2 ∙ h.sets.bounds ∙ ap (λ ks. option_map bound_set (first_of ks)) (sym (items_stay (codes "BOUNDS") before l refl));
+      };
     }
-
--- the owner and the kept sets after a line of a section, from the lines of that section before it
-owner_is : (word : List ℕ) (before : List Line) (l : Line) (set : List ℕ) (o : Option (List ℕ)) → items_of word (l ∷ []) ≡ l ∷ [] → o ≡ option_map set_of (first_of (items_of word before)) → set ≡ set_of l
-    → is_kept_set word (before ++ l ∷ []) set ≡ bytes_eq (unwrap_or o set) set
-owner_is word before l set o one is set_is =
-    ap (λ ks. option_map_or (λ k. bytes_eq (set_of k) set) (first_of ks) false) (items_of-add word before l ∙ ap (λ ks. items_of word before ++ ks) one)
-        ∙ kept_set (items_of word before) l set o is set_is
-
-name_is : (word : List ℕ) (before : List Line) (l : Line) (set : List ℕ) (o : Option (List ℕ)) → items_of word (l ∷ []) ≡ l ∷ [] → o ≡ option_map set_of (first_of (items_of word before)) → set ≡ set_of l
-    → Some (unwrap_or o set) ≡ option_map set_of (first_of (items_of word (before ++ l ∷ [])))
-name_is word before l set o one is set_is =
-    kept_name (items_of word before) l set o is set_is
-        ∙ ap (λ ks. option_map set_of (first_of ks)) (sym (items_of-add word before l ∙ ap (λ ks. items_of word before ++ ks) one))
-
-right_sides_line : (before : List Line) (d : Draft) (n : ℕ) (fields : List (List ℕ)) (set : List ℕ) (entries : List (List ℕ)) (rows : RowTable) (sets : Sets) (r : Result (Unit {0}) MpsError) → Stands before d
-    → is_among (codes "RHS") (words_of before) ≡ true → is_among (codes "ROWS") (words_of before) ≡ true → IsSetLine fields set entries → IsSetKept Sections.RightSides set d.sets sets
-    → Takes (set_owner Sections.RightSides d.sets set) n entries d.rows rows r → IsTaken before (item (codes "RHS") n fields) (record d { rows = rows; sets = sets }) r
-right_sides_line before d n fields set entries rows sets r h there has_rows parts kept takes =
-    let l = item (codes "RHS") n fields in
-    owned_line before d (set_owner Sections.RightSides d.sets set) n fields set entries rows sets r (record { no_column = refl; no_bound = refl; entries = refl; faults = refl }) h there has_rows parts
-        (owner_is (codes "RHS") before l set _ refl h.sets.right_sides parts.set_is)
-        (record {
-          right_sides = kept.0 ∙ name_is (codes "RHS") before l set _ refl h.sets.right_sides parts.set_is;
-          ranges = ap (option_map string_bytes) kept.1 ∙ h.sets.ranges ∙ ap (λ ks. option_map set_of (first_of ks)) (sym (items_stay (codes "RANGES") before l refl));
-          bounds = ap (option_map string_bytes) kept.2 ∙ h.sets.bounds ∙ ap (λ ks. option_map bound_set (first_of ks)) (sym (items_stay (codes "BOUNDS") before l refl));
-        })
-        takes
 
 ranges_line : (before : List Line) (d : Draft) (n : ℕ) (fields : List (List ℕ)) (set : List ℕ) (entries : List (List ℕ)) (rows : RowTable) (sets : Sets) (r : Result (Unit {0}) MpsError) → Stands before d
     → is_among (codes "RANGES") (words_of before) ≡ true → is_among (codes "ROWS") (words_of before) ≡ true → IsSetLine fields set entries → IsSetKept Sections.Ranges set d.sets sets

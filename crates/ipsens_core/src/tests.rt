@@ -21,6 +21,14 @@ const HALF: &str =
 const ODD: &str =
     "ROWS\n N cost\n E e\nCOLUMNS\n M 'MARKER' 'INTORG'\n x e 2\n y e -2\n M 'MARKER' 'INTEND'\nRHS\n RHS e 1\nBOUNDS\n BV BND x\n BV BND y\nENDATA\n";
 
+/// An even number that is to be odd, over a box of a million points.
+const WIDE_ODD: &str =
+    "ROWS\n N cost\n E e\nCOLUMNS\n M 'MARKER' 'INTORG'\n x e 2\n y e -2\n M 'MARKER' 'INTEND'\nRHS\n RHS e 1\nBOUNDS\n UP BND x 1000\n UP BND y 1000\nENDATA\n";
+
+/// A column whose name holds a carriage return.
+const SPLIT_NAME: &str =
+    "ROWS\n N cost\nCOLUMNS\n M 'MARKER' 'INTORG'\n x\ry cost 1\n M 'MARKER' 'INTEND'\nBOUNDS\n UP BND x\ry 1\nENDATA\n";
+
 const NO_ROWS: &str =
     "ROWS\n N cost\nCOLUMNS\n M 'MARKER' 'INTORG'\n x cost 2\n y cost -1\n M 'MARKER' 'INTEND'\nBOUNDS\n UP BND x 4\n UP BND y 4\nENDATA\n";
 
@@ -70,13 +78,18 @@ fn models_are_solved(rt: HostRuntime) -> Result<(), Fail> {
         (EMPTY_COLUMN, Status::Answered, "empty\n"),
         (NEGATIVE_SUM, Status::Answered, "empty\n"),
         (NO_NUMBER, Status::Refused, "refused model M10 line 11\n"),
-        (DECIMALS, Status::Refused, "refused model M0\n"),
+        (
+            DECIMALS,
+            Status::Answered,
+            "optimum -13\nvalue a 2\nvalue b 0\nvalue c 1\n",
+        ),
         (
             NO_UPPER,
             Status::Refused,
             "refused model M15 column x upper\n",
         ),
-        ("", Status::Refused, "refused model M0\n"),
+        ("", Status::Refused, "refused model M19\n"),
+        (WIDE_ODD, Status::Budget, "budget nodes\nbest none\n"),
     ] {
         for piece in [1, 7, 100_000] {
             let mut shelf = shelf_with(alloc, text.as_bytes(), piece)?.ok_or("no room")?;
@@ -86,6 +99,61 @@ fn models_are_solved(rt: HostRuntime) -> Result<(), Fail> {
             assert_eq!(rt; answer, status, "at {wanted}");
             assert_eq!(rt; sink.bytes(), wanted.as_bytes(), "at {wanted}");
         }
+    }
+    Ok(())
+}
+
+#[test]
+fn models_are_shown(rt: HostRuntime) -> Result<(), Fail> {
+    let alloc = rt.alloc();
+    let half: &str = "NAME\nROWS\n N cost\n L r1\nCOLUMNS\n M 'MARKER' 'INTORG'\n x cost -1\n x r1 2\n M 'MARKER' 'INTEND'\nRHS\n RHS r1 3\nRANGES\nBOUNDS\n LO BND x 0\n UP BND x 5\nENDATA\n";
+    let boxed: &str = "NAME\nROWS\n N cost\n L r1\nCOLUMNS\n M 'MARKER' 'INTORG'\n x cost -1\n x r1 2\n M 'MARKER' 'INTEND'\nRHS\n RHS r1 7\nRANGES\nBOUNDS\n LO BND x 0\n UP BND x 9\nENDATA\n";
+    let plain: &[&str] = &["show", "m"];
+    for (text, words, status, wanted) in [
+        (HALF, plain, Status::Answered, half),
+        (
+            HALF,
+            &["show", "m", "--digits", "2"],
+            Status::Answered,
+            half,
+        ),
+        (
+            NO_UPPER,
+            &["show", "m", "--box", "9"],
+            Status::Answered,
+            boxed,
+        ),
+        (
+            NO_UPPER,
+            plain,
+            Status::Refused,
+            "refused model M15 column x upper\n",
+        ),
+        (
+            SPLIT_NAME,
+            plain,
+            Status::Refused,
+            "refused model unprintable\n",
+        ),
+        (
+            SPLIT_NAME,
+            &["solve", "m"],
+            Status::Answered,
+            "optimum 0\nvalue x\ry 0\n",
+        ),
+        (
+            NO_UPPER,
+            &["solve", "m", "--digits", "0", "--box", "2"],
+            Status::Answered,
+            "optimum -2\nvalue x 2\n",
+        ),
+    ] {
+        let mut shelf = shelf_with(alloc, text.as_bytes(), 100)?.ok_or("no room")?;
+        let mut sink = mem_sink(alloc, 10_000, 100)?;
+        let words = owned(alloc, words)?;
+        let answer = run(alloc, words.as_slice(), &mut shelf, &mut sink);
+        assert_eq!(rt; answer, status, "at {wanted}");
+        assert_eq!(rt; sink.bytes(), wanted.as_bytes(), "at {wanted}");
     }
     Ok(())
 }
@@ -122,7 +190,7 @@ fn bad_files_are_refused(rt: HostRuntime) -> Result<(), Fail> {
     let more_stars = vec![in alloc; b'*'; 16_777_217]?;
     for (bytes, wanted) in [
         (b"ROWS\n N \xff\n".as_slice(), "refused model M1\n"),
-        (stars.as_slice(), "refused model M0\n"),
+        (stars.as_slice(), "refused model M19\n"),
         (more_stars.as_slice(), "refused model too long\n"),
     ] {
         let mut shelf = shelf_with(alloc, bytes, 100_000)?.ok_or("no room")?;

@@ -13,7 +13,7 @@ for folder in "$top"/examples/*/; do
   fi
 done
 if [ -n "$1" ] && [ -d "$1" ]; then
-  for name in glpk_sample_cnf opb_unsat glpk_todd_6 glpk_todd_10 glpk_queens_4; do
+  for name in glpk_sample_cnf opb_unsat glpk_todd_6 glpk_todd_10 coin_tp3; do
     [ -f "$1/$name.mps" ] && echo "$name: $("$top/ipsens" solve "$1/$name.mps" | head -n 1)"
   done
 fi

@@ -9,7 +9,7 @@ mod words;
 #[cfg(test)]
 mod words_tests;
 
-pub use ip_defs::{Request, Status};
 pub use branching::solve;
+pub use ip_defs::{Request, Status};
 pub use runs::{answer_at, code, run};
 pub use words::{WordsError, request};

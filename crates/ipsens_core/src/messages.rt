@@ -10,8 +10,8 @@ ghost use Rattle.ip_defs.specs.Texts.{best_lines, budget_lines, newline, value_l
 ghost use Rattle.ipsens_core.specs.Answers.{claimed, limit_word, outcome_answer};
 ghost use Rattle.ip_defs.specs.Texts.{on_column, optimum_lines, refusal_text, refused_model, side_text, value_line, what_text};
 
-use decimals::decimal_text;
 use branching::{BudgetWhat, Claim, Outcome};
+use decimals::decimal_text;
 use ip_defs::{Column, Limit, Memory, MpsError, Point, Side, Status, What};
 use ip_model::{IntModel, cost};
 use std::alloc::{AllocError, Global};
@@ -130,7 +130,12 @@ fn limit_stop_text(alloc: Global, what: BudgetWhat) -> Result<String, Memory>
 }
 
 /// The text of a search that stopped: the limit, and the best point so far.
-fn stop_text(alloc: Global, model: &IntModel, what: BudgetWhat, best: &Option<Point>) -> Result<String, Memory>
+fn stop_text(
+    alloc: Global,
+    model: &IntModel,
+    what: BudgetWhat,
+    best: &Option<Point>,
+) -> Result<String, Memory>
     requires { ForSome best.now (λ x. length x ≡ length model.now.columns) }
     ensures { IfOk result (λ s. string_bytes s ≡ budget_lines model.now (limit_word what) best.now) }
 {
@@ -141,7 +146,11 @@ fn stop_text(alloc: Global, model: &IntModel, what: BudgetWhat, best: &Option<Po
 }
 
 /// The text of an outcome, and whether it is an answer or a stop.
-pub fn outcome_text(alloc: Global, model: &IntModel, outcome: &Outcome) -> Result<(Status, String), Memory>
+pub fn outcome_text(
+    alloc: Global,
+    model: &IntModel,
+    outcome: &Outcome,
+) -> Result<(Status, String), Memory>
     requires { IsTrueOutcome model.now outcome.now }
     ensures { IfOk result (λ r. says r.0 (string_bytes r.1) ≡ outcome_answer model.now outcome.now) }
 {

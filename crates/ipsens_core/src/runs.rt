@@ -8,8 +8,8 @@ ghost use Rattle.ipsens_core.specs.Outcomes.{IsPlainRequest, Writes, model_of_re
 
 use crate::messages::{TOO_LONG, UNPRINTABLE, USAGE, outcome_text, refusal_line};
 use crate::words::{WordsError, request};
-use ip_defs::{How, Memory, MpsError, Name, Request, Status};
 use branching::{Limits, solve};
+use ip_defs::{How, Memory, MpsError, Name, Request, Status};
 use ip_model::{IntModel, allowance};
 use ips_io::{ReadError, Shelf, Sink, read_all, write_all};
 use mps_printer::{print, printable};
@@ -25,13 +25,17 @@ fn how_of(request: &Request) -> How
 {
     match request {
         Request::Solve {
-            digits, box_side, ..
+            digits,
+            box_side,
+            ..
         } => How {
             digits: *digits,
             box_side: *box_side,
         },
         Request::Show {
-            digits, box_side, ..
+            digits,
+            box_side,
+            ..
         } => How {
             digits: *digits,
             box_side: *box_side,
@@ -40,7 +44,12 @@ fn how_of(request: &Request) -> How
 }
 
 /// Searches a model for a least point, and makes the text of the outcome.
-fn solved(alloc: Global, model: &IntModel, nodes: u32, depth: u32) -> Result<(Status, Vec<u8>), Memory>
+fn solved(
+    alloc: Global,
+    model: &IntModel,
+    nodes: u32,
+    depth: u32,
+) -> Result<(Status, Vec<u8>), Memory>
     requires least { 1 ≤ nodes }
     requires most { nodes ≤ 1000000 }
     requires depth { depth ≤ 800 }
@@ -70,7 +79,11 @@ fn shown(alloc: Global, model: &IntModel) -> Result<(Status, Vec<u8>), Memory>
 }
 
 /// What a request is answered with the model of its file.
-fn answer_with(alloc: Global, request: &Request, model: &IntModel) -> Result<(Status, Vec<u8>), Memory>
+fn answer_with(
+    alloc: Global,
+    request: &Request,
+    model: &IntModel,
+) -> Result<(Status, Vec<u8>), Memory>
     requires { IsPlainRequest request.now }
     ensures { IfOk result (λ r. IsAnswerWith request.now model.now (says r.0 r.1.items)) }
 {

@@ -106,8 +106,10 @@ fn models_are_solved(rt: HostRuntime) -> Result<(), Fail> {
 #[test]
 fn models_are_shown(rt: HostRuntime) -> Result<(), Fail> {
     let alloc = rt.alloc();
-    let half: &str = "NAME\nROWS\n N cost\n L r1\nCOLUMNS\n M 'MARKER' 'INTORG'\n x cost -1\n x r1 2\n M 'MARKER' 'INTEND'\nRHS\n RHS r1 3\nRANGES\nBOUNDS\n LO BND x 0\n UP BND x 5\nENDATA\n";
-    let boxed: &str = "NAME\nROWS\n N cost\n L r1\nCOLUMNS\n M 'MARKER' 'INTORG'\n x cost -1\n x r1 2\n M 'MARKER' 'INTEND'\nRHS\n RHS r1 7\nRANGES\nBOUNDS\n LO BND x 0\n UP BND x 9\nENDATA\n";
+    let half: &str =
+        "NAME\nROWS\n N cost\n L r1\nCOLUMNS\n M 'MARKER' 'INTORG'\n x cost -1\n x r1 2\n M 'MARKER' 'INTEND'\nRHS\n RHS r1 3\nRANGES\nBOUNDS\n LO BND x 0\n UP BND x 5\nENDATA\n";
+    let boxed: &str =
+        "NAME\nROWS\n N cost\n L r1\nCOLUMNS\n M 'MARKER' 'INTORG'\n x cost -1\n x r1 2\n M 'MARKER' 'INTEND'\nRHS\n RHS r1 7\nRANGES\nBOUNDS\n LO BND x 0\n UP BND x 9\nENDATA\n";
     let plain: &[&str] = &["show", "m"];
     for (text, words, status, wanted) in [
         (HALF, plain, Status::Answered, half),

@@ -14,8 +14,8 @@ returns-in-Ok-answer_of-clause-answer g c =
     let size : length c.in-Ok.bytes.items ≡ vec_len c.in-Ok.bytes = ap length (sym c.as_slice.ensures.value) ∙ c.as_slice.ensures.len in
     let written = c.as_slice-in-Ok-answer_of.result.now in
     let right : IsAnswerTo c.args.request.now c.in-Ok.bytes.items (says c.in-Ok-answer_of.status written) =
-        subst (λ bs. IsAnswerTo c.args.request.now bs (says c.in-Ok-answer_of.status written)) c.as_slice.ensures.value
-        (subst (λ t. IsAnswerTo c.args.request.now c.as_slice.result.now (says c.in-Ok-answer_of.status t)) (sym c.as_slice-in-Ok-answer_of.ensures.value) c.in-Ok-answer_of.ensures) in
+    subst (λ bs. IsAnswerTo c.args.request.now bs (says c.in-Ok-answer_of.status written)) c.as_slice.ensures.value
+    (subst (λ t. IsAnswerTo c.args.request.now c.as_slice.result.now (says c.in-Ok-answer_of.status t)) (sym c.as_slice-in-Ok-answer_of.ensures.value) c.in-Ok-answer_of.ensures) in
     read_meets IsAnswerTo c.args.request.now c.as_str.result.now c.in-Ok.bytes.items (g.S.Shelf.files c.args.shelf.now) (g.S.Shelf.files c.read_all.new.shelf) (g.K.Sink.taken c.args.out.now) (g.K.Sink.taken c.finish-in-Ok-answer_of.new.out) (g.K.Sink.faults c.args.out.now) (g.K.Sink.faults c.finish-in-Ok-answer_of.new.out) c.in-Ok-answer_of.status c.as_slice-in-Ok-answer_of.result.now c.finish-in-Ok-answer_of.result
     (c.as_str.ensures ∙ c.model_name-name.ensures) c.read_all.ensures.files c.read_all.ensures.untold c.in-Ok.ensures.whole (rw size c.in-Ok.ensures.length)
     (told_of c.args.request.now c.in-Ok.bytes.items c.in-Ok-answer_of.status c.as_slice-in-Ok-answer_of.result.now right) right c.finish-in-Ok-answer_of.ensures.writes

@@ -6,7 +6,8 @@ use Rattle.std.proofs.lemmas.List.{length-append}
 use Rattle.ip_defs.specs.declared.programs.Parts.{Parts}
 use Rattle.ip_defs.specs.Boxes.{IsOpen, below, above, width}
 use Rattle.ip_defs.specs.Program.{box_of}
-use Rattle.proof_tree.proofs.EachLaws.{Each, each_left, each_right}
+use Rattle.proof_tree.specs.Lists.{Each}
+use Rattle.proof_tree.proofs.EachLaws.{each_left, each_right}
 use Rattle.branching.specs.declared.budgets.Limits.{Limits}
 use Rattle.branching.specs.declared.budgets.BudgetWhat.{BudgetWhat}
 use Rattle.branching.specs.declared.budgets.BudgetWhat.TheVariants.{Nodes, Depth}

@@ -9,7 +9,8 @@ use Rattle.ip_defs.specs.declared.programs.Parts.{Parts}
 use Rattle.ip_defs.specs.Boxes.{below, above}
 use Rattle.ip_defs.specs.Certificates.{leaf_bound}
 use Rattle.ip_defs.specs.Program.{cost}
-use Rattle.proof_tree.proofs.EachLaws.{Each, each_left, each_right}
+use Rattle.proof_tree.specs.Lists.{Each}
+use Rattle.proof_tree.proofs.EachLaws.{each_left, each_right}
 use Rattle.proof_tree.proofs.TreeLaws.{bound_split, bound_min-infinite}
 use Rattle.proof_tree.specs.Trees.{nodes_from, depth, bound_min, bound_over}
 use Rattle.proof_tree.specs.Verdicts.{IsAtLeast}

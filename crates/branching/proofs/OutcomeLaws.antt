@@ -7,7 +7,8 @@ use Rattle.ip_defs.specs.declared.programs.Column.{Column}
 use Rattle.ip_defs.specs.declared.programs.Parts.{Parts}
 use Rattle.ip_defs.specs.Boxes.{below, above}
 use Rattle.ip_defs.specs.Program.{box_of, low_at, high_at}
-use Rattle.proof_tree.proofs.EachLaws.{Each, each_left, each_right}
+use Rattle.proof_tree.specs.Lists.{Each}
+use Rattle.proof_tree.proofs.EachLaws.{each_left, each_right}
 use Rattle.proof_tree.proofs.VerdictLaws.{proofs_are_true}
 use Rattle.proof_tree.specs.Trees.{PlainTree, leaf, split, plain, FitsColumns}
 use Rattle.proof_tree.specs.Verdicts.{IsTrueClaim}

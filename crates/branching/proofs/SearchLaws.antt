@@ -12,7 +12,8 @@ use Rattle.ip_defs.specs.declared.programs.Parts.{Parts}
 use Rattle.ip_defs.specs.Boxes.{below, above}
 use Rattle.ip_defs.specs.Program.{box_of, high_at, low_at, IsFeasible}
 use Rattle.ip_defs.proofs.BoxLaws.{below_area, above_area}
-use Rattle.proof_tree.proofs.EachLaws.{Each, each_join}
+use Rattle.proof_tree.specs.Lists.{Each}
+use Rattle.proof_tree.proofs.EachLaws.{each_join}
 use Rattle.proof_tree.proofs.WithinLaws.{limits_are_exact}
 use Rattle.proof_tree.specs.Trees.{PlainTree, plain, bound_over, depth, node_count, tree_limit}
 use Rattle.proof_tree.specs.Verdicts.{AreProvedBy}

@@ -6,7 +6,8 @@ use Rattle.ip_defs.specs.declared.programs.Parts.{Parts}
 use Rattle.ip_defs.specs.Boxes.{IsOpen, below, above, width}
 use Rattle.ip_defs.specs.Program.{box_of}
 use Rattle.ip_model.specs.Sizes.{width_sum}
-use Rattle.proof_tree.proofs.EachLaws.{Each, each_left, each_right}
+use Rattle.proof_tree.specs.Lists.{Each}
+use Rattle.proof_tree.proofs.EachLaws.{each_left, each_right}
 use Rattle.proof_tree.specs.Trees.{PlainTree, leaf, split, nodes_from, node_count, depth}
 use Rattle.branching.specs.Sizes.{point_count, most_nodes, TreesAreSmall}
 use Rattle.branching.specs.Splits.{splits_over, IsProper}

@@ -5,7 +5,7 @@ use Rattle.ip_defs.specs.declared.certificates.Bound.TheVariants.{Infinite}
 use Rattle.ip_defs.specs.declared.programs.Parts.{Parts}
 use Rattle.ip_defs.specs.Certificates.{leaf_bound}
 use Rattle.ip_defs.specs.Program.{box_of, cost, IsFeasible, IsLeast, IsEmpty}
-use Rattle.proof_tree.proofs.EachLaws.{Each}
+use Rattle.proof_tree.specs.Lists.{Each}
 use Rattle.proof_tree.specs.Trees.{plain, node_count, depth, tree_limit}
 use Rattle.proof_tree.specs.Verdicts.{IsProved, IsAtLeast}
 use Rattle.proof_tree.specs.declared.claims.Claim.{Claim}

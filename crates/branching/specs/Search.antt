@@ -10,7 +10,7 @@ use Rattle.ip_defs.specs.Breaches.{row_breach}
 use Rattle.ip_defs.specs.Certificates.{leaf_bound}
 use Rattle.ip_defs.specs.Limits.{IsArea, IsCert}
 use Rattle.ip_defs.specs.Program.{box_of, cost, high_at, low_at, IsFeasible}
-use Rattle.proof_tree.proofs.EachLaws.{Each}
+use Rattle.proof_tree.specs.Lists.{Each}
 use Rattle.proof_tree.specs.Trees.{plain}
 use Rattle.proof_tree.specs.Verdicts.{IsAtLeast}
 use Rattle.proof_tree.specs.declared.claims.Claim.{Claim}

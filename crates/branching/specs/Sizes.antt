@@ -3,7 +3,7 @@ use Rattle.std.specs.Prelude.{ℕ, ◌-◌, ◌*◌, ◌≤◌, max, List, [], �
 use Rattle.ip_defs.specs.declared.programs.Parts.{Parts}
 use Rattle.ip_defs.specs.Program.{box_of}
 use Rattle.ip_model.specs.Sizes.{width_sum}
-use Rattle.proof_tree.proofs.EachLaws.{Each}
+use Rattle.proof_tree.specs.Lists.{Each}
 use Rattle.proof_tree.specs.Trees.{PlainTree, node_count, depth}
 use Rattle.branching.specs.declared.budgets.Limits.{Limits}
 use Rattle.branching.specs.declared.outcomes.Outcome.{Outcome}

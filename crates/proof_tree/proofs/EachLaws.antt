@@ -1,10 +1,6 @@
 -- What holds of each element of a list, and of two lists in a row.
 use Rattle.std.specs.Prelude.{List, [], ◌∷◌, ◌++◌}
-
--- each element of a list is so
-abbrev pub Each : {A : Type 0} → (A → Type 0) → List A → Type 0
-Each P [] = Unit {0}
-Each P (x ∷ xs) = P x × Each P xs
+use Rattle.proof_tree.specs.Lists.{Each}
 
 pub each_left : {A : Type 0} (P : A → Type 0) (xs ys : List A) → Each P (xs ++ ys) → Each P xs
 each_left P [] ys h = tt

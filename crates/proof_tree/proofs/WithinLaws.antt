@@ -17,7 +17,8 @@ use Rattle.ip_defs.specs.Limits.{number_at}
 use Rattle.std.specs.Prelude.{ℤ}
 use Rattle.std.specs.List.{list_all}
 use Rattle.proof_tree.proofs.CertLaws.{cert_exact}
-use Rattle.proof_tree.proofs.EachLaws.{Each, each_left, each_right, each_join}
+use Rattle.proof_tree.specs.Lists.{Each}
+use Rattle.proof_tree.proofs.EachLaws.{each_left, each_right, each_join}
 
 -- a node is within the limits
 abbrev IsNodeWithin : Node → Type 0

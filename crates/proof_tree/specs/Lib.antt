@@ -1,5 +1,6 @@
+pub mod Lists
 pub mod Numbered
 pub mod Room
 pub mod Trees
-pub mod Within
 pub mod Verdicts
+pub mod Within

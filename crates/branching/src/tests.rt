@@ -119,7 +119,11 @@ fn search(alloc: Global, model: &IntModel, nodes: u32, depth: u32) -> Result<Cou
     if nodes < 1 || nodes > allowance(model, 1_000_000) || depth > 800 {
         return Err("the limits are allowed".into());
     }
-    let outcome = solve(alloc, model, Limits { nodes, depth })?;
+    let outcome = solve(alloc, model, Limits {
+            nodes,
+            depth,
+            pivots: 0,
+        })?;
     let nodes = node_count(&outcome);
     let skipped = skipped_count(&outcome);
     Ok(Counted {

@@ -55,9 +55,17 @@ number_of_option o default ws = option_map_or digits_value (value_of o (twos ws)
 abbrev pub box_of_option : List Word → Option ℤ
 box_of_option ws = option_map (λ v. pos (digits_value v)) (value_of (codes "--box") (twos ws))
 
+-- an option that takes numbers from low to high
+abbrev pub number_choice : Word → ℕ → ℕ → Choice
+number_choice o low high = record { word = o; takes = is_number_from low high }
+
 -- the options of each command on a model: the least decimals of its units, and the side that an absent bound gets
 abbrev pub model_choices : List Choice
-model_choices = record { word = codes "--digits"; takes = is_number_from 0 9 } ∷ record { word = codes "--box"; takes = is_number_from 0 16777216 } ∷ []
+model_choices = number_choice (codes "--digits") 0 9 ∷ number_choice (codes "--box") 0 16777216 ∷ []
+
+-- the options of a command that searches besides: the limits of its nodes, of their depth, and of the steps of a linear program
+abbrev pub search_choices : List Choice
+search_choices = number_choice (codes "--nodes") 1 1000000 ∷ number_choice (codes "--depth") 0 800 ∷ number_choice (codes "--pivots") 0 100000 ∷ model_choices
 
 -- the request of `solve` for a model with these option words
 abbrev pub solve_request : Word → List Word → Request
@@ -78,7 +86,7 @@ abbrev pub request_of : List Word → Option Request
 request_of [] = None
 request_of (c ∷ []) = None
 request_of (c ∷ model ∷ ws) =
-    if is_command (codes "solve") model_choices c model ws then Some (solve_request model ws)
+    if is_command (codes "solve") search_choices c model ws then Some (solve_request model ws)
     else where_true (is_command (codes "show") model_choices c model ws) (show_request model ws)
 
 -- what is printed for words that are no request

@@ -1,5 +1,5 @@
 -- What the commands share: the request of a plain `solve`, the written text of an answer, and what the outside shows.
-use Rattle.std.specs.Prelude.{◌≡◌, ◌⊎◌, ℕ, List, Option, None, take}
+use Rattle.std.specs.Prelude.{◌≡◌, ◌⊎◌, ◌≤◌, ℕ, List, Option, None, take}
 use Rattle.ip_defs.specs.Files.{Files, Takes}
 use Rattle.ip_defs.specs.Runs.{Outside}
 use Rattle.ip_defs.specs.TextModels.{IsHow}
@@ -9,9 +9,12 @@ use Rattle.ip_defs.specs.declared.runs.Status.{Status}
 use Rattle.ip_defs.specs.declared.runs.Status.TheVariants.{WriteFault}
 use Rattle.ips_io.specs.Causes.{Rose}
 
--- the limits of `solve` stand at their defaults, and the model file is asked for as it may be
+-- the limits of a search, and how the model file is asked for, are within the numbers that their options take
+abbrev pub AreLimits : ℕ → ℕ → ℕ → Type 0
+AreLimits nodes depth pivots = (1 ≤ nodes) × (nodes ≤ 1000000) × (depth ≤ 800) × (pivots ≤ 100000)
+
 abbrev pub IsPlainRequest : Request → Type 0
-IsPlainRequest (Solve model tree nodes depth pivots digits box_side) = (nodes ≡ 100000) × (depth ≡ 800) × IsHow (record { digits = digits; box_side = box_side })
+IsPlainRequest (Solve model tree nodes depth pivots digits box_side) = AreLimits nodes depth pivots × IsHow (record { digits = digits; box_side = box_side })
 IsPlainRequest (Show model digits box_side) = IsHow (record { digits = digits; box_side = box_side })
 
 -- the name of the model file of a request

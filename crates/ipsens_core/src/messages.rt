@@ -1,4 +1,4 @@
-ghost use Rattle.std.specs.Prelude.{◌≡◌, ◌≢◌, ◌++◌, IfOk, OnOk, Some, codes, decimal, flat_map, length, string_bytes, zip};
+ghost use Rattle.std.specs.Prelude.{◌≡◌, ◌≢◌, ◌≤◌, ◌++◌, IfOk, OnOk, Some, codes, decimal, flat_map, length, string_bytes, zip};
 ghost use Rattle.std.specs.Fmt.{signed_decimal};
 ghost use Rattle.std.specs.Option.{ForSome};
 ghost use Rattle.ip_defs.specs.Numbers.{decimal_text};
@@ -6,11 +6,12 @@ ghost use Rattle.branching.specs.Outcomes.{IsTrueOutcome};
 ghost use Rattle.ip_defs.specs.Program.{cost as cost_of};
 ghost use Rattle.ip_defs.specs.Runs.{says};
 ghost use Rattle.ip_defs.specs.Texts.{value_text as amount_text};
-ghost use Rattle.ip_defs.specs.Texts.{best_lines, budget_lines, newline, value_lines};
+ghost use Rattle.branching.specs.Counts.{nodes_of, skipped_of};
+ghost use Rattle.ip_defs.specs.Texts.{best_lines, count_lines, newline, value_lines};
 ghost use Rattle.ipsens_core.specs.Answers.{claimed, limit_word, outcome_answer};
 ghost use Rattle.ip_defs.specs.Texts.{on_column, optimum_lines, refusal_text, refused_model, side_text, value_line, what_text};
 
-use branching::{BudgetWhat, Claim, Outcome};
+use branching::{BudgetWhat, Claim, Outcome, node_count, skipped_count};
 use decimals::decimal_text;
 use ip_defs::{Column, Limit, Memory, MpsError, Point, Side, Status, What};
 use ip_model::{IntModel, cost};
@@ -97,6 +98,25 @@ fn fixed_text(alloc: Global, text: &str) -> Result<String, Memory>
     Ok(String::from_str(alloc, text)?)
 }
 
+/// The line of a count, after its word.
+fn count_line(alloc: Global, word: &str, count: u32) -> Result<String, AllocError>
+    ensures { IfOk result (λ s. string_bytes s ≡ word.now ++ decimal count ++ newline) }
+{
+    format!(in alloc; "{word}{count}\n")
+}
+
+/// The lines of the counts of an outcome: the nodes of its tree, and the splits that went without the answer of a linear program.
+fn counts_text(alloc: Global, outcome: &Outcome) -> Result<String, Memory>
+    requires nodes { nodes_of outcome.now ≤ 1000000 }
+    requires skipped { skipped_of outcome.now ≤ 1000000 }
+    ensures { IfOk result (λ s. string_bytes s ≡ count_lines (nodes_of outcome.now) (skipped_of outcome.now)) }
+{
+    let mut text = count_line(alloc, "nodes ", node_count(outcome))?;
+    let skipped = count_line(alloc, "skipped ", skipped_count(outcome))?;
+    text.push_str(skipped.as_str())?;
+    Ok(text)
+}
+
 /// The text of a claim: `optimum V` and a `value` line for each column in order, or `empty`.
 fn claim_text(alloc: Global, model: &IntModel, claim: &Claim) -> Result<String, Memory>
     requires { ForSome (claimed claim.now) (λ x. length x ≡ length model.now.columns) }
@@ -129,19 +149,36 @@ fn limit_stop_text(alloc: Global, what: BudgetWhat) -> Result<String, Memory>
     }
 }
 
-/// The text of a search that stopped: the limit, and the best point so far.
+/// The text of a search that stopped: the limit, the lines of its counts, and the best point so far.
 fn stop_text(
     alloc: Global,
     model: &IntModel,
     what: BudgetWhat,
+    counts: &str,
     best: &Option<Point>,
 ) -> Result<String, Memory>
     requires { ForSome best.now (λ x. length x ≡ length model.now.columns) }
-    ensures { IfOk result (λ s. string_bytes s ≡ budget_lines model.now (limit_word what) best.now) }
+    ensures { IfOk result (λ s. string_bytes s ≡ codes "budget " ++ limit_word what ++ newline ++ counts.now ++ best_lines model.now best.now) }
 {
     let mut text = limit_stop_text(alloc, what)?;
+    text.push_str(counts)?;
     let best = best_text(alloc, model, best)?;
     text.push_str(best.as_str())?;
+    Ok(text)
+}
+
+/// The text of a claim with the lines of the counts.
+fn answer_text(
+    alloc: Global,
+    model: &IntModel,
+    claim: &Claim,
+    counts: &str,
+) -> Result<String, Memory>
+    requires { ForSome (claimed claim.now) (λ x. length x ≡ length model.now.columns) }
+    ensures { IfOk result (λ s. string_bytes s ≡ optimum_lines model.now (claimed claim.now) ++ counts.now) }
+{
+    let mut text = claim_text(alloc, model, claim)?;
+    text.push_str(counts)?;
     Ok(text)
 }
 
@@ -151,20 +188,23 @@ pub fn outcome_text(
     model: &IntModel,
     outcome: &Outcome,
 ) -> Result<(Status, String), Memory>
-    requires { IsTrueOutcome model.now outcome.now }
+    requires holds { IsTrueOutcome model.now outcome.now }
+    requires nodes { nodes_of outcome.now ≤ 1000000 }
+    requires skipped { skipped_of outcome.now ≤ 1000000 }
     ensures { IfOk result (λ r. says r.0 (string_bytes r.1) ≡ outcome_answer model.now outcome.now) }
 {
+    let counts = counts_text(alloc, outcome)?;
     match outcome {
         Outcome::Best { proof, .. } => {
-            let text = claim_text(alloc, model, &proof.claim)?;
+            let text = answer_text(alloc, model, &proof.claim, counts.as_str())?;
             Ok((Status::Answered, text))
         }
         Outcome::Empty { .. } => {
-            let text = fixed_text(alloc, "empty\n")?;
+            let text = answer_text(alloc, model, &Claim::Empty, counts.as_str())?;
             Ok((Status::Answered, text))
         }
         Outcome::Budget { what, best, .. } => {
-            let text = stop_text(alloc, model, *what, best)?;
+            let text = stop_text(alloc, model, *what, counts.as_str(), best)?;
             Ok((Status::Budget, text))
         }
     }

@@ -4,7 +4,7 @@ ghost use Rattle.ip_defs.specs.Words.{request_of};
 ghost use Rattle.ips_io.specs.Causes.{Rose};
 ghost use Rattle.ip_defs.specs.Files.{Takes};
 ghost use Rattle.ipsens_core.specs.Answers.{HasOutcome, IsAnswerTo, IsAnswerWith, IsShown, limits_for};
-ghost use Rattle.ipsens_core.specs.Outcomes.{IsPlainRequest, Writes, model_of_request, shows};
+ghost use Rattle.ipsens_core.specs.Outcomes.{AreLimits, IsPlainRequest, Writes, model_of_request, shows};
 
 use crate::messages::{TOO_LONG, UNPRINTABLE, USAGE, outcome_text, refusal_line};
 use crate::words::{WordsError, request};
@@ -49,16 +49,16 @@ fn solved(
     model: &IntModel,
     nodes: u32,
     depth: u32,
+    pivots: u32,
 ) -> Result<(Status, Vec<u8>), Memory>
-    requires least { 1 ≤ nodes }
-    requires most { nodes ≤ 1000000 }
-    requires depth { depth ≤ 800 }
-    ensures { IfOk result (λ r. HasOutcome model.now (limits_for model.now nodes depth) (says r.0 r.1.items)) }
+    requires { AreLimits nodes depth pivots }
+    ensures { IfOk result (λ r. HasOutcome model.now (limits_for model.now nodes depth pivots) (says r.0 r.1.items)) }
 {
     let parts = model.parts();
     let limits = Limits {
         nodes: allowance(model, nodes),
         depth,
+        pivots,
     };
     let outcome = solve(alloc, model, limits)?;
     let (status, text) = outcome_text(alloc, model, &outcome)?;
@@ -88,7 +88,12 @@ fn answer_with(
     ensures { IfOk result (λ r. IsAnswerWith request.now model.now (says r.0 r.1.items)) }
 {
     match request {
-        Request::Solve { nodes, depth, .. } => solved(alloc, model, *nodes, *depth),
+        Request::Solve {
+            nodes,
+            depth,
+            pivots,
+            ..
+        } => solved(alloc, model, *nodes, *depth, *pivots),
         Request::Show { .. } => shown(alloc, model),
     }
 }

@@ -27,7 +27,7 @@ use Rattle.text_laws.proofs.BoundReadLaws.{bounds_read, lower_read, upper_read}
 
 -- ---- the section lines
 
-no_words : (n : ℕ) (word : List ℕ) (ds : List Written) → AreItems ds → filter (λ l. not l.is_item) (lines_from n word ds) ≡ []
+pub no_words : (n : ℕ) (word : List ℕ) (ds : List Written) → AreItems ds → filter (λ l. not l.is_item) (lines_from n word ds) ≡ []
 no_words n word [] h = refl
 no_words n word ((true, fs) ∷ ds) h = no_words (suc n) word ds h.1
 no_words n word ((false, fs) ∷ ds) h = absurd cc

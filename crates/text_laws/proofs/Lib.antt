@@ -1,3 +1,5 @@
+pub mod FreshLaws
+pub mod PriorLaws
 pub mod Utf8Laws
 pub mod ContinuousLaws
 pub mod IntegerReadLaws

@@ -1,3 +1,4 @@
+pub mod LineFaultLaws
 pub mod FreshLaws
 pub mod PriorLaws
 pub mod Utf8Laws

@@ -78,7 +78,7 @@ none_dropped m name =
 
 -- ---- the lines of the columns
 
-not_marker : (name : List ℕ) → is_printable_name name ≡ true → bytes_eq name (codes "'MARKER'") ≡ false
+pub not_marker : (name : List ℕ) → is_printable_name name ≡ true → bytes_eq name (codes "'MARKER'") ≡ false
 not_marker name e =
     let h = both_true (not (length name == 0) && not (bytes_eq name (codes "'MARKER'"))) (not (list_any (λ b. (b == 32) || (b == 9) || (b == 13) || (b == 10)) name)) e in
     off (bytes_eq name (codes "'MARKER'")) (both_true (not (length name == 0)) (not (bytes_eq name (codes "'MARKER'"))) h.0).1

@@ -23,7 +23,7 @@ use Rattle.ip_defs.specs.declared.programs.Parts.{Parts}
 use Rattle.text_laws.specs.ReadBack.{HasTextNames}
 use Rattle.text_laws.proofs.NumeralLaws.{digit_range, decimal_digits, places_digits}
 use Rattle.text_laws.proofs.NumberTextLaws.{signed_decimal_is}
-use Rattle.text_laws.proofs.ListLaws.{Each}
+use Rattle.text_laws.proofs.ListLaws.{Each, each_append, each_flat, each_map, each_when, each_both}
 use Rattle.text_laws.proofs.SectionLaws.{Sections, section_lines, after_rows, after_columns, after_right_sides, after_ranges, after_bounds}
 use Rattle.text_laws.proofs.CanonicalLaws.{sections_of, canonical_sections}
 use Rattle.text_laws.proofs.ReadableLaws.{IsProgramText, IsRowText, IsColumnText, all_from, all_enumerated, found_small, right_side_small, width_small, negated_small}
@@ -59,9 +59,12 @@ whole_utf8 z h = subst IsUtf8 (sym (signed_decimal_is z)) (number_utf8 z 0 h)
 
 -- ---- lines
 
--- the fields of each line are UTF-8
+-- the fields of a line are UTF-8
+abbrev IsText : Written → Type 0
+IsText w = Each IsUtf8 w.1
+
 abbrev AreTexts : List Written → Type 0
-AreTexts ws = Each (λ w. Each IsUtf8 w.1) ws
+AreTexts ws = Each IsText ws
 
 data_utf8 : (fs : List (List ℕ)) → Each IsUtf8 fs → IsUtf8 (flat_map (λ f. 32 ∷ f) fs)
 data_utf8 [] h = IsUtf8-nil
@@ -79,22 +82,6 @@ text_utf8 : (ws : List Written) → AreTexts ws → IsUtf8 (flat_map written_tex
 text_utf8 [] h = IsUtf8-nil
 text_utf8 (w ∷ ws) h = IsUtf8-append (written_text w) (flat_map written_text ws) (line_utf8 w h.0) (text_utf8 ws h.1)
 
-texts_append : (xs ys : List Written) → AreTexts xs → AreTexts ys → AreTexts (xs ++ ys)
-texts_append [] ys h k = k
-texts_append (x ∷ xs) ys h k = (h.0, texts_append xs ys h.1 k)
-
-texts_flat : {A : Type 0} (P : A → Type 0) (f : A → List Written) (xs : List A) → Each P xs → ((x : A) → P x → AreTexts (f x)) → AreTexts (flat_map f xs)
-texts_flat P f [] all h = tt
-texts_flat P f (x ∷ xs) all h = texts_append (f x) (flat_map f xs) (h x all.0) (texts_flat P f xs all.1 h)
-
-texts_map : {A : Type 0} (P : A → Type 0) (f : A → Written) (xs : List A) → Each P xs → ((x : A) → P x → Each IsUtf8 (f x).1) → AreTexts (map f xs)
-texts_map P f [] all h = tt
-texts_map P f (x ∷ xs) all h = (h x all.0, texts_map P f xs all.1 h)
-
-texts_when : (t : Bool) (w : Written) → Each IsUtf8 w.1 → AreTexts (when t w)
-texts_when true w h = (h, tt)
-texts_when false w h = tt
-
 -- a word of ASCII
 ascii : (bs : List ℕ) → list_all (λ b. nat_lt b 128) bs ≡ true → IsUtf8 bs
 ascii [] e = IsUtf8-nil
@@ -109,10 +96,6 @@ record IsColumnUtf8 (c : Column) : Type 0 where
 record IsRowUtf8 (r : Row) : Type 0 where
   text : IsRowText r
   name : IsUtf8 r.name
-
-each_both : {A : Type 0} (P Q R : A → Type 0) (xs : List A) → Each P xs → Each Q xs → ((x : A) → P x → Q x → R x) → Each R xs
-each_both P Q R [] p q h = tt
-each_both P Q R (x ∷ xs) p q h = (h x p.0 q.0, each_both P Q R xs p.1 q.1 h)
 
 columns_utf8 : (m : Parts) → IsProgramText m → HasTextNames m → Each IsColumnUtf8 m.columns
 columns_utf8 m h t =
@@ -146,7 +129,7 @@ rhs_utf8 r h = by (right_side r) (right_side_small r h.text)
   where
     by : (o : Option ℤ) → ForSome o (λ b. unsigned_abs b ≤ 2 ^ 62) → AreTexts (option_map_or (λ b. when (not (int_eq b (pos 0))) (triple (codes "RHS") r.name (decimal_text b r.decimals))) o (triple (codes "RHS") r.name (codes "1e30") ∷ []))
     by None s = ((ascii (codes "RHS") refl, (h.name, (ascii (codes "1e30") refl, tt))), tt)
-    by (Some b) s = texts_when (not (int_eq b (pos 0))) (triple (codes "RHS") r.name (decimal_text b r.decimals)) (ascii (codes "RHS") refl, (h.name, (number_utf8 b r.decimals (let l = s b refl in omega arith), tt)))
+    by (Some b) s = each_when IsText (not (int_eq b (pos 0))) (triple (codes "RHS") r.name (decimal_text b r.decimals)) (ascii (codes "RHS") refl, (h.name, (number_utf8 b r.decimals (let l = s b refl in omega arith), tt)))
 
 range_utf8 : (r : Row) → IsRowUtf8 r → AreTexts (range_line r)
 range_utf8 r h = by r.low r.high h.text.low h.text.high
@@ -155,7 +138,7 @@ range_utf8 r h = by r.low r.high h.text.low h.text.high
         → AreTexts (option_map_or (λ low. option_map_or (λ high. when (not (int_eq low high)) (triple (codes "RNG") r.name (decimal_text (high -ℤ low) r.decimals))) p []) o [])
     by None p s t = tt
     by (Some low) None s t = tt
-    by (Some low) (Some high) s t = texts_when (not (int_eq low high)) (triple (codes "RNG") r.name (decimal_text (high -ℤ low) r.decimals)) (ascii (codes "RNG") refl, (h.name, (number_utf8 (high -ℤ low) r.decimals (width_small low high (s low refl) (t high refl)), tt)))
+    by (Some low) (Some high) s t = each_when IsText (not (int_eq low high)) (triple (codes "RNG") r.name (decimal_text (high -ℤ low) r.decimals)) (ascii (codes "RNG") refl, (h.name, (number_utf8 (high -ℤ low) r.decimals (width_small low high (s low refl) (t high refl)), tt)))
 
 marker_utf8 : (word : List ℕ) → IsUtf8 word → Each IsUtf8 (codes "M" ∷ codes "'MARKER'" ∷ word ∷ [])
 marker_utf8 word h = (ascii (codes "M") refl, (ascii (codes "'MARKER'") refl, (h, tt)))
@@ -174,12 +157,12 @@ block_utf8 m h t = by (length m.columns == 0)
 
     are : AreTexts blocks
     are =
-        texts_flat (λ p. IsColumnUtf8 p.1) (column_block m) (enumerate_from 0 m.columns) (all_enumerated IsColumnUtf8 0 m.columns (columns_utf8 m h t))
-        (λ p c. ((c.name, (IsUtf8-from_is_utf8 m.objective t.objective, (number_utf8 p.1.cost m.cost_decimals c.text.cost, tt))), texts_flat IsRowUtf8 (coef_line p.0 p.1.name) m.rows (rows_utf8 m h t) (λ r k. coef_utf8 p.0 p.1.name r c.name k)))
+        each_flat (λ p. IsColumnUtf8 p.1) IsText (column_block m) (enumerate_from 0 m.columns) (all_enumerated IsColumnUtf8 0 m.columns (columns_utf8 m h t))
+        (λ p c. ((c.name, (IsUtf8-from_is_utf8 m.objective t.objective, (number_utf8 p.1.cost m.cost_decimals c.text.cost, tt))), each_flat IsRowUtf8 IsText (coef_line p.0 p.1.name) m.rows (rows_utf8 m h t) (λ r k. coef_utf8 p.0 p.1.name r c.name k)))
 
     by : (u : Bool) → AreTexts (if u then [] else start ∷ blocks ++ last ∷ [])
     by true = tt
-    by false = (marker_utf8 (codes "'INTORG'") (ascii (codes "'INTORG'") refl), texts_append blocks (last ∷ []) are (marker_utf8 (codes "'INTEND'") (ascii (codes "'INTEND'") refl), tt))
+    by false = (marker_utf8 (codes "'INTORG'") (ascii (codes "'INTORG'") refl), each_append IsText blocks (last ∷ []) are (marker_utf8 (codes "'INTEND'") (ascii (codes "'INTEND'") refl), tt))
 
 bound_utf8 : (kind name : List ℕ) (z : ℤ) → IsUtf8 kind → IsUtf8 name → unsigned_abs z < 2 ^ 64 → Each IsUtf8 (bound kind name z).1
 bound_utf8 kind name z e f h = (e, (ascii (codes "BND") refl, (f, (whole_utf8 z h, tt))))
@@ -195,15 +178,15 @@ canonical_utf8 m h t =
       head_utf8 (codes "NAME") refl,
       (
         head_utf8 (codes "ROWS") refl,
-        texts_append s.rows (head (codes "COLUMNS") ∷ s.columns ++ after_columns s) rows_are (
+        each_append IsText s.rows (head (codes "COLUMNS") ∷ s.columns ++ after_columns s) rows_are (
           head_utf8 (codes "COLUMNS") refl,
-          texts_append s.columns (after_columns s) (block_utf8 m h t) (
+          each_append IsText s.columns (after_columns s) (block_utf8 m h t) (
             head_utf8 (codes "RHS") refl,
-            texts_append s.right_sides (after_right_sides s) sides_are (
+            each_append IsText s.right_sides (after_right_sides s) sides_are (
               head_utf8 (codes "RANGES") refl,
-              texts_append s.ranges (after_ranges s) (texts_flat IsRowUtf8 range_line m.rows rows range_utf8) (
+              each_append IsText s.ranges (after_ranges s) (each_flat IsRowUtf8 IsText range_line m.rows rows range_utf8) (
                 head_utf8 (codes "BOUNDS") refl,
-                texts_append s.bounds (after_bounds s) bounds_are (head_utf8 (codes "ENDATA") refl, tt),
+                each_append IsText s.bounds (after_bounds s) bounds_are (head_utf8 (codes "ENDATA") refl, tt),
               ),
             ),
           ),
@@ -218,15 +201,15 @@ canonical_utf8 m h t =
     rows = rows_utf8 m h t
 
     rows_are : AreTexts ((sections_of m).rows)
-    rows_are = ((ascii (codes "N") refl, (IsUtf8-from_is_utf8 m.objective t.objective, tt)), texts_map IsRowUtf8 (λ r. pair (kind_text r) r.name) m.rows (rows_utf8 m h t) (λ r k. (kind_utf8 r, (k.name, tt))))
+    rows_are = ((ascii (codes "N") refl, (IsUtf8-from_is_utf8 m.objective t.objective, tt)), each_map IsRowUtf8 IsText (λ r. pair (kind_text r) r.name) m.rows (rows_utf8 m h t) (λ r k. (kind_utf8 r, (k.name, tt))))
 
     sides_are : AreTexts ((sections_of m).right_sides)
     sides_are =
-        texts_append (constant_line m) (flat_map rhs_line m.rows)
-        (texts_when (not (int_eq m.constant (pos 0))) (triple (codes "RHS") m.objective (value_text m (neg_ℤ m.constant))) (ascii (codes "RHS") refl, (IsUtf8-from_is_utf8 m.objective t.objective, (number_utf8 (neg_ℤ m.constant) m.cost_decimals (negated_small m.constant h.constant), tt))))
-        (texts_flat IsRowUtf8 rhs_line m.rows (rows_utf8 m h t) rhs_utf8)
+        each_append IsText (constant_line m) (flat_map rhs_line m.rows)
+        (each_when IsText (not (int_eq m.constant (pos 0))) (triple (codes "RHS") m.objective (value_text m (neg_ℤ m.constant))) (ascii (codes "RHS") refl, (IsUtf8-from_is_utf8 m.objective t.objective, (number_utf8 (neg_ℤ m.constant) m.cost_decimals (negated_small m.constant h.constant), tt))))
+        (each_flat IsRowUtf8 IsText rhs_line m.rows (rows_utf8 m h t) rhs_utf8)
 
     bounds_are : AreTexts ((sections_of m).bounds)
     bounds_are =
-        texts_flat IsColumnUtf8 (λ c. bound (codes "LO") c.name c.lo ∷ bound (codes "UP") c.name c.hi ∷ []) m.columns (columns_utf8 m h t)
+        each_flat IsColumnUtf8 IsText (λ c. bound (codes "LO") c.name c.lo ∷ bound (codes "UP") c.name c.hi ∷ []) m.columns (columns_utf8 m h t)
         (λ c k. (bound_utf8 (codes "LO") c.name c.lo (ascii (codes "LO") refl) k.name k.text.lo, (bound_utf8 (codes "UP") c.name c.hi (ascii (codes "UP") refl) k.name k.text.hi, tt)))

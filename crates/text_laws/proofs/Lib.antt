@@ -1,3 +1,5 @@
+pub mod NoFaultLaws
+pub mod EntryLineLaws
 pub mod LineFaultLaws
 pub mod FreshLaws
 pub mod PriorLaws

@@ -1,4 +1,4 @@
--- The lines of a canonical text have no fault, and so the text is read back as its program.
+-- A canonical text has no fault.
 use Rattle.std.specs.Prelude.{◌≡◌, ℕ, suc, ◌+◌, ◌==◌, Bool, true, false, ◌&&◌, ◌||◌, not, if◌then◌else◌, List, [], ◌∷◌, ◌++◌, length, map, filter, flat_map, bytes_eq, codes}
 use Rattle.std.specs.List.{enumerate_from}
 use Rattle.std.specs.Option.{option_map_or}
@@ -12,7 +12,7 @@ use Rattle.ip_defs.specs.declared.programs.Column.{Column}
 use Rattle.ip_defs.specs.declared.programs.Row.{Row}
 use Rattle.ip_defs.specs.declared.programs.Parts.{Parts}
 use Rattle.text_laws.specs.Lines.{lines_from}
-use Rattle.text_laws.specs.ReadBack.{AreDistinct, CanonicalTextsAreReadBack}
+use Rattle.text_laws.specs.ReadBack.{AreDistinct, CanonicalTextsHaveNoFault}
 use Rattle.text_laws.proofs.ListLaws.{Each, map-append}
 use Rattle.text_laws.proofs.SectionLaws.{AreItems, number_after, items_all, columns_are, columns_at, right_sides_at, ranges_at, bounds_at, lines_in, after_rows, after_columns, after_right_sides, after_ranges, after_bounds}
 use Rattle.text_laws.proofs.CanonicalLaws.{sections_of, are_sections}
@@ -21,7 +21,7 @@ use Rattle.text_laws.proofs.EntryReadLaws.{told, tells, tells_append, bytes_same
 use Rattle.text_laws.proofs.RecordReadLaws.{blocks_of, blocks_triples, not_marker}
 use Rattle.text_laws.proofs.CoefReadLaws.{told_from, block_told, coef_told, or_true}
 use Rattle.text_laws.proofs.NameReadLaws.{owners, lines_told}
-use Rattle.text_laws.proofs.ModelReadLaws.{each_apart, model_read}
+use Rattle.text_laws.proofs.ModelReadLaws.{each_apart}
 use Rattle.text_laws.proofs.ContinuousLaws.{triples_items, plain_lines}
 use Rattle.text_laws.proofs.FreshLaws.{columns_new, right_sides_fresh, ranges_fresh}
 use Rattle.text_laws.proofs.PriorLaws.{faults_after, section_faultless, line_faultless, Known, opening, items_more, words_stay, after_opening, after_row_lines, after_column_lines, after_right_lines, after_range_lines}
@@ -241,8 +241,8 @@ no_line_faults m h =
     (section_faultless start_lines 3 (codes "ROWS") s.rows (after_rows s) ((are_sections m).rows) (row_lines_faultless m h)
     (columns_part m h (start_lines ++ row_part m) (after_row_lines start_lines to_rows 3 s.rows ((are_sections m).rows) (record { words_are = refl; rows_are = refl; columns_are = refl; right_sides_are = refl; ranges_are = refl })))))
 
--- canonical texts are read back
-pub texts_read : CanonicalTextsAreReadBack
-texts_read m how h =
+-- a canonical text has no fault
+pub none_found : CanonicalTextsHaveNoFault
+none_found m how h =
     let text = program_text m h.printable h.limits in
-    (fault_free m how h (canonical_utf8 m text h.texts) (no_line_faults m (record { text = text; columns = h.columns; rows = h.rows })), model_read m how h)
+    fault_free m how h (canonical_utf8 m text h.texts) (no_line_faults m (record { text = text; columns = h.columns; rows = h.rows }))

@@ -54,11 +54,10 @@ pub record IsCanonical (m : Parts) (how : How) : Type 0 where
   pub digits : how.digits ≤ 9
   pub decimals : HasLeastDecimals how.digits m
 
--- the model of the canonical text of such a program is the program
-abbrev pub CanonicalModelsAreReadBack : Type 0
-CanonicalModelsAreReadBack = (m : Parts) (how : How) → IsCanonical m how → model_of (canonical_text m) how ≡ m
+-- the canonical text of such a program has no fault, so that it is read
+abbrev pub CanonicalTextsHaveNoFault : Type 0
+CanonicalTextsHaveNoFault = (m : Parts) (how : How) → IsCanonical m how → mps_fault (canonical_text m) how ≡ None
 
--- and the text has no fault, so that it is read. Not proved: no function of this crate ensures it. `fault_free` of FaultReadLaws leaves
--- two facts of it open: the text is UTF-8, and its lines have no fault
+-- and what is read is the program
 abbrev pub CanonicalTextsAreReadBack : Type 0
-CanonicalTextsAreReadBack = (m : Parts) (how : How) → IsCanonical m how → (mps_fault (canonical_text m) how ≡ None) × (model_of (canonical_text m) how ≡ m)
+CanonicalTextsAreReadBack = (m : Parts) (how : How) → IsCanonical m how → model_of (canonical_text m) how ≡ m

@@ -1,5 +1,5 @@
 -- No column of a canonical text is continuous.
-use Rattle.std.specs.Prelude.{◌≡◌, ℕ, zero, suc, ◌==◌, Bool, true, false, ◌&&◌, ◌||◌, not, if◌then◌else◌, List, [], ◌∷◌, ◌++◌, length, map, filter, Some, slice_get, bytes_eq, codes}
+use Rattle.std.specs.Prelude.{◌≡◌, ℕ, suc, ◌==◌, Bool, true, false, ◌&&◌, ◌||◌, not, if◌then◌else◌, List, [], ◌∷◌, ◌++◌, length, map, filter, Some, slice_get, bytes_eq, codes}
 use Rattle.std.specs.List.{list_any, enumerate_from}
 use Rattle.std.specs.Option.{option_map_or}
 use Rattle.std.proofs.Common.{refl, arith, ap, sym, ◌∙◌}
@@ -19,7 +19,7 @@ use Rattle.text_laws.proofs.ListLaws.{Each, append_assoc, filter-append}
 use Rattle.text_laws.proofs.SectionLaws.{AreItems, lines_in, number_after, items_first, items_none, other_section, after_rows, after_columns, after_right_sides, after_ranges, after_bounds}
 use Rattle.text_laws.proofs.CanonicalLaws.{sections_of, are_sections}
 use Rattle.text_laws.proofs.ReadableLaws.{IsProgramText}
-use Rattle.text_laws.proofs.EntryReadLaws.{bytes_same, AreTriples}
+use Rattle.text_laws.proofs.EntryReadLaws.{AreTriples}
 use Rattle.text_laws.proofs.RecordReadLaws.{blocks_of, blocks_triples}
 use Rattle.text_laws.proofs.NameReadLaws.{names_read}
 use Rattle.text_laws.proofs.CoefReadLaws.{among_at}

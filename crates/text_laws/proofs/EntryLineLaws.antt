@@ -1,5 +1,5 @@
 -- Each line of COLUMNS, RHS and RANGES of a canonical text writes an amount for a row that is known.
-use Rattle.std.specs.Prelude.{◌≡◌, ℕ, ◌≤◌, ◌<◌, ◌^◌, ◌==◌, Bool, true, ◌||◌, not, List, [], ◌∷◌, ◌++◌, map, flat_map, find, Option, None, Some, bytes_eq, codes, ℤ, pos, neg_ℤ, ◌-ℤ◌}
+use Rattle.std.specs.Prelude.{◌≡◌, ℕ, ◌≤◌, ◌^◌, ◌==◌, true, ◌||◌, not, List, [], ◌∷◌, ◌++◌, map, flat_map, find, Option, None, Some, bytes_eq, codes, ℤ, pos, neg_ℤ, ◌-ℤ◌}
 use Rattle.std.specs.List.{enumerate_from}
 use Rattle.std.specs.Option.{option_map_or, ForSome}
 use Rattle.std.specs.Int.RustNames.{unsigned_abs}
@@ -7,8 +7,7 @@ use Rattle.std.specs.Ordering.{int_eq}
 use Rattle.std.proofs.Common.{refl, arith, ap}
 use Rattle.ip_defs.specs.Lists.{is_among, when}
 use Rattle.ip_defs.specs.Numbers.{decimal_text}
-use Rattle.ip_defs.specs.Texts.{Written, triple, coef_line, column_block, right_side, rhs_line, constant_line, range_line, value_text}
-use Rattle.ip_defs.specs.declared.programs.Column.{Column}
+use Rattle.ip_defs.specs.Texts.{triple, coef_line, column_block, right_side, rhs_line, constant_line, range_line, value_text}
 use Rattle.ip_defs.specs.declared.programs.Row.{Row}
 use Rattle.ip_defs.specs.declared.programs.Parts.{Parts}
 use Rattle.text_laws.proofs.ListLaws.{Each, each_append, each_flat, each_when, each_both}

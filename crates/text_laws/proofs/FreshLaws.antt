@@ -1,5 +1,5 @@
 -- No place is written twice in a canonical text, and the entries of a column stand together.
-use Rattle.std.specs.Prelude.{◌≡◌, ℕ, ◌+◌, ◌==◌, Bool, true, false, ◌&&◌, ◌||◌, not, List, [], ◌∷◌, ◌++◌, map, flat_map, find, Option, None, Some, option_map, bytes_eq, codes, ℤ, pos, neg_ℤ, ◌-ℤ◌, ⊤}
+use Rattle.std.specs.Prelude.{◌≡◌, ℕ, ◌+◌, ◌==◌, Bool, true, false, ◌&&◌, ◌||◌, not, List, [], ◌∷◌, ◌++◌, map, flat_map, find, Option, None, Some, bytes_eq, codes, ℤ, pos, neg_ℤ, ◌-ℤ◌, ⊤}
 use Rattle.std.specs.List.{list_any, enumerate_from}
 use Rattle.std.specs.Option.{option_map_or}
 use Rattle.std.specs.Ordering.{int_eq}
@@ -151,9 +151,9 @@ block_new : (m : Parts) (j : ℕ) (c : Column) (seen : List Told) → AreDistinc
 block_new m j c seen d e = (
   (not_said c.name m.objective seen e, ap (λ t. t && not (option_map_or (λ (u : Told). bytes_eq u.owner c.name) (last_of seen) false)) e),
   joined c.name seen (told_of c.name m.objective (value_text m c.cost)) (coef_told j c.name m.rows) refl (coefs_owned j c.name m.rows)
-  (subst (Follow IsFresh (seen ++ told_of c.name m.objective (value_text m c.cost) ∷ [])) (sym (flat_flat (coef_line j c.name) m.rows))
-  (rows_fresh c.name (λ r. flat_map tells (coef_line j c.name r)) (one_coef j c.name) m.rows (seen ++ told_of c.name m.objective (value_text m c.cost) ∷ []) d.1
-  (beside m c.name (value_text m c.cost) seen m.rows (each_apart m m.rows d.0) (unsaid m.rows)))),
+      (subst (Follow IsFresh (seen ++ told_of c.name m.objective (value_text m c.cost) ∷ [])) (sym (flat_flat (coef_line j c.name) m.rows))
+      (rows_fresh c.name (λ r. flat_map tells (coef_line j c.name r)) (one_coef j c.name) m.rows (seen ++ told_of c.name m.objective (value_text m c.cost) ∷ []) d.1
+      (beside m c.name (value_text m c.cost) seen m.rows (each_apart m m.rows d.0) (unsaid m.rows)))),
 )
   where
     unsaid : (rs : List Row) → Each (λ r. is_said c.name r.name seen ≡ false) rs
@@ -172,6 +172,6 @@ columns_new m j (c ∷ cs) seen rows d h =
     after (k ∷ ks) e g =
         let apart = apart_turned c.name k.name (or_left (bytes_eq c.name k.name) (is_among c.name (map (λ y. y.name) ks)) e) in (
           ap (is_among k.name) (map-append (λ (t : Told). t.owner) seen (block_told m j c))
-          ∙ not_among_more k.name (owners seen) (owners (block_told m j c)) g.0 (not_owned k.name c.name (block_told m j c) apart (refl, coefs_owned j c.name m.rows)),
+              ∙ not_among_more k.name (owners seen) (owners (block_told m j c)) g.0 (not_owned k.name c.name (block_told m j c) apart (refl, coefs_owned j c.name m.rows)),
           after ks (or_right (bytes_eq c.name k.name) (is_among c.name (map (λ y. y.name) ks)) e) g.1,
         )

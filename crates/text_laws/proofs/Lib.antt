@@ -1,3 +1,4 @@
+pub mod CanonicalExamples
 pub mod NoFaultLaws
 pub mod EntryLineLaws
 pub mod LineFaultLaws

@@ -1,18 +1,17 @@
 -- No fault is found in the lines of a section whose rows are known, whose amounts are numbers and whose places are fresh.
-use Rattle.std.specs.Prelude.{◌≡◌, ℕ, suc, ◌≤◌, ◌<◌, ◌^◌, ◌==◌, nat_lt, nat_le, Bool, true, false, ◌&&◌, ◌||◌, not, cond, if◌then◌else◌, List, [], ◌∷◌, ◌++◌, length, map, filter, flat_map, bytes_eq, codes, ℤ}
+use Rattle.std.specs.Prelude.{◌≡◌, ℕ, suc, ◌≤◌, ◌<◌, ◌^◌, nat_lt, nat_le, Bool, true, false, ◌&&◌, ◌||◌, not, cond, if◌then◌else◌, List, [], ◌∷◌, ◌++◌, map, filter, flat_map, bytes_eq, codes, ℤ}
 use Rattle.std.specs.List.{list_any}
 use Rattle.std.specs.Fmt.{signed_decimal}
 use Rattle.std.specs.Option.{option_map_or, is_none}
 use Rattle.std.specs.Int.RustNames.{unsigned_abs}
 use Rattle.std.proofs.Common.{refl, ap, sym, ◌∙◌, arith}
 use Rattle.std.proofs.lemmas.Bool.{le-ltb}
-use Rattle.std.proofs.lemmas.List.Folds.{list_any-append}
 use Rattle.ip_defs.specs.Lists.{is_among, last_of, when, with_earlier}
 use Rattle.ip_defs.specs.Numbers.{decimal_text, decimals_of, is_number, least_decimals, has_decimals}
 use Rattle.ip_defs.specs.Texts.{Written, pair, kind_text, is_equation, is_from_below}
-use Rattle.ip_defs.specs.Records.{Line, Entry, items_of, words_of, row_name, row_lines, row_kind, is_marker, in_force, column_name, column_lines, has_column, entries_of, entries_from, all_entries, is_kept, bound_column, field}
+use Rattle.ip_defs.specs.Records.{Line, Entry, items_of, words_of, row_name, row_lines, is_marker, in_force, column_name, has_column, entries_of, entries_from, all_entries, is_kept}
 use Rattle.ip_defs.specs.TextModels.{number_at}
-use Rattle.ip_defs.specs.Faults.{line_faults, item_faults, row_faults, column_faults, set_faults, bound_faults, marker_faults, section_faults, pair_faults, entry_faults, is_split, same_place, may_come, place_of}
+use Rattle.ip_defs.specs.Faults.{line_faults, row_faults, column_faults, set_faults, bound_faults, marker_faults, pair_faults, entry_faults, is_split, same_place, may_come, place_of}
 use Rattle.ip_defs.specs.declared.texts.MpsError.TheVariants.{SectionOrder, UnknownSection, FieldCount, RowKind, TwiceRow, UnknownRow, SplitColumn, TwiceEntry, Number, Marker, BoundKind, UnknownColumn, Digits}
 use Rattle.ip_defs.specs.declared.programs.Column.{Column}
 use Rattle.ip_defs.specs.declared.programs.Row.{Row}
@@ -168,10 +167,10 @@ column_known before n a b c seen plain k =
       told_are = told_more (codes "COLUMNS") before l refl ∙ ap (λ es. told_in (codes "COLUMNS") before ++ map told es) (column_entry n a b c plain) ∙ ap (λ x. x ++ t ∷ []) k.told_are;
       names_are = names_more before l ∙ ap (λ u. names_of before ++ map column_name (cond (not u) (l ∷ []) [])) plain ∙ ap (λ x. x ++ a ∷ []) k.names_are ∙ sym (map-append (λ (x : Told). x.owner) seen (t ∷ []));
       last_is = λ name.
-        ap (λ x. option_map_or (λ (y : Line). not (is_marker y) && bytes_eq (column_name y) name) (last_of x) false) (items_more (codes "COLUMNS") before (l ∷ []))
-        ∙ ap (λ x. option_map_or (λ (y : Line). not (is_marker y) && bytes_eq (column_name y) name) x false) (last_of-add (items_of (codes "COLUMNS") before) l)
-        ∙ ap (λ u. not u && bytes_eq a name) plain
-        ∙ sym (ap (λ x. option_map_or (λ (y : Told). bytes_eq y.owner name) x false) (last_of-add seen t));
+          ap (λ x. option_map_or (λ (y : Line). not (is_marker y) && bytes_eq (column_name y) name) (last_of x) false) (items_more (codes "COLUMNS") before (l ∷ []))
+          ∙ ap (λ x. option_map_or (λ (y : Line). not (is_marker y) && bytes_eq (column_name y) name) x false) (last_of-add (items_of (codes "COLUMNS") before) l)
+          ∙ ap (λ u. not u && bytes_eq a name) plain
+          ∙ sym (ap (λ x. option_map_or (λ (y : Told). bytes_eq y.owner name) x false) (last_of-add seen t));
     }
 
 not_split : (before : List Line) (n : ℕ) (a b c : List ℕ) (seen : List Told) → ColumnsKnown before seen → is_parted seen (told (entry_at n a b c)) ≡ false → is_split before (item n (codes "COLUMNS") (a ∷ b ∷ c ∷ [])) ≡ false
@@ -250,7 +249,7 @@ rows_faultless before n (r ∷ rs) came d new plain =
     after [] e g = tt
     after (k ∷ ks) e g = (
       ap (is_among k.name) (row_more before n (kind_text r) r.name)
-      ∙ not_among_more k.name (row_names before) (r.name ∷ []) g.0 (ap (λ t. t || false) (apart_turned r.name k.name (or_left (bytes_eq r.name k.name) (is_among r.name (map (λ y. y.name) ks)) e))),
+          ∙ not_among_more k.name (row_names before) (r.name ∷ []) g.0 (ap (λ t. t || false) (apart_turned r.name k.name (or_left (bytes_eq r.name k.name) (is_among r.name (map (λ y. y.name) ks)) e))),
       after ks (or_right (bytes_eq r.name k.name) (is_among r.name (map (λ y. y.name) ks)) e) g.1,
     )
 
@@ -262,9 +261,9 @@ bound_line_faultless before n kind name z known came there small =
     let l = item n (codes "BOUNDS") (kind ∷ codes "BND" ∷ name ∷ signed_decimal z ∷ []) in
     ap (λ t. when (not t) (SectionOrder n) ++ bound_faults before l) came
     ∙ ap (λ t. when (not (t || is_among kind (codes "FR" ∷ codes "MI" ∷ codes "PL" ∷ codes "BV" ∷ []))) (BoundKind n)
-      ++ when (not (nat_le (if t then 3 else 2) 4 && nat_le 4 4)) (FieldCount n)
-      ++ when (not (has_column before (if (if t then true else true) then name else codes "BND"))) (UnknownColumn n)
-      ++ when (t && not (is_number (signed_decimal z))) (Number n)) known
+    ++ when (not (nat_le (if t then 3 else 2) 4 && nat_le 4 4)) (FieldCount n)
+    ++ when (not (has_column before (if (if t then true else true) then name else codes "BND"))) (UnknownColumn n)
+    ++ when (t && not (is_number (signed_decimal z))) (Number n)) known
     ∙ ap (λ t. when (not t) (UnknownColumn n) ++ when (not (is_number (signed_decimal z))) (Number n)) there
     ∙ ap (λ t. when (not t) (Number n)) (signed_decimal_read z small).0
 

@@ -5,7 +5,7 @@ use Rattle.std.specs.Option.{option_map_or}
 use Rattle.std.proofs.Common.{refl, ap, sym, ◌∙◌}
 use Rattle.std.proofs.lemmas.List.Folds.{list_any-append}
 use Rattle.ip_defs.specs.Lists.{is_among, last_of}
-use Rattle.ip_defs.specs.Texts.{Written, head, pair, triple, kind_text, column_block, columns_block, rhs_line, constant_line, range_line}
+use Rattle.ip_defs.specs.Texts.{Written, head, pair, triple, kind_text, column_block, columns_block}
 use Rattle.ip_defs.specs.Records.{Line, items_of, words_of, row_name, is_marker, in_force, column_name, entries_of, field}
 use Rattle.ip_defs.specs.Faults.{all_line_faults}
 use Rattle.ip_defs.specs.declared.programs.Column.{Column}
@@ -14,10 +14,10 @@ use Rattle.ip_defs.specs.declared.programs.Parts.{Parts}
 use Rattle.text_laws.specs.Lines.{lines_from}
 use Rattle.text_laws.specs.ReadBack.{AreDistinct, CanonicalTextsHaveNoFault}
 use Rattle.text_laws.proofs.ListLaws.{Each, map-append}
-use Rattle.text_laws.proofs.SectionLaws.{AreItems, number_after, items_all, columns_are, columns_at, right_sides_at, ranges_at, bounds_at, lines_in, after_rows, after_columns, after_right_sides, after_ranges, after_bounds}
+use Rattle.text_laws.proofs.SectionLaws.{AreItems, number_after, items_all, columns_are, columns_at, lines_in, after_rows, after_columns, after_right_sides, after_ranges, after_bounds}
 use Rattle.text_laws.proofs.CanonicalLaws.{sections_of, are_sections}
 use Rattle.text_laws.proofs.ReadableLaws.{IsProgramText, IsRowText, IsColumnText, program_text}
-use Rattle.text_laws.proofs.EntryReadLaws.{told, tells, tells_append, bytes_same}
+use Rattle.text_laws.proofs.EntryReadLaws.{told, tells_append, bytes_same}
 use Rattle.text_laws.proofs.RecordReadLaws.{blocks_of, blocks_triples, not_marker}
 use Rattle.text_laws.proofs.CoefReadLaws.{told_from, block_told, coef_told, or_true}
 use Rattle.text_laws.proofs.NameReadLaws.{owners, lines_told}
@@ -25,7 +25,7 @@ use Rattle.text_laws.proofs.ModelReadLaws.{each_apart}
 use Rattle.text_laws.proofs.ContinuousLaws.{triples_items, plain_lines}
 use Rattle.text_laws.proofs.FreshLaws.{columns_new, right_sides_fresh, ranges_fresh}
 use Rattle.text_laws.proofs.PriorLaws.{faults_after, section_faultless, line_faultless, Known, opening, items_more, words_stay, after_opening, after_row_lines, after_column_lines, after_right_lines, after_range_lines}
-use Rattle.text_laws.proofs.LineFaultLaws.{RowsCame, row_names, still_came, same_rows, ColumnsKnown, IsBounded, IsSetWord, rows_faultless, row_line_faultless, columns_faultless, sets_faultless, bounds_faultless, begin_faultless, end_faultless, opening_faultless}
+use Rattle.text_laws.proofs.LineFaultLaws.{RowsCame, row_names, still_came, same_rows, ColumnsKnown, IsBounded, rows_faultless, row_line_faultless, columns_faultless, sets_faultless, bounds_faultless, begin_faultless, end_faultless, opening_faultless}
 use Rattle.text_laws.proofs.EntryLineLaws.{rows_named, columns_entries, right_sides_entries, ranges_entries}
 use Rattle.text_laws.proofs.FaultReadLaws.{fault_free}
 use Rattle.text_laws.proofs.Utf8Laws.{canonical_utf8}

@@ -1,5 +1,5 @@
 -- The lines of a written text before one of its lines: their section words, and their data lines by section.
-use Rattle.std.specs.Prelude.{◌≡◌, ℕ, suc, true, false, ◌&&◌, not, List, [], ◌∷◌, ◌++◌, map, filter, flat_map, bytes_eq, codes}
+use Rattle.std.specs.Prelude.{◌≡◌, ℕ, false, ◌&&◌, not, List, [], ◌∷◌, ◌++◌, map, filter, flat_map, bytes_eq, codes}
 use Rattle.std.proofs.Common.{refl, ap, ◌∙◌}
 use Rattle.ip_defs.specs.Lists.{after_those}
 use Rattle.ip_defs.specs.Texts.{Written}

@@ -1,5 +1,5 @@
 -- A canonical text is UTF-8 where the names of its program are.
-use Rattle.std.specs.Prelude.{◌≡◌, ℕ, zero, suc, ◌/◌, ◌%◌, ◌^◌, ◌<◌, ◌≤◌, ◌==◌, Bool, true, false, not, if◌then◌else◌, List, [], ◌∷◌, ◌++◌, length, map, flat_map, find, Option, None, Some, codes, decimal, ℤ, pos, negsuc, neg_ℤ, ◌-ℤ◌, nat_lt}
+use Rattle.std.specs.Prelude.{◌≡◌, ℕ, suc, ◌/◌, ◌%◌, ◌^◌, ◌<◌, ◌≤◌, ◌==◌, Bool, true, false, not, if◌then◌else◌, List, [], ◌∷◌, ◌++◌, length, flat_map, find, Option, None, Some, codes, decimal, ℤ, pos, negsuc, neg_ℤ, ◌-ℤ◌, nat_lt}
 use Rattle.std.specs.Fmt.{signed_decimal}
 use Rattle.std.specs.List.{list_all, enumerate_from, concat}
 use Rattle.std.specs.Option.{option_map_or, ForSome}
@@ -24,7 +24,7 @@ use Rattle.text_laws.specs.ReadBack.{HasTextNames}
 use Rattle.text_laws.proofs.NumeralLaws.{digit_range, decimal_digits, places_digits}
 use Rattle.text_laws.proofs.NumberTextLaws.{signed_decimal_is}
 use Rattle.text_laws.proofs.ListLaws.{Each, each_append, each_flat, each_map, each_when, each_both}
-use Rattle.text_laws.proofs.SectionLaws.{Sections, section_lines, after_rows, after_columns, after_right_sides, after_ranges, after_bounds}
+use Rattle.text_laws.proofs.SectionLaws.{Sections, section_lines, after_columns, after_right_sides, after_ranges, after_bounds}
 use Rattle.text_laws.proofs.CanonicalLaws.{sections_of, canonical_sections}
 use Rattle.text_laws.proofs.ReadableLaws.{IsProgramText, IsRowText, IsColumnText, all_from, all_enumerated, found_small, right_side_small, width_small, negated_small}
 use Rattle.text_laws.proofs.CoefReadLaws.{named_at}

@@ -1,4 +1,4 @@
--- A program that meets what the law of reading back asks for, and programs that miss it by one condition and are not read back.
+-- A program that meets what the law of reading back asks for, and some that miss it by one condition and are not read back.
 use Rattle.std.specs.Prelude.{◌≡◌, ◌≢◌, ℕ, zero, suc, ◌<◌, ◌≤◌, ◌^◌, true, List, [], ◌∷◌, map, None, Some, slice_get, slice_index_or, codes, ℤ, pos, negsuc}
 use Rattle.std.specs.Int.RustNames.{unsigned_abs}
 use Rattle.std.specs.Fmt.{digits}
@@ -98,7 +98,7 @@ unfolding is_utf8 chars lib.Utf8.encode
 example_is_canonical = record {
   printable = refl;
   limits = example_within;
-  texts = record { objective = refl; columns = both (λ name. is_utf8 name ≡ true) (codes "x") (195 ∷ 169 ∷ []) refl refl; rows = only (λ name. is_utf8 name ≡ true) (codes "r") refl };
+  texts = record { objective = refl; columns = both (λ c. is_utf8 c.name ≡ true) first_column second_column refl refl; rows = only (λ r. is_utf8 r.name ≡ true) (row_named (codes "r")) refl };
   columns = (refl, (refl, tt));
   rows = (refl, (refl, tt));
   digits = omega arith;

@@ -13,7 +13,7 @@ use Rattle.ip_defs.specs.Faults.{continuous_faults}
 use Rattle.ip_defs.specs.declared.texts.MpsError.TheVariants.{Continuous}
 use Rattle.ip_defs.specs.declared.programs.Column.{Column}
 use Rattle.ip_defs.specs.declared.programs.Parts.{Parts}
-use Rattle.text_laws.specs.Lines.{lines_from}
+use Rattle.text_laws.proofs.Lines.{lines_from}
 use Rattle.text_laws.specs.ReadBack.{AreDistinct}
 use Rattle.text_laws.proofs.ListLaws.{Each, append_assoc, filter-append}
 use Rattle.text_laws.proofs.SectionLaws.{AreItems, lines_in, number_after, items_first, items_none, other_section, after_rows, after_columns, after_right_sides, after_ranges, after_bounds}

@@ -18,7 +18,7 @@ use Rattle.ip_defs.specs.declared.texts.How.{How}
 use Rattle.ip_defs.specs.declared.programs.Column.{Column}
 use Rattle.ip_defs.specs.declared.programs.Row.{Row}
 use Rattle.ip_defs.specs.declared.programs.Parts.{Parts}
-use Rattle.text_laws.specs.Lines.{lines_from}
+use Rattle.text_laws.proofs.Lines.{lines_from}
 use Rattle.text_laws.specs.ReadBack.{AreDistinct}
 use Rattle.text_laws.proofs.ListLaws.{filter-append}
 use Rattle.text_laws.proofs.SectionLaws.{Sections, AreSections, AreItems, lines_in, number_after, items_first, columns_at, right_sides_at, ranges_at, bounds_at, after_rows, after_columns, after_right_sides, after_ranges, after_bounds}

@@ -1,3 +1,4 @@
+pub mod Lines
 pub mod CanonicalExamples
 pub mod NoFaultLaws
 pub mod EntryLineLaws

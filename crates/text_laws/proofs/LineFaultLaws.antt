@@ -15,7 +15,7 @@ use Rattle.ip_defs.specs.Faults.{line_faults, row_faults, column_faults, set_fau
 use Rattle.ip_defs.specs.declared.texts.MpsError.TheVariants.{SectionOrder, UnknownSection, FieldCount, RowKind, TwiceRow, UnknownRow, SplitColumn, TwiceEntry, Number, Marker, BoundKind, UnknownColumn, Digits}
 use Rattle.ip_defs.specs.declared.programs.Column.{Column}
 use Rattle.ip_defs.specs.declared.programs.Row.{Row}
-use Rattle.text_laws.specs.Lines.{lines_from}
+use Rattle.text_laws.proofs.Lines.{lines_from}
 use Rattle.text_laws.specs.ReadBack.{AreDistinct}
 use Rattle.text_laws.proofs.ListLaws.{Each, append_nil, map-append, flat_map-append, last_of-add}
 use Rattle.text_laws.proofs.NumberTextLaws.{decimal_text_read, decimal_text_decimals, signed_decimal_read}

@@ -12,7 +12,7 @@ use Rattle.ip_defs.specs.Records.{Line, is_marker, column_lines, column_name, co
 use Rattle.ip_defs.specs.declared.programs.Column.{Column}
 use Rattle.ip_defs.specs.declared.programs.Row.{Row}
 use Rattle.ip_defs.specs.declared.programs.Parts.{Parts}
-use Rattle.text_laws.specs.Lines.{lines_from}
+use Rattle.text_laws.proofs.Lines.{lines_from}
 use Rattle.text_laws.specs.ReadBack.{AreDistinct}
 use Rattle.text_laws.proofs.ListLaws.{Each, append_nil, append_assoc, map-append}
 use Rattle.text_laws.proofs.SectionLaws.{lines_in, columns_are, columns_at, new_names, names_are}

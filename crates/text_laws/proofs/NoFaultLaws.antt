@@ -11,7 +11,7 @@ use Rattle.ip_defs.specs.Faults.{all_line_faults}
 use Rattle.ip_defs.specs.declared.programs.Column.{Column}
 use Rattle.ip_defs.specs.declared.programs.Row.{Row}
 use Rattle.ip_defs.specs.declared.programs.Parts.{Parts}
-use Rattle.text_laws.specs.Lines.{lines_from}
+use Rattle.text_laws.proofs.Lines.{lines_from}
 use Rattle.text_laws.specs.ReadBack.{AreDistinct, CanonicalTextsHaveNoFault}
 use Rattle.text_laws.proofs.ListLaws.{Each, map-append}
 use Rattle.text_laws.proofs.SectionLaws.{AreItems, number_after, items_all, columns_are, columns_at, lines_in, after_rows, after_columns, after_right_sides, after_ranges, after_bounds}

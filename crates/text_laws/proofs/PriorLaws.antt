@@ -6,7 +6,7 @@ use Rattle.ip_defs.specs.Texts.{Written}
 use Rattle.ip_defs.specs.Records.{Line, items_of, words_of}
 use Rattle.ip_defs.specs.Faults.{line_faults}
 use Rattle.ip_defs.specs.declared.texts.MpsError.{MpsError}
-use Rattle.text_laws.specs.Lines.{lines_from}
+use Rattle.text_laws.proofs.Lines.{lines_from}
 use Rattle.text_laws.proofs.ListLaws.{append_nil, map-append, filter-append, flat_map-append}
 use Rattle.text_laws.proofs.SectionLaws.{AreItems, number_after, items_first, items_all, items_none}
 use Rattle.text_laws.proofs.FaultFreeLaws.{no_words}

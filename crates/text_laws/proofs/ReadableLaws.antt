@@ -20,7 +20,7 @@ use Rattle.ip_defs.specs.Records.{lines_of}
 use Rattle.ip_defs.specs.declared.programs.Column.{Column}
 use Rattle.ip_defs.specs.declared.programs.Row.{Row}
 use Rattle.ip_defs.specs.declared.programs.Parts.{Parts}
-use Rattle.text_laws.specs.Lines.{is_field, is_readable, is_last}
+use Rattle.text_laws.proofs.Lines.{is_field, is_readable, is_last}
 use Rattle.text_laws.proofs.NumeralLaws.{digit_range, decimal_digits, decimal_some, places_digits, none_among}
 use Rattle.text_laws.proofs.ListLaws.{Each}
 use Rattle.text_laws.proofs.NumberTextLaws.{signed_decimal_is}

@@ -13,7 +13,7 @@ use Rattle.ip_defs.specs.Records.{Line, Entry, items_of, row_lines, row_kind, ro
 use Rattle.ip_defs.specs.declared.programs.Column.{Column}
 use Rattle.ip_defs.specs.declared.programs.Row.{Row}
 use Rattle.ip_defs.specs.declared.programs.Parts.{Parts}
-use Rattle.text_laws.specs.Lines.{lines_from}
+use Rattle.text_laws.proofs.Lines.{lines_from}
 use Rattle.text_laws.proofs.ListLaws.{Each}
 use Rattle.text_laws.proofs.SectionLaws.{lines_in, rows_are, columns_are, right_sides_are, ranges_are, columns_at, right_sides_at, ranges_at}
 use Rattle.text_laws.proofs.CanonicalLaws.{sections_of, are_sections}

@@ -4,7 +4,7 @@ use Rattle.std.proofs.Common.{refl, ap, sym, ◌∙◌}
 use Rattle.ip_defs.specs.Lists.{after_those, is_among, when}
 use Rattle.ip_defs.specs.Texts.{Written, head}
 use Rattle.ip_defs.specs.Records.{Line, items_of, is_marker, column_lines, column_name, column_names, has_column}
-use Rattle.text_laws.specs.Lines.{lines_from}
+use Rattle.text_laws.proofs.Lines.{lines_from}
 use Rattle.text_laws.proofs.ListLaws.{append_nil, map-append, filter-append}
 
 abbrev pub AreItems : List Written → Type 0

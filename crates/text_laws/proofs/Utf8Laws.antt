@@ -27,7 +27,6 @@ use Rattle.text_laws.proofs.ListLaws.{Each, each_append, each_flat, each_map, ea
 use Rattle.text_laws.proofs.SectionLaws.{Sections, section_lines, after_columns, after_right_sides, after_ranges, after_bounds}
 use Rattle.text_laws.proofs.CanonicalLaws.{sections_of, canonical_sections}
 use Rattle.text_laws.proofs.ReadableLaws.{IsProgramText, IsRowText, IsColumnText, all_from, all_enumerated, found_small, right_side_small, width_small, negated_small}
-use Rattle.text_laws.proofs.CoefReadLaws.{named_at}
 
 -- ---- numbers
 
@@ -100,13 +99,13 @@ record IsRowUtf8 (r : Row) : Type 0 where
 columns_utf8 : (m : Parts) → IsProgramText m → HasTextNames m → Each IsColumnUtf8 m.columns
 columns_utf8 m h t =
     each_both IsColumnText (λ c. IsUtf8 c.name) IsColumnUtf8 m.columns h.columns
-    (all_from (λ (c : Column). IsUtf8 c.name) m.columns (λ j c at. IsUtf8-from_is_utf8 c.name (t.columns j c.name (named_at (λ k. k.name) m.columns j c at))))
+    (all_from (λ (c : Column). IsUtf8 c.name) m.columns (λ j c at. IsUtf8-from_is_utf8 c.name (t.columns j c at)))
     (λ c p q. record { text = p; name = q })
 
 rows_utf8 : (m : Parts) → IsProgramText m → HasTextNames m → Each IsRowUtf8 m.rows
 rows_utf8 m h t =
     each_both IsRowText (λ r. IsUtf8 r.name) IsRowUtf8 m.rows h.rows
-    (all_from (λ (r : Row). IsUtf8 r.name) m.rows (λ j r at. IsUtf8-from_is_utf8 r.name (t.rows j r.name (named_at (λ k. k.name) m.rows j r at))))
+    (all_from (λ (r : Row). IsUtf8 r.name) m.rows (λ j r at. IsUtf8-from_is_utf8 r.name (t.rows j r at)))
     (λ r p q. record { text = p; name = q })
 
 kind_utf8 : (r : Row) → IsUtf8 (kind_text r)

@@ -14,7 +14,7 @@ use Rattle.ip_defs.specs.Numbers.{is_large}
 use Rattle.ip_defs.specs.declared.texts.Number.{Number}
 use Rattle.ip_defs.specs.declared.programs.Column.{Column}
 use Rattle.ip_defs.specs.declared.programs.Parts.{Parts}
-use Rattle.text_laws.specs.Lines.{lines_from}
+use Rattle.text_laws.proofs.Lines.{lines_from}
 use Rattle.text_laws.specs.ReadBack.{AreDistinct}
 use Rattle.text_laws.proofs.NumberTextLaws.{signed_decimal_read}
 use Rattle.text_laws.proofs.SectionLaws.{lines_in, bounds_are, bounds_at}

@@ -80,6 +80,16 @@ named_at f [] i x e = absurd cc
 named_at f (y ∷ ys) zero x e = let same : y ≡ x = cc in ap (λ k. Some (f k)) same
 named_at f (y ∷ ys) (suc i) x e = named_at f ys i x e
 
+pub or_true : (a b : Bool) → b ≡ true → (a || b) ≡ true
+or_true true b e = refl
+or_true false b e = e
+
+-- what is listed is among them
+pub among_at : {A : Type 0} (f : A → List ℕ) (xs : List A) (i : ℕ) (x : A) → slice_get xs i ≡ Some x → is_among (f x) (map f xs) ≡ true
+among_at f [] i x e = absurd cc
+among_at f (y ∷ ys) zero x e = let same : y ≡ x = cc in ap (λ t. t || is_among (f x) (map f ys)) (ap (λ k. bytes_eq (f x) (f k)) same ∙ bytes_same (f x))
+among_at f (y ∷ ys) (suc i) x e = or_true (bytes_eq (f x) (f y)) (is_among (f x) (map f ys)) (among_at f ys i x e)
+
 own_row : (j : ℕ) (name : List ℕ) (rs : List Row) (i : ℕ) (r : Row) → AreDistinct (map (λ k. k.name) rs) → slice_get rs i ≡ Some r → told_at (coef_told j name rs) r.name name ≡ coef_number j r
 own_row j name [] i r d at = absurd cc
 own_row j name (s ∷ rs) zero r d at =

@@ -1,5 +1,5 @@
 -- No column of a canonical text is continuous.
-use Rattle.std.specs.Prelude.{◌≡◌, ℕ, zero, suc, ◌==◌, Bool, true, false, ◌&&◌, ◌||◌, not, if◌then◌else◌, List, [], ◌∷◌, ◌++◌, length, map, filter, Some, slice_get, bytes_eq, codes}
+use Rattle.std.specs.Prelude.{◌≡◌, ℕ, suc, ◌==◌, Bool, true, false, ◌&&◌, ◌||◌, not, if◌then◌else◌, List, [], ◌∷◌, ◌++◌, length, map, filter, Some, slice_get, bytes_eq, codes}
 use Rattle.std.specs.List.{list_any, enumerate_from}
 use Rattle.std.specs.Option.{option_map_or}
 use Rattle.std.proofs.Common.{refl, arith, ap, sym, ◌∙◌}
@@ -13,23 +13,24 @@ use Rattle.ip_defs.specs.Faults.{continuous_faults}
 use Rattle.ip_defs.specs.declared.texts.MpsError.TheVariants.{Continuous}
 use Rattle.ip_defs.specs.declared.programs.Column.{Column}
 use Rattle.ip_defs.specs.declared.programs.Parts.{Parts}
-use Rattle.text_laws.specs.Lines.{lines_from}
+use Rattle.text_laws.proofs.Lines.{lines_from}
 use Rattle.text_laws.specs.ReadBack.{AreDistinct}
 use Rattle.text_laws.proofs.ListLaws.{Each, append_assoc, filter-append}
 use Rattle.text_laws.proofs.SectionLaws.{AreItems, lines_in, number_after, items_first, items_none, other_section, after_rows, after_columns, after_right_sides, after_ranges, after_bounds}
 use Rattle.text_laws.proofs.CanonicalLaws.{sections_of, are_sections}
 use Rattle.text_laws.proofs.ReadableLaws.{IsProgramText}
-use Rattle.text_laws.proofs.EntryReadLaws.{bytes_same, AreTriples}
+use Rattle.text_laws.proofs.EntryReadLaws.{AreTriples}
 use Rattle.text_laws.proofs.RecordReadLaws.{blocks_of, blocks_triples}
 use Rattle.text_laws.proofs.NameReadLaws.{names_read}
+use Rattle.text_laws.proofs.CoefReadLaws.{among_at}
 use Rattle.text_laws.proofs.IntegerReadLaws.{begins_whole}
 
-triples_items : (ds : List Written) → AreTriples ds → AreItems ds
+pub triples_items : (ds : List Written) → AreTriples ds → AreItems ds
 triples_items [] h = tt
 triples_items ((true, fs) ∷ ds) h = (refl, triples_items ds h.1)
 triples_items ((false, fs) ∷ ds) h = absurd h.0
 
-plain_lines : (n : ℕ) (ds : List Written) → AreTriples ds → Each (λ l. is_marker l ≡ false) (lines_from n (codes "COLUMNS") ds)
+pub plain_lines : (n : ℕ) (ds : List Written) → AreTriples ds → Each (λ l. is_marker l ≡ false) (lines_from n (codes "COLUMNS") ds)
 plain_lines n [] h = tt
 plain_lines n ((true, a ∷ b ∷ c ∷ []) ∷ ds) h = (h.0, plain_lines (suc n) ds h.1)
 plain_lines n ((true, a ∷ b ∷ c ∷ d ∷ fs) ∷ ds) h = absurd h.0
@@ -45,15 +46,6 @@ turned a b = by (bytes_eq a b) (bytes_eq b a) refl refl
     by true u e f = e ∙ sym ((bytes_eq-Decides b a).1 (sym ((bytes_eq-Decides a b).0 e)))
     by false true e f = (bytes_eq-Decides a b).1 (sym ((bytes_eq-Decides b a).0 f)) ∙ sym f
     by false false e f = e ∙ sym f
-
-among_at : (cs : List Column) (j : ℕ) (c : Column) → slice_get cs j ≡ Some c → is_among c.name (map (λ k. k.name) cs) ≡ true
-among_at [] j c e = absurd cc
-among_at (k ∷ ks) zero c e = let same : k ≡ c = cc in ap (λ t. t || is_among c.name (map (λ y. y.name) ks)) (ap (λ (y : Column). bytes_eq c.name y.name) same ∙ bytes_same c.name)
-among_at (k ∷ ks) (suc j) c e = by (bytes_eq c.name k.name) (among_at ks j c e)
-  where
-    by : (t : Bool) → is_among c.name (map (λ y. y.name) ks) ≡ true → (t || is_among c.name (map (λ y. y.name) ks)) ≡ true
-    by true h = refl
-    by false h = h
 
 some_columns : (cs : List Column) (j : ℕ) (c : Column) → slice_get cs j ≡ Some c → (length cs == 0) ≡ false
 some_columns [] j c e = absurd cc
@@ -126,6 +118,6 @@ none_continuous m j c h d at =
     (ap (λ k. option_map_or (λ l. bytes_eq (field l 2) (codes "'INTORG'")) (last_of (filter is_marker k)) false) (front_items m))
     (plain_lines (suc (suc (row_end m))) (blocks_of m) (blocks_triples m h (enumerate_from 0 m.columns)))
     (ap (filter (λ l. not (is_marker l))) (rest_items m))
-    (ap (λ k. is_among c.name (column_names k)) (sym cut) ∙ ap (is_among c.name) (names_read m h d) ∙ among_at m.columns j c at) in
+    (ap (λ k. is_among c.name (column_names k)) (sym cut) ∙ ap (is_among c.name) (names_read m h d) ∙ among_at (λ (y : Column). y.name) m.columns j c at) in
     ap (λ t. when (not (t || list_any (kind_is (codes "BV" ∷ codes "LI" ∷ codes "UI" ∷ [])) (bounds_on ls c.name))) (Continuous c.name))
     (ap (λ k. list_any (λ p. bytes_eq (column_name p.1) c.name && in_force p.0) (first_lines k)) cut ∙ whole)

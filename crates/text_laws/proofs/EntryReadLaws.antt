@@ -8,7 +8,7 @@ use Rattle.ip_defs.specs.Records.{Line, Entry, is_marker, column_name, entries_o
 use Rattle.ip_defs.specs.TextModels.{written_at, written_for, decimals_in, number_at}
 use Rattle.ip_defs.specs.Numbers.{decimals_of}
 use Rattle.ip_defs.specs.declared.texts.Number.{Number}
-use Rattle.text_laws.specs.Lines.{lines_from}
+use Rattle.text_laws.proofs.Lines.{lines_from}
 use Rattle.text_laws.proofs.ListLaws.{map-append, filter-append, flat_map-append}
 
 pub bytes_same : (name : List ℕ) → bytes_eq name name ≡ true

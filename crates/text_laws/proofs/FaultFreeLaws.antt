@@ -18,7 +18,7 @@ use Rattle.ip_defs.specs.declared.texts.How.{How}
 use Rattle.ip_defs.specs.declared.programs.Column.{Column}
 use Rattle.ip_defs.specs.declared.programs.Row.{Row}
 use Rattle.ip_defs.specs.declared.programs.Parts.{Parts}
-use Rattle.text_laws.specs.Lines.{lines_from}
+use Rattle.text_laws.proofs.Lines.{lines_from}
 use Rattle.text_laws.specs.ReadBack.{AreDistinct}
 use Rattle.text_laws.proofs.ListLaws.{filter-append}
 use Rattle.text_laws.proofs.SectionLaws.{Sections, AreSections, AreItems, lines_in, number_after, items_first, columns_at, right_sides_at, ranges_at, bounds_at, after_rows, after_columns, after_right_sides, after_ranges, after_bounds}
@@ -27,7 +27,7 @@ use Rattle.text_laws.proofs.BoundReadLaws.{bounds_read, lower_read, upper_read}
 
 -- ---- the section lines
 
-no_words : (n : ℕ) (word : List ℕ) (ds : List Written) → AreItems ds → filter (λ l. not l.is_item) (lines_from n word ds) ≡ []
+pub no_words : (n : ℕ) (word : List ℕ) (ds : List Written) → AreItems ds → filter (λ l. not l.is_item) (lines_from n word ds) ≡ []
 no_words n word [] h = refl
 no_words n word ((true, fs) ∷ ds) h = no_words (suc n) word ds h.1
 no_words n word ((false, fs) ∷ ds) h = absurd cc

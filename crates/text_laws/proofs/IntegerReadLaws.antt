@@ -15,7 +15,7 @@ begins p = nat_le 1 (length (column_lines (p.1 ∷ []))) && not (has_column p.0 
 abbrev is_whole : List ℕ → List Line × Line → Bool
 is_whole name p = bytes_eq (column_name p.1) name && in_force p.0
 
-stays_in_force : (before : List Line) (l : Line) → is_marker l ≡ false → in_force before ≡ true → in_force (before ++ l ∷ []) ≡ true
+pub stays_in_force : (before : List Line) (l : Line) → is_marker l ≡ false → in_force before ≡ true → in_force (before ++ l ∷ []) ≡ true
 stays_in_force before l plain e =
     ap (λ ls. option_map_or (λ k. bytes_eq (field k 2) (codes "'INTORG'")) (last_of ls) false)
     (ap (filter is_marker) (filter-append (λ k. k.is_item && bytes_eq k.section (codes "COLUMNS")) before (l ∷ []))
@@ -49,7 +49,7 @@ inside name before (l ∷ ls) turned plain e = by (begins (before, l)) (inside n
         ∙ ap (λ u. u || list_any (is_whole name) later) (and_true (bytes_eq (column_name l) name) ∙ turned (column_name l) name)
         ∙ ap (λ u. bytes_eq name (column_name l) || u) rest
 
-after_append : {A : Type 0} (before xs ys : List A) → after_those before (xs ++ ys) ≡ after_those before xs ++ after_those (before ++ xs) ys
+pub after_append : {A : Type 0} (before xs ys : List A) → after_those before (xs ++ ys) ≡ after_those before xs ++ after_those (before ++ xs) ys
 after_append before [] ys = ap (λ b. after_those b ys) (sym (append_nil before))
 after_append before (x ∷ xs) ys = ap (λ l. (before, x) ∷ l) (after_append (before ++ x ∷ []) xs ys ∙ ap (λ b. after_those (before ++ x ∷ []) xs ++ after_those b ys) (append_assoc before (x ∷ []) xs))
 

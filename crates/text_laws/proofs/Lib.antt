@@ -1,3 +1,11 @@
+pub mod Lines
+pub mod CanonicalExamples
+pub mod NoFaultLaws
+pub mod EntryLineLaws
+pub mod LineFaultLaws
+pub mod FreshLaws
+pub mod PriorLaws
+pub mod Utf8Laws
 pub mod ContinuousLaws
 pub mod IntegerReadLaws
 pub mod FaultReadLaws

@@ -8,7 +8,7 @@ use Rattle.decimals.proofs.NumberLaws.{both_true}
 use Rattle.ip_defs.specs.Lists.{with_earlier, after_those, through_first}
 use Rattle.ip_defs.specs.Texts.{Written, written_text, newline}
 use Rattle.ip_defs.specs.Records.{Line, is_end, is_blank, is_star, begins_with, without_return, fields_of, numbered, opens, opens_end, first_field, last_word, line_of, lines_of}
-use Rattle.text_laws.specs.Lines.{is_field, is_readable, section_word, section_after, lines_from, is_last}
+use Rattle.text_laws.proofs.Lines.{is_field, is_readable, section_word, section_after, lines_from, is_last}
 use Rattle.text_laws.proofs.ListLaws.{append_nil, append_assoc, last_word-add}
 
 -- a text that has none of some bytes, and another after it

@@ -2,13 +2,33 @@
 use Rattle.std.specs.Prelude.{◌≡◌, ℕ, Bool, true, false, cond, List, [], ◌∷◌, ◌++◌, map, filter, flat_map, Some, if◌then◌else◌, ⊤}
 use Rattle.std.specs.Option.{option_map_or}
 use Rattle.std.proofs.Common.{refl, sym, ◌∙◌, ap}
-use Rattle.ip_defs.specs.Lists.{last_of}
+use Rattle.ip_defs.specs.Lists.{last_of, when}
 use Rattle.ip_defs.specs.Records.{opens, first_field, last_word}
 
 -- something holds of each element
 abbrev pub Each : {A : Type 0} → (A → Type 0) → List A → Type 0
 Each P [] = ⊤
 Each P (x ∷ xs) = P x × Each P xs
+
+pub each_append : {A : Type 0} (P : A → Type 0) (xs ys : List A) → Each P xs → Each P ys → Each P (xs ++ ys)
+each_append P [] ys h k = k
+each_append P (x ∷ xs) ys h k = (h.0, each_append P xs ys h.1 k)
+
+pub each_flat : {A B : Type 0} (P : A → Type 0) (Q : B → Type 0) (f : A → List B) (xs : List A) → Each P xs → ((x : A) → P x → Each Q (f x)) → Each Q (flat_map f xs)
+each_flat P Q f [] all h = tt
+each_flat P Q f (x ∷ xs) all h = each_append Q (f x) (flat_map f xs) (h x all.0) (each_flat P Q f xs all.1 h)
+
+pub each_map : {A B : Type 0} (P : A → Type 0) (Q : B → Type 0) (f : A → B) (xs : List A) → Each P xs → ((x : A) → P x → Q (f x)) → Each Q (map f xs)
+each_map P Q f [] all h = tt
+each_map P Q f (x ∷ xs) all h = (h x all.0, each_map P Q f xs all.1 h)
+
+pub each_when : {A : Type 0} (P : A → Type 0) (t : Bool) (x : A) → P x → Each P (when t x)
+each_when P true x h = (h, tt)
+each_when P false x h = tt
+
+pub each_both : {A : Type 0} (P Q R : A → Type 0) (xs : List A) → Each P xs → Each Q xs → ((x : A) → P x → Q x → R x) → Each R xs
+each_both P Q R [] p q h = tt
+each_both P Q R (x ∷ xs) p q h = (h x p.0 q.0, each_both P Q R xs p.1 q.1 h)
 
 pub append_nil : {A : Type 0} (xs : List A) → xs ++ [] ≡ xs
 append_nil [] = refl

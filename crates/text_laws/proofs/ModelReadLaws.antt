@@ -34,7 +34,7 @@ use Rattle.text_laws.proofs.DecimalReadLaws.{flat_flat, coef_decimals, cost_deci
 abbrev lines : Parts → List Line
 lines m = lines_in (sections_of m)
 
-each_apart : (m : Parts) (rs : List Row) → is_among m.objective (map (λ r. r.name) rs) ≡ false → Each (λ r. IsApart m r.name) rs
+pub each_apart : (m : Parts) (rs : List Row) → is_among m.objective (map (λ r. r.name) rs) ≡ false → Each (λ r. IsApart m r.name) rs
 each_apart m [] e = tt
 each_apart m (r ∷ rs) e = (apart_turned m.objective r.name (or_left (bytes_eq m.objective r.name) (is_among m.objective (map (λ k. k.name) rs)) e), each_apart m rs (or_right (bytes_eq m.objective r.name) (is_among m.objective (map (λ k. k.name) rs)) e))
 

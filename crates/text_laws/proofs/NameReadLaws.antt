@@ -12,7 +12,7 @@ use Rattle.ip_defs.specs.Records.{Line, is_marker, column_lines, column_name, co
 use Rattle.ip_defs.specs.declared.programs.Column.{Column}
 use Rattle.ip_defs.specs.declared.programs.Row.{Row}
 use Rattle.ip_defs.specs.declared.programs.Parts.{Parts}
-use Rattle.text_laws.specs.Lines.{lines_from}
+use Rattle.text_laws.proofs.Lines.{lines_from}
 use Rattle.text_laws.specs.ReadBack.{AreDistinct}
 use Rattle.text_laws.proofs.ListLaws.{Each, append_nil, append_assoc, map-append}
 use Rattle.text_laws.proofs.SectionLaws.{lines_in, columns_are, columns_at, new_names, names_are}
@@ -22,11 +22,11 @@ use Rattle.text_laws.proofs.EntryReadLaws.{bytes_same, Told, tells, AreTriples, 
 use Rattle.text_laws.proofs.RecordReadLaws.{blocks_of, blocks_triples}
 use Rattle.text_laws.proofs.CoefReadLaws.{told_from, block_told, apart_turned, or_left, or_right}
 
-abbrev owners : List Told → List (List ℕ)
+abbrev pub owners : List Told → List (List ℕ)
 owners ts = map (λ t. t.owner) ts
 
 -- the names on the lines between the markers
-lines_told : (m : Parts) → IsProgramText m → map column_name (column_lines (lines_in (sections_of m))) ≡ owners (flat_map tells (blocks_of m))
+pub lines_told : (m : Parts) → IsProgramText m → map column_name (column_lines (lines_in (sections_of m))) ≡ owners (flat_map tells (blocks_of m))
 lines_told m h = ap (λ ls. map column_name (filter (λ l. not (is_marker l)) ls)) (columns_are (sections_of m) (are_sections m)) ∙ by m.columns
   where
     first : ℕ
@@ -63,14 +63,14 @@ lines_told m h = ap (λ ls. map column_name (filter (λ l. not (is_marker l)) ls
         ap (λ t. map column_name (filter (λ l. not (is_marker l)) (lines_from first (codes "COLUMNS") (if t then [] else start ∷ flat_map (column_block m) (enumerate_from 0 (c ∷ cs)) ++ last ∷ [])))) (ne_eqb (length (c ∷ cs)) 0 (λ e. omega arith))
         ∙ after (suc first) (flat_map (column_block m) (enumerate_from 0 (c ∷ cs))) (blocks_triples m h (enumerate_from 0 (c ∷ cs)))
 
-abbrev AreOwned : List ℕ → List Told → Type 0
+abbrev pub AreOwned : List ℕ → List Told → Type 0
 AreOwned name ts = Each (λ t. t.owner ≡ name) ts
 
 owned_append : (name : List ℕ) (xs ys : List Told) → AreOwned name xs → AreOwned name ys → AreOwned name (xs ++ ys)
 owned_append name [] ys h k = k
 owned_append name (x ∷ xs) ys h k = (h.0, owned_append name xs ys h.1 k)
 
-coefs_owned : (j : ℕ) (name : List ℕ) (rs : List Row) → AreOwned name (flat_map tells (flat_map (coef_line j name) rs))
+pub coefs_owned : (j : ℕ) (name : List ℕ) (rs : List Row) → AreOwned name (flat_map tells (flat_map (coef_line j name) rs))
 coefs_owned j name [] = tt
 coefs_owned j name (r ∷ rs) =
     subst (AreOwned name) (sym (tells_append (coef_line j name r) (flat_map (coef_line j name) rs))) (owned_append name (flat_map tells (coef_line j name r)) (flat_map tells (flat_map (coef_line j name) rs)) (one (find (λ p. p.0 == j) r.coefs)) (coefs_owned j name rs))
@@ -90,11 +90,11 @@ same_names name seen (t ∷ ts) rest e h =
     ∙ same_names name (seen ++ t.owner ∷ []) ts rest (among_more name seen (t.owner ∷ []) e) h.1
     ∙ ap (λ s. new_names s rest) (append_assoc seen (t.owner ∷ []) (owners ts))
 
-not_owned : (other name : List ℕ) (ts : List Told) → bytes_eq other name ≡ false → AreOwned name ts → is_among other (owners ts) ≡ false
+pub not_owned : (other name : List ℕ) (ts : List Told) → bytes_eq other name ≡ false → AreOwned name ts → is_among other (owners ts) ≡ false
 not_owned other name [] e h = refl
 not_owned other name (t ∷ ts) e h = ap (λ u. u || is_among other (owners ts)) (ap (bytes_eq other) h.0 ∙ e) ∙ not_owned other name ts e h.1
 
-not_among_more : (name : List ℕ) (xs ys : List (List ℕ)) → is_among name xs ≡ false → is_among name ys ≡ false → is_among name (xs ++ ys) ≡ false
+pub not_among_more : (name : List ℕ) (xs ys : List (List ℕ)) → is_among name xs ≡ false → is_among name ys ≡ false → is_among name (xs ++ ys) ≡ false
 not_among_more name xs ys e f = list_any-append (bytes_eq name) xs ys ∙ ap (λ t. t || is_among name ys) e ∙ f
 
 all_names : (m : Parts) (j : ℕ) (cs : List Column) (seen : List (List ℕ)) → AreDistinct (map (λ c. c.name) cs) → Each (λ c. is_among c.name seen ≡ false) cs → new_names seen (owners (told_from m j cs)) ≡ map (λ c. c.name) cs

@@ -20,7 +20,7 @@ use Rattle.ip_defs.specs.Records.{lines_of}
 use Rattle.ip_defs.specs.declared.programs.Column.{Column}
 use Rattle.ip_defs.specs.declared.programs.Row.{Row}
 use Rattle.ip_defs.specs.declared.programs.Parts.{Parts}
-use Rattle.text_laws.specs.Lines.{is_field, is_readable, is_last}
+use Rattle.text_laws.proofs.Lines.{is_field, is_readable, is_last}
 use Rattle.text_laws.proofs.NumeralLaws.{digit_range, decimal_digits, decimal_some, places_digits, none_among}
 use Rattle.text_laws.proofs.ListLaws.{Each}
 use Rattle.text_laws.proofs.NumberTextLaws.{signed_decimal_is}
@@ -146,7 +146,7 @@ all_enumerated P n (x ∷ xs) h = (h.0, all_enumerated P (n + 1) xs h.1)
 three : (a b c : List ℕ) → is_field a ≡ true → is_field b ≡ true → is_field c ≡ true → is_readable (triple a b c) ≡ true
 three a b c e f g = and_from (is_field a) (is_field b && (is_field c && true)) e (and_from (is_field b) (is_field c && true) f (and_from (is_field c) true g refl))
 
-found_small : (ps : List (ℕ × ℤ)) (test : ℕ × ℤ → Bool) (p : ℕ × ℤ) → Each (λ q. unsigned_abs q.1 < 2 ^ 64) ps → find test ps ≡ Some p → unsigned_abs p.1 < 2 ^ 64
+pub found_small : (ps : List (ℕ × ℤ)) (test : ℕ × ℤ → Bool) (p : ℕ × ℤ) → Each (λ q. unsigned_abs q.1 < 2 ^ 64) ps → find test ps ≡ Some p → unsigned_abs p.1 < 2 ^ 64
 found_small [] test p all e = absurd cc
 found_small (q ∷ qs) test p all e = by (test q) e (found_small qs test p all.1)
   where
@@ -217,7 +217,7 @@ bound_readable kind name z e f h = and_from (is_field kind) (true && (is_field n
     three_more : (is_field name && (is_field (signed_decimal z) && true)) ≡ true
     three_more = and_from (is_field name) (is_field (signed_decimal z) && true) f (and_from (is_field (signed_decimal z)) true (bound_field z h) refl)
 
-negated_small : (z : ℤ) → unsigned_abs z < 2 ^ 64 → unsigned_abs (neg_ℤ z) < 2 ^ 64
+pub negated_small : (z : ℤ) → unsigned_abs z < 2 ^ 64 → unsigned_abs (neg_ℤ z) < 2 ^ 64
 negated_small z h = omega (arith, ints)
 
 sections_readable : (m : Parts) → IsProgramText m → AreReadable (section_lines (sections_of m))

@@ -13,7 +13,7 @@ use Rattle.ip_defs.specs.Records.{Line, Entry, items_of, row_lines, row_kind, ro
 use Rattle.ip_defs.specs.declared.programs.Column.{Column}
 use Rattle.ip_defs.specs.declared.programs.Row.{Row}
 use Rattle.ip_defs.specs.declared.programs.Parts.{Parts}
-use Rattle.text_laws.specs.Lines.{lines_from}
+use Rattle.text_laws.proofs.Lines.{lines_from}
 use Rattle.text_laws.proofs.ListLaws.{Each}
 use Rattle.text_laws.proofs.SectionLaws.{lines_in, rows_are, columns_are, right_sides_are, ranges_are, columns_at, right_sides_at, ranges_at}
 use Rattle.text_laws.proofs.CanonicalLaws.{sections_of, are_sections}
@@ -78,7 +78,7 @@ none_dropped m name =
 
 -- ---- the lines of the columns
 
-not_marker : (name : List ℕ) → is_printable_name name ≡ true → bytes_eq name (codes "'MARKER'") ≡ false
+pub not_marker : (name : List ℕ) → is_printable_name name ≡ true → bytes_eq name (codes "'MARKER'") ≡ false
 not_marker name e =
     let h = both_true (not (length name == 0) && not (bytes_eq name (codes "'MARKER'"))) (not (list_any (λ b. (b == 32) || (b == 9) || (b == 13) || (b == 10)) name)) e in
     off (bytes_eq name (codes "'MARKER'")) (both_true (not (length name == 0)) (not (bytes_eq name (codes "'MARKER'"))) h.0).1

@@ -4,7 +4,7 @@ use Rattle.std.proofs.Common.{refl, ap, sym, ◌∙◌}
 use Rattle.ip_defs.specs.Lists.{after_those, is_among, when}
 use Rattle.ip_defs.specs.Texts.{Written, head}
 use Rattle.ip_defs.specs.Records.{Line, items_of, is_marker, column_lines, column_name, column_names, has_column}
-use Rattle.text_laws.specs.Lines.{lines_from}
+use Rattle.text_laws.proofs.Lines.{lines_from}
 use Rattle.text_laws.proofs.ListLaws.{append_nil, map-append, filter-append}
 
 abbrev pub AreItems : List Written → Type 0
@@ -159,7 +159,7 @@ names_of ls = map column_name (column_lines ls)
 abbrev is_column_line : Line → Bool
 is_column_line l = (l.is_item && bytes_eq l.section (codes "COLUMNS")) && not (is_marker l)
 
-names_more : (before : List Line) (l : Line) → names_of (before ++ l ∷ []) ≡ names_of before ++ names_of (l ∷ [])
+pub names_more : (before : List Line) (l : Line) → names_of (before ++ l ∷ []) ≡ names_of before ++ names_of (l ∷ [])
 names_more before l =
     ap (λ k. map column_name (filter (λ y. not (is_marker y)) k)) (filter-append (λ y. y.is_item && bytes_eq y.section (codes "COLUMNS")) before (l ∷ []))
     ∙ ap (map column_name) (filter-append (λ y. not (is_marker y)) (items_of (codes "COLUMNS") before) (items_of (codes "COLUMNS") (l ∷ [])))

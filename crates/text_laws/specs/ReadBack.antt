@@ -9,6 +9,7 @@ use Rattle.ip_defs.specs.Numbers.{least_decimals}
 use Rattle.ip_defs.specs.Texts.{canonical_text, is_printable, right_side}
 use Rattle.ip_defs.specs.TextModels.{largest}
 use Rattle.ip_defs.specs.Faults.{mps_fault, model_of}
+use Rattle.ip_defs.specs.declared.programs.Column.{Column}
 use Rattle.ip_defs.specs.declared.programs.Row.{Row}
 use Rattle.ip_defs.specs.declared.programs.Parts.{Parts}
 use Rattle.ip_defs.specs.declared.texts.How.{How}
@@ -38,11 +39,11 @@ pub record HasLeastDecimals (digits : ℕ) (m : Parts) : Type 0 where
   pub costs : m.cost_decimals ≡ largest digits (map (needed_decimals m.cost_decimals) (cost_amounts m))
   pub rows : (i : ℕ) (r : Row) → slice_get m.rows i ≡ Some r → r.decimals ≡ largest digits (map (needed_decimals r.decimals) (row_amounts r))
 
--- the names of a program are texts
+-- the names of a program are UTF-8
 pub record HasTextNames (m : Parts) : Type 0 where
   pub objective : is_utf8 m.objective ≡ true
-  pub columns : (j : ℕ) (name : List ℕ) → slice_get (map (λ c. c.name) m.columns) j ≡ Some name → is_utf8 name ≡ true
-  pub rows : (i : ℕ) (name : List ℕ) → slice_get (map (λ r. r.name) m.rows) i ≡ Some name → is_utf8 name ≡ true
+  pub columns : (j : ℕ) (c : Column) → slice_get m.columns j ≡ Some c → is_utf8 c.name ≡ true
+  pub rows : (i : ℕ) (r : Row) → slice_get m.rows i ≡ Some r → is_utf8 r.name ≡ true
 
 -- a program whose canonical text can be read back
 pub record IsCanonical (m : Parts) (how : How) : Type 0 where
@@ -54,11 +55,10 @@ pub record IsCanonical (m : Parts) (how : How) : Type 0 where
   pub digits : how.digits ≤ 9
   pub decimals : HasLeastDecimals how.digits m
 
--- the model of the canonical text of such a program is the program
-abbrev pub CanonicalModelsAreReadBack : Type 0
-CanonicalModelsAreReadBack = (m : Parts) (how : How) → IsCanonical m how → model_of (canonical_text m) how ≡ m
+-- the canonical text of such a program has no fault, so that it is read
+abbrev pub CanonicalTextsHaveNoFault : Type 0
+CanonicalTextsHaveNoFault = (m : Parts) (how : How) → IsCanonical m how → mps_fault (canonical_text m) how ≡ None
 
--- and the text has no fault, so that it is read. Not proved: no function of this crate ensures it. `fault_free` of FaultReadLaws leaves
--- two facts of it open: the text is UTF-8, and its lines have no fault
+-- and what is read is the program
 abbrev pub CanonicalTextsAreReadBack : Type 0
-CanonicalTextsAreReadBack = (m : Parts) (how : How) → IsCanonical m how → (mps_fault (canonical_text m) how ≡ None) × (model_of (canonical_text m) how ≡ m)
+CanonicalTextsAreReadBack = (m : Parts) (how : How) → IsCanonical m how → model_of (canonical_text m) how ≡ m

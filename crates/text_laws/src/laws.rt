@@ -1,7 +1,9 @@
-ghost use Rattle.text_laws.specs.ReadBack.{CanonicalModelsAreReadBack};
+ghost use Rattle.text_laws.specs.ReadBack.{CanonicalTextsAreReadBack, CanonicalTextsHaveNoFault};
 
-/// The model of the canonical text of a program is the program itself, for each printable program within its limits whose names are
-/// texts that differ and whose decimals are the least ones that write its amounts, and no fewer than the digits asked for.
-pub fn canonical_models_are_read_back()
-    ensures { CanonicalModelsAreReadBack }
+/// The canonical text of a program has no fault, and its model is the program itself: for each printable program within its limits
+/// whose names are UTF-8 and differ, and whose decimals are the least ones that write its amounts, and no fewer than the digits asked
+/// for.
+pub fn canonical_texts_are_read_back()
+    ensures no_fault { CanonicalTextsHaveNoFault }
+    ensures same_model { CanonicalTextsAreReadBack }
 {}

@@ -1,0 +1,64 @@
+-- Canonical texts are read back as the programs that they were written of.
+use Rattle.std.specs.Prelude.{◌≡◌, ℕ, ◌≤◌, true, false, List, [], ◌∷◌, ◌++◌, map, None, Some, slice_get, ℤ, ◌-ℤ◌, ⊤}
+use Rattle.std.specs.Int.RustNames.{unsigned_abs}
+use Rattle.std.specs.Option.{option_map_or}
+use Rattle.std.specs.Str.{is_utf8}
+use Rattle.ip_defs.specs.Lists.{is_among}
+use Rattle.ip_defs.specs.Limits.{IsWithinLimits}
+use Rattle.ip_defs.specs.Numbers.{least_decimals}
+use Rattle.ip_defs.specs.Texts.{canonical_text, is_printable, right_side}
+use Rattle.ip_defs.specs.TextModels.{largest}
+use Rattle.ip_defs.specs.Faults.{mps_fault, model_of}
+use Rattle.ip_defs.specs.declared.programs.Row.{Row}
+use Rattle.ip_defs.specs.declared.programs.Parts.{Parts}
+use Rattle.ip_defs.specs.declared.texts.How.{How}
+
+-- no text stands twice in a list
+abbrev pub AreDistinct : List (List ℕ) → Type 0
+AreDistinct [] = ⊤
+AreDistinct (x ∷ xs) = (is_among x xs ≡ false) × AreDistinct xs
+
+-- the least decimals that write z / 10^decimals
+abbrev pub needed_decimals : ℕ → ℤ → ℕ
+needed_decimals decimals z = least_decimals (unsigned_abs z) decimals
+
+-- the amounts that are written of a row: its coefficients, its right side and its range
+abbrev pub range_of : Row → List ℤ
+range_of r = option_map_or (λ low. option_map_or (λ high. (high -ℤ low) ∷ []) r.high []) r.low []
+
+abbrev pub row_amounts : Row → List ℤ
+row_amounts r = map (λ p. p.1) r.coefs ++ option_map_or (λ b. b ∷ []) (right_side r) [] ++ range_of r
+
+-- the amounts that are written of the costs, and the constant
+abbrev pub cost_amounts : Parts → List ℤ
+cost_amounts m = map (λ c. c.cost) m.columns ++ m.constant ∷ []
+
+-- the decimals are the least ones that write the amounts, and no fewer than those asked for
+pub record HasLeastDecimals (digits : ℕ) (m : Parts) : Type 0 where
+  pub costs : m.cost_decimals ≡ largest digits (map (needed_decimals m.cost_decimals) (cost_amounts m))
+  pub rows : (i : ℕ) (r : Row) → slice_get m.rows i ≡ Some r → r.decimals ≡ largest digits (map (needed_decimals r.decimals) (row_amounts r))
+
+-- the names of a program are texts
+pub record HasTextNames (m : Parts) : Type 0 where
+  pub objective : is_utf8 m.objective ≡ true
+  pub columns : (j : ℕ) (name : List ℕ) → slice_get (map (λ c. c.name) m.columns) j ≡ Some name → is_utf8 name ≡ true
+  pub rows : (i : ℕ) (name : List ℕ) → slice_get (map (λ r. r.name) m.rows) i ≡ Some name → is_utf8 name ≡ true
+
+-- a program whose canonical text can be read back
+pub record IsCanonical (m : Parts) (how : How) : Type 0 where
+  pub printable : is_printable m ≡ true
+  pub limits : IsWithinLimits m
+  pub texts : HasTextNames m
+  pub columns : AreDistinct (map (λ c. c.name) m.columns)
+  pub rows : AreDistinct (m.objective ∷ map (λ r. r.name) m.rows)
+  pub digits : how.digits ≤ 9
+  pub decimals : HasLeastDecimals how.digits m
+
+-- the model of the canonical text of such a program is the program
+abbrev pub CanonicalModelsAreReadBack : Type 0
+CanonicalModelsAreReadBack = (m : Parts) (how : How) → IsCanonical m how → model_of (canonical_text m) how ≡ m
+
+-- and the text has no fault, so that it is read. Not proved: no function of this crate ensures it. `fault_free` of FaultReadLaws leaves
+-- two facts of it open: the text is UTF-8, and its lines have no fault
+abbrev pub CanonicalTextsAreReadBack : Type 0
+CanonicalTextsAreReadBack = (m : Parts) (how : How) → IsCanonical m how → (mps_fault (canonical_text m) how ≡ None) × (model_of (canonical_text m) how ≡ m)

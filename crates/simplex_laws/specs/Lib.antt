@@ -1,0 +1,4 @@
+pub mod Finals
+pub mod Runs
+pub mod Steps
+pub mod Wides

@@ -1,2 +1,5 @@
 pub mod ChoiceLaws
+pub mod PriceLaws
+pub mod RestLaws
+pub mod SideLaws
 pub mod StepLaws

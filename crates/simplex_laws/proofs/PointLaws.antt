@@ -26,7 +26,7 @@ use Rattle.simplex_laws.proofs.ChoiceLaws.{unmapped}
 use Rattle.simplex_laws.proofs.StepLaws.{basic_row}
 use Rattle.simplex_laws.proofs.PriceLaws.{basic_point}
 use Rattle.simplex_laws.proofs.SideLaws.{in_order}
-use Rattle.simplex_laws.proofs.RestLaws.{Sits, SignFits, rested, rested_is, paid_rested, rested_between, outside_none}
+use Rattle.simplex_laws.proofs.RestLaws.{Sits, SignFits, rested_is, paid_rested, rested_between, outside_none}
 
 -- ---- places in a list
 passes : (p : ℕ → Bool) (xs : List ℕ) (i d : ℕ) → i < length xs → p (get_or xs i d) ≡ true → prefix_len (λ x. not (p x)) xs < length xs

@@ -1,7 +1,7 @@
 -- Prices over any ring: a point at which the rows are 0 costs the sum of its prices, the price of a column comes from the prices of the
 -- slacks, and the prices of basic variables are 0.
 use Rattle.std.specs.Prelude.{◌≡◌, ◌≢◌, ℕ, ◌+◌, ◌<◌, [], ◌∷◌, ℤ, pos}
-use Rattle.std.proofs.Common.{arith, refl, ap, sym, ◌∙◌, ◌⊎◌, inl, inr}
+use Rattle.std.proofs.Common.{refl, ap, sym, ◌∙◌, ◌⊎◌, inl, inr}
 use Rattle.ring_laws.proofs.Rings.{Ring, mul_zero, zero_mul}
 use Rattle.ring_laws.proofs.Normal.{num, var, ◌⊕◌, ◌⊖◌, ◌⊗◌, minus, combine}
 use Rattle.ring_laws.proofs.Named.{ring2, ring3}

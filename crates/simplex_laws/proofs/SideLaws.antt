@@ -1,5 +1,5 @@
 -- The variables of a node by number: each column with the sides of its box and its cost, and each slack with the sides of its row.
-use Rattle.std.specs.Prelude.{◌≡◌, ◌≢◌, ℕ, zero, suc, ◌+◌, ◌-◌, ◌<◌, ◌≤◌, Bool, true, false, List, [], ◌∷◌, ◌++◌, length, map, Option, Some, None, option_and_then, nat_lt, slice_get, slice_index_or, ℤ, pos, ◌≤ℤ◌}
+use Rattle.std.specs.Prelude.{◌≡◌, ℕ, zero, suc, ◌+◌, ◌-◌, ◌<◌, ◌≤◌, Bool, true, false, List, [], ◌∷◌, ◌++◌, length, map, Some, None, option_and_then, nat_lt, slice_get, slice_index_or, ℤ, pos, ◌≤ℤ◌}
 use Rattle.std.specs.List.{zip}
 use Rattle.std.proofs.Common.{arith, refl, ap, sym, ◌∙◌, ◌⊎◌, inl, inr}
 use Rattle.std.proofs.lemmas.Int.{ints}
@@ -12,7 +12,7 @@ use Rattle.frac128.specs.Rationals.{of}
 use Rattle.lp_duality.specs.Relaxations.{row_low, row_high, cost_of, IsUncrossed}
 use Rattle.tableau.specs.declared.variables.Variable.{Variable}
 use Rattle.tableau.specs.Tables.{Table, variable_at}
-use Rattle.tableau.specs.Nodes.{column_variable, slack_variable, variables_of, StandsFor}
+use Rattle.tableau.specs.Nodes.{column_variable, slack_variable, StandsFor}
 use Rattle.tableau.specs.Meanings.{cost_number}
 
 -- ---- lists

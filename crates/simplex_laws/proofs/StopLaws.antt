@@ -8,7 +8,7 @@ use Rattle.std.proofs.lemmas.Int.{ints}
 use Rattle.std.proofs.lemmas.Bool.{eqb-true, eqb-false}
 use Rattle.ring_laws.proofs.Rings.{mul_zero}
 use Rattle.ring_laws.proofs.Normal.{num, minus, identity}
-use Rattle.ring_laws.proofs.Sums.{sum, sum_same, sum_zero, sum_single}
+use Rattle.ring_laws.proofs.Sums.{sum_same, sum_zero, sum_single}
 use Rattle.frac128.specs.Rationals.{Rational, of, mul, neg}
 use Rattle.frac128.proofs.Rationals.{rationals}
 use Rattle.frac128.proofs.Order.{zero_top}
@@ -16,10 +16,8 @@ use Rattle.ip_defs.specs.Certificates.{entry as coefficient_of}
 use Rattle.ip_defs.specs.Program.{low_at, high_at}
 use Rattle.ip_defs.specs.declared.programs.Parts.{Parts}
 use Rattle.lp_duality.proofs.PaymentLaws.{lt_false, top_zero, over_positive}
-use Rattle.tableau.specs.declared.rests.Rest.{Rest}
-use Rattle.tableau.specs.declared.rests.Rest.TheVariants.{Basic, Low, High, Zero}
+use Rattle.tableau.specs.declared.rests.Rest.TheVariants.{Basic, Low, High}
 use Rattle.tableau.specs.Tables.{Table, basic_at, rest_at, variable_at, IsTable}
-use Rattle.tableau.specs.Numbers.{side_at}
 use Rattle.tableau.specs.Nodes.{number, StandsFor, IsNought, HasItsPoints}
 use Rattle.tableau.specs.Meanings.{ratio_number}
 use Rattle.tableau.proofs.RowLaws.{same_number}

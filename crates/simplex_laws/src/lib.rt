@@ -4,5 +4,7 @@
 mod laws;
 mod next;
 
-pub use laws::steps_can_be_made;
+pub use laws::{
+    best_is_right, empty_is_right, finals_stay, runs_have_begun, runs_stand, steps_can_be_made,
+};
 pub use next::Next;

@@ -1,0 +1,5 @@
+pub mod CertificateLaws
+pub mod OptionSumLaws
+pub mod ScaleLaws
+pub mod SignLaws
+pub mod SparseLaws

@@ -1,3 +1,5 @@
+pub mod BoundLaws
+pub mod CeilingLaws
 pub mod CertificateLaws
 pub mod OptionSumLaws
 pub mod ScaleLaws

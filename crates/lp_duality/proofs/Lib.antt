@@ -5,3 +5,4 @@ pub mod OptionSumLaws
 pub mod ScaleLaws
 pub mod SignLaws
 pub mod SparseLaws
+pub mod WeakDualityLaws

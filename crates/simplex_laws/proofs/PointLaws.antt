@@ -11,7 +11,7 @@ use Rattle.ip_defs.specs.Certificates.{entry as coefficient_of}
 use Rattle.ip_defs.specs.declared.programs.Parts.{Parts}
 use Rattle.lp_duality.specs.Duals.{paid}
 use Rattle.lp_duality.specs.Relaxations.{IsBetween, IsUncrossed}
-use Rattle.lp_duality.proofs.PaymentLaws.{paid_none}
+use Rattle.lp_duality.proofs.SignLaws.{paid_nought}
 use Rattle.tableau.specs.declared.rests.Rest.{Rest}
 use Rattle.tableau.specs.declared.rests.Rest.TheVariants.{Basic, Low, High, Zero}
 use Rattle.tableau.specs.Tables.{Table, basic_at, rest_at, variable_at, IsTable}
@@ -121,4 +121,4 @@ module _ (m : Parts) (b : List (ℤ × ℤ)) (T : Table) (table : IsTable T) (st
       by (Some i) e =
           let k = basic_place v i e in
           let z = flat i k.0 k.1 in
-          paid_none p (variable_at T.variables v).low (variable_at T.variables v).high (ap (λ w. w.top) z ∙ zero_top) ∙ ap Some (sym (ap (λ w. mul w (value_number T i)) z ∙ zero_mul rationals (value_number T i)))
+          paid_nought p (variable_at T.variables v).low (variable_at T.variables v).high (ap (λ w. w.top) z ∙ zero_top) ∙ ap Some (sym (ap (λ w. mul w (value_number T i)) z ∙ zero_mul rationals (value_number T i)))

@@ -11,7 +11,7 @@ use Rattle.frac128.proofs.Rationals.{rationals}
 use Rattle.frac128.proofs.Order.{at_most_antisym, zero_top, of_neg}
 use Rattle.ip_defs.specs.Certificates.{entry as coefficient_of}
 use Rattle.ip_defs.specs.declared.programs.Parts.{Parts}
-use Rattle.lp_duality.specs.Relaxations.{cost_of, total_cost, IsRelaxed, IsUncrossed}
+use Rattle.lp_duality.specs.Relaxations.{cost_of, total_cost, IsUncrossed}
 use Rattle.lp_duality.specs.Duals.{is_below, paid, left_of, dual}
 use Rattle.lp_duality.proofs.SignLaws.{of_positive, of_negative, paid_up, paid_down, below_positive}
 use Rattle.lp_duality.proofs.WeakDualityLaws.{relaxed_weak_duality}

@@ -3,6 +3,7 @@ pub mod BestLaws
 pub mod ChoiceLaws
 pub mod DualLaws
 pub mod EmptyLaws
+pub mod Examples
 pub mod PointLaws
 pub mod PriceLaws
 pub mod RestLaws

@@ -12,13 +12,14 @@ use Rattle.ip_defs.specs.Certificates.{entry as coefficient_of}
 use Rattle.ip_defs.specs.declared.programs.Parts.{Parts}
 use Rattle.lp_duality.specs.Relaxations.{cost_of, row_total, total_cost, IsBetween, IsRelaxed, IsUncrossed}
 use Rattle.lp_duality.specs.Duals.{left_of, dual}
+use Rattle.lp_duality.proofs.WeakDualityLaws.{relaxed_weak_duality}
 use Rattle.tableau.specs.Tables.{Table, basic_at, rest_at, variable_at, IsTable}
 use Rattle.tableau.specs.Nodes.{number, StandsFor, IsNought, HasItsPoints}
 use Rattle.tableau.specs.Meanings.{cost_number, price_number}
 use Rattle.tableau.proofs.PointLaws.{sum_split}
 use Rattle.tableau.proofs.TableLaws.{system_of}
 use Rattle.simplex_laws.specs.Finals.{point_of, slack_prices}
-use Rattle.simplex_laws.specs.Laws.{BestIsRight}
+use Rattle.simplex_laws.specs.Laws.{BestIsRight, BestIsLeast}
 use Rattle.simplex_laws.proofs.PriceLaws.{price, cost_by_prices, column_price, basic_price}
 use Rattle.simplex_laws.proofs.SideLaws.{column_low, column_high, column_cost, slack_low, slack_high, slack_cost}
 use Rattle.simplex_laws.proofs.RestLaws.{SignFits, sign_fits}
@@ -90,3 +91,8 @@ module _ (m : Parts) (b : List (ℤ × ℤ)) (T : Table) (table : IsTable T) (st
 
 pub best_is_right : BestIsRight
 best_is_right m b T table stands has ok e = settled m b T table stands has ok (final_point_is m b T table stands has e)
+
+pub best_is_least : BestIsLeast
+best_is_least m b T table stands has ok e x relaxed =
+    let r = best_is_right m b T table stands has ok e in
+    subst (AtMost (total_cost m (point_of T))) (one_mul rationals (total_cost m x)) (relaxed_weak_duality m b (of (pos 1)) (slack_prices m T) x (total_cost m (point_of T)) relaxed r.1)

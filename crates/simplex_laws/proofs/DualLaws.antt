@@ -1,5 +1,5 @@
 -- The dual value of numbers of which the columns have what is left of the costs, and each of which pays.
-use Rattle.std.specs.Prelude.{◌≡◌, ℕ, ◌+◌, ◌<◌, List, length, Some, option_map, ℤ}
+use Rattle.std.specs.Prelude.{◌≡◌, ℕ, zero, suc, ◌+◌, ◌<◌, List, length, Option, Some, option_map, option_and_then, ℤ}
 use Rattle.std.proofs.Common.{arith, refl, ap, sym, ◌∙◌}
 use Rattle.ring_laws.proofs.Normal.{◌⊕◌}
 use Rattle.ring_laws.proofs.Named.{ring3}
@@ -9,12 +9,16 @@ use Rattle.frac128.proofs.Rationals.{rationals}
 use Rattle.ip_defs.specs.Program.{low_at, high_at}
 use Rattle.ip_defs.specs.declared.programs.Parts.{Parts}
 use Rattle.lp_duality.specs.Relaxations.{row_low, row_high, IsUncrossed}
-use Rattle.lp_duality.specs.Duals.{lesser, paid, left_of, dual}
-use Rattle.lp_duality.proofs.PaymentLaws.{paid_lesser, sum_of_all_is}
+use Rattle.lp_duality.specs.Duals.{lesser, paid, sum_of_all, left_of, dual}
+use Rattle.lp_duality.proofs.SignLaws.{paid_lesser}
 use Rattle.tableau.specs.Tables.{Table, variable_at}
 use Rattle.tableau.specs.Nodes.{StandsFor}
 use Rattle.tableau.proofs.PointLaws.{sum_split}
 use Rattle.simplex_laws.proofs.SideLaws.{column_low, column_high, slack_low, slack_high}
+
+sum_of_all_is : (f : ℕ → Option Rational) (z : ℕ → Rational) (n : ℕ) → ((k : ℕ) → k < n → f k ≡ Some (z k)) → sum_of_all f n ≡ Some (sum rationals z n)
+sum_of_all_is f z zero h = refl
+sum_of_all_is f z (suc n) h = ap (option_and_then (λ a. option_map (λ c. add a c) (f n))) (sum_of_all_is f z n (λ k l. h k (omega arith))) ∙ ap (option_map (λ c. add (sum rationals z n) c)) (h n (omega arith))
 
 some_is : (x y : Rational) → Some x ≡ Some y → x ≡ y
 some_is x y e = cc

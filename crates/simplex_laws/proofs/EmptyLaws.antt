@@ -6,21 +6,22 @@ use Rattle.std.proofs.lemmas.Bool.{eqb-true, eqb-false}
 use Rattle.ring_laws.proofs.Normal.{num, ◌⊕◌, ◌⊖◌, ◌⊗◌, minus, identity}
 use Rattle.ring_laws.proofs.Named.{ring2, ring3}
 use Rattle.ring_laws.proofs.Sums.{sum, sum_same, sum_add, sum_single}
-use Rattle.frac128.specs.Rationals.{Rational, of, add, sub, mul, neg}
+use Rattle.frac128.specs.Rationals.{Rational, of, add, sub, mul, neg, NotNegative, AtMost}
 use Rattle.frac128.proofs.Rationals.{rationals}
-use Rattle.frac128.proofs.Order.{of_neg}
+use Rattle.frac128.proofs.Order.{at_most_antisym, zero_top, of_neg}
 use Rattle.ip_defs.specs.Certificates.{entry as coefficient_of}
 use Rattle.ip_defs.specs.declared.programs.Parts.{Parts}
-use Rattle.lp_duality.specs.Relaxations.{cost_of, IsUncrossed}
+use Rattle.lp_duality.specs.Relaxations.{cost_of, total_cost, IsUncrossed}
 use Rattle.lp_duality.specs.Duals.{is_below, paid, left_of, dual}
-use Rattle.lp_duality.proofs.PaymentLaws.{over_positive, over_negative, paid_up, paid_down, below_positive}
+use Rattle.lp_duality.proofs.SignLaws.{of_positive, of_negative, paid_up, paid_down, below_positive}
+use Rattle.lp_duality.proofs.WeakDualityLaws.{relaxed_weak_duality}
 use Rattle.tableau.specs.Tables.{Table, basic_at, rest_at, variable_at, IsTable}
 use Rattle.tableau.specs.Nodes.{number, StandsFor}
 use Rattle.tableau.specs.Meanings.{value_number}
 use Rattle.tableau.proofs.PointLaws.{sum_neg}
 use Rattle.simplex_laws.specs.Steps.{way, above, outside}
 use Rattle.simplex_laws.specs.Finals.{point_of, slack_ray}
-use Rattle.simplex_laws.specs.Laws.{EmptyIsRight}
+use Rattle.simplex_laws.specs.Laws.{EmptyIsRight, EmptyHasNoPoint}
 use Rattle.simplex_laws.proofs.RestLaws.{sign_fits}
 use Rattle.simplex_laws.proofs.PointLaws.{values, point_nought, pays_at}
 use Rattle.simplex_laws.proofs.StopLaws.{if_same, if_other}
@@ -32,15 +33,10 @@ abbrev unit : Bool → Rational
 unit up = if up then of (pos 1) else neg (of (pos 1))
 
 unit_up : pos 0 <ℤ (of (pos 1)).top
-unfolding of
-unit_up = over_positive (pos 1) 0 (omega (arith, ints))
-
-below_nought : (of (negsuc 0)).top <ℤ pos 0
-unfolding of
-below_nought = over_negative (negsuc 0) 0 (omega (arith, ints))
+unit_up = of_positive (pos 1) (omega (arith, ints))
 
 unit_down : (neg (of (pos 1))).top <ℤ pos 0
-unit_down = subst (λ (p : Rational). p.top <ℤ pos 0) (of_neg (pos 1)) below_nought
+unit_down = subst (λ (p : Rational). p.top <ℤ pos 0) (of_neg (pos 1)) (of_negative (negsuc 0) (omega (arith, ints)))
 
 -- the side that is broken is paid, and is better than the value
 pub record IsBetter (x : Rational) (low high : Option ℤ) (up : Bool) : Type 0 where
@@ -162,3 +158,17 @@ empty_is_right m b T i up table stands ok e =
     let x = variable_at T.variables (basic_at T.basics i) in
     let better = outside_pays (value_number T i) x.low x.high up broken.outside in
     (mul (unit up) (sub better.side (value_number T i)), ray_gains m b T table stands i (omega arith) up better.side ok better.pays (λ v k. broken.ways v (omega arith)), better.more)
+
+-- a positive number is not at most 0
+not_below_zero : (g c : Rational) → pos 0 <ℤ g.top → AtMost g (mul (of (pos 0)) c) → ⊥
+not_below_zero g c up h =
+    let below : AtMost g (of (pos 0)) = subst (AtMost g) (ring2 rationals (λ g c. num (pos 0) ⊗ c) (λ g c. num (pos 0)) refl g c) h in
+    let rises : NotNegative g = omega (arith, ints) in
+    let above : AtMost (of (pos 0)) g = subst NotNegative (ring2 rationals (λ g c. g) (λ g c. g ⊖ num (pos 0)) refl g c) rises in
+    let none : g.top ≡ pos 0 = ap (λ (p : Rational). p.top) (at_most_antisym g (of (pos 0)) below above) ∙ zero_top in
+    omega (arith, ints)
+
+pub empty_has_no_point : EmptyHasNoPoint
+empty_has_no_point m b T i up table stands ok e x relaxed =
+    let r = empty_is_right m b T i up table stands ok e in
+    not_below_zero r.0 (total_cost m x) r.2 (relaxed_weak_duality m b (of (pos 0)) (slack_ray m T i up) x r.0 relaxed r.1)

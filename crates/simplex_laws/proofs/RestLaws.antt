@@ -9,7 +9,7 @@ use Rattle.frac128.proofs.Rationals.{rationals}
 use Rattle.frac128.proofs.Order.{zero_top}
 use Rattle.lp_duality.specs.Duals.{is_below, paid}
 use Rattle.lp_duality.specs.Relaxations.{IsBetween}
-use Rattle.lp_duality.proofs.PaymentLaws.{lt_false, top_zero, Sign, positive, negative, nought, sign_of, below_false, of_at_most, same_at_most, paid_up, paid_down, paid_none}
+use Rattle.lp_duality.proofs.SignLaws.{lt_false, top_zero, Sign, up, down, none, sign_of, below_false, of_at_most, at_most_self, paid_up, paid_down, paid_nought}
 use Rattle.tableau.specs.declared.rests.Rest.{Rest}
 use Rattle.tableau.specs.declared.rests.Rest.TheVariants.{Basic, Low, High, Zero}
 use Rattle.tableau.specs.declared.variables.Variable.{Variable}
@@ -72,9 +72,9 @@ paid_rested p (Some low) high Low s f = by (sign_of p.top)
     fixed (Some high) true e f d = ap (λ z. Some (mul p (of z))) (sym (fixed_same low high e))
 
     by : Sign p.top → paid p (Some low) high ≡ Some (mul p (of low))
-    by (positive q) = paid_up p (Some low) high q
-    by (nought q) = paid_none p (Some low) high q ∙ ap Some (sym (ap (λ w. mul w (of low)) (top_zero p q) ∙ zero_mul rationals (of low)))
-    by (negative q) = paid_down p (Some low) high q ∙ fixed high (is_fixed_between (Some low) high) refl f q
+    by (up q) = paid_up p (Some low) high q
+    by (none q) = paid_nought p (Some low) high q ∙ ap Some (sym (ap (λ w. mul w (of low)) (top_zero p q) ∙ zero_mul rationals (of low)))
+    by (down q) = paid_down p (Some low) high q ∙ fixed high (is_fixed_between (Some low) high) refl f q
 paid_rested p low None High s f = absurd (s refl)
 paid_rested p low (Some high) High s f = by (sign_of p.top)
   where
@@ -84,13 +84,13 @@ paid_rested p low (Some high) High s f = by (sign_of p.top)
     fixed (Some low) true e f d = ap (λ z. Some (mul p (of z))) (fixed_same low high e)
 
     by : Sign p.top → paid p low (Some high) ≡ Some (mul p (of high))
-    by (negative q) = paid_down p low (Some high) q
-    by (nought q) = paid_none p low (Some high) q ∙ ap Some (sym (ap (λ w. mul w (of high)) (top_zero p q) ∙ zero_mul rationals (of high)))
-    by (positive q) = paid_up p low (Some high) q ∙ fixed low (is_fixed_between low (Some high)) refl f q
+    by (down q) = paid_down p low (Some high) q
+    by (none q) = paid_nought p low (Some high) q ∙ ap Some (sym (ap (λ w. mul w (of high)) (top_zero p q) ∙ zero_mul rationals (of high)))
+    by (up q) = paid_up p low (Some high) q ∙ fixed low (is_fixed_between low (Some high)) refl f q
 paid_rested p low high Zero s f =
     let free : is_fixed_between low high ≡ false = ap (λ o. is_fixed_between o high) s.0 in
     let z = f free in
-    paid_none p low high (ap (λ w. w.top) z ∙ zero_top) ∙ ap Some (sym (ap (λ w. mul w (of (pos 0))) z ∙ zero_mul rationals (of (pos 0))))
+    paid_nought p low high (ap (λ w. w.top) z ∙ zero_top) ∙ ap Some (sym (ap (λ w. mul w (of (pos 0))) z ∙ zero_mul rationals (of (pos 0))))
 
 -- ---- no way to go
 split_none : (s : Bool) (o : Option Bool) (u : Bool) → cond s (Some u) o ≡ None → (s ≡ false) × (o ≡ None)
@@ -129,9 +129,9 @@ some_is x y e = cc
 pub rested_between : (low high : Option ℤ) (rest : Rest) → ((x y : ℤ) → low ≡ Some x → high ≡ Some y → x ≤ℤ y) → Sits low high rest → IsBetween low high (rested low high rest)
 rested_between low high Basic o s = absurd s
 rested_between None high Low o s = absurd (s refl)
-rested_between (Some x) high Low o s = record { low = λ z e. subst (λ (w : ℤ). AtMost (of w) (of x)) (some_is x z e) (same_at_most (of x)); high = λ z e. of_at_most x z (o x z refl e) }
+rested_between (Some x) high Low o s = record { low = λ z e. subst (λ (w : ℤ). AtMost (of w) (of x)) (some_is x z e) (at_most_self (of x)); high = λ z e. of_at_most x z (o x z refl e) }
 rested_between low None High o s = absurd (s refl)
-rested_between low (Some y) High o s = record { low = λ z e. of_at_most z y (o z y e refl); high = λ z e. subst (λ (w : ℤ). AtMost (of y) (of w)) (some_is y z e) (same_at_most (of y)) }
+rested_between low (Some y) High o s = record { low = λ z e. of_at_most z y (o z y e refl); high = λ z e. subst (λ (w : ℤ). AtMost (of y) (of w)) (some_is y z e) (at_most_self (of y)) }
 rested_between low high Zero o s = record { low = λ z e. absurd (let q : None ≡ Some z = sym s.0 ∙ e in cc); high = λ z e. absurd (let q : None ≡ Some z = sym s.1 ∙ e in cc) }
 
 above_none : (x : Rational) (high : Option ℤ) → above x high ≡ None → (z : ℤ) → high ≡ Some z → AtMost x (of z)

@@ -15,7 +15,7 @@ use Rattle.frac128.proofs.Order.{zero_top}
 use Rattle.ip_defs.specs.Certificates.{entry as coefficient_of}
 use Rattle.ip_defs.specs.Program.{low_at, high_at}
 use Rattle.ip_defs.specs.declared.programs.Parts.{Parts}
-use Rattle.lp_duality.proofs.PaymentLaws.{lt_false, top_zero, over_positive}
+use Rattle.lp_duality.proofs.SignLaws.{lt_false, top_zero, over_positive}
 use Rattle.tableau.specs.declared.rests.Rest.TheVariants.{Basic, Low, High}
 use Rattle.tableau.specs.Tables.{Table, basic_at, rest_at, variable_at, IsTable}
 use Rattle.tableau.specs.Nodes.{number, StandsFor, IsNought, HasItsPoints}

@@ -1,6 +1,6 @@
 -- The laws of the simplex: each step can be made, and what final tableaus prove.
 use Rattle.std.specs.Prelude.{◌≡◌, ◌≢◌, ℕ, ◌<◌, ◌≤◌, Bool, true, List, length, Some, None, Ok, ℤ, pos, ◌<ℤ◌}
-use Rattle.frac128.specs.Rationals.{Rational, of}
+use Rattle.frac128.specs.Rationals.{Rational, of, AtMost}
 use Rattle.ip_defs.specs.Limits.{IsWithinLimits}
 use Rattle.ip_defs.specs.declared.programs.Parts.{Parts}
 use Rattle.lp_duality.specs.Relaxations.{total_cost, IsRelaxed, IsUncrossed}
@@ -43,16 +43,25 @@ abbrev pub StepsCanBeMade : Type 0
 StepsCanBeMade = (m : Parts) (b : List (ℤ × ℤ)) (T : Table) → IsTable T → StandsFor m b T → CanStep T (next T)
 
 -- ---- final tableaus
--- where a tableau is final with a point, the point lies in the relaxation, and the dual value of the slacks' prices is what it costs: no
--- point of the relaxation costs less
+-- where a tableau is final with a point, the point lies in the relaxation, and the dual value of the slacks' prices is what it costs
 abbrev pub BestIsRight : Type 0
 BestIsRight = (m : Parts) (b : List (ℤ × ℤ)) (T : Table) → IsTable T → StandsFor m b T → HasItsPoints m T → IsUncrossed m b → next T ≡ FinalPoint
     → IsRelaxed m b (point_of T) × (dual m b (of (pos 1)) (slack_prices m T) ≡ Some (total_cost m (point_of T)))
 
--- where it is final by a row, the row's slack entries, or their negations, have a positive dual value without a cost: the relaxation is empty
+-- and no point of the relaxation costs less
+abbrev pub BestIsLeast : Type 0
+BestIsLeast = (m : Parts) (b : List (ℤ × ℤ)) (T : Table) → IsTable T → StandsFor m b T → HasItsPoints m T → IsUncrossed m b → next T ≡ FinalPoint
+    → (x : ℕ → Rational) → IsRelaxed m b x → AtMost (total_cost m (point_of T)) (total_cost m x)
+
+-- where it is final by a row, the row's slack entries, or their negations, have a positive dual value without a cost
 abbrev pub EmptyIsRight : Type 0
 EmptyIsRight = (m : Parts) (b : List (ℤ × ℤ)) (T : Table) (i : ℕ) (up : Bool) → IsTable T → StandsFor m b T → IsUncrossed m b → next T ≡ FinalRow i up
     → (gain : Rational) × (dual m b (of (pos 0)) (slack_ray m T i up) ≡ Some gain) × (pos 0 <ℤ gain.top)
+
+-- and the relaxation has no point
+abbrev pub EmptyHasNoPoint : Type 0
+EmptyHasNoPoint = (m : Parts) (b : List (ℤ × ℤ)) (T : Table) (i : ℕ) (up : Bool) → IsTable T → StandsFor m b T → IsUncrossed m b → next T ≡ FinalRow i up
+    → (x : ℕ → Rational) → ¬ IsRelaxed m b x
 
 -- ---- runs
 -- a tableau of a node: its lists fit together, it stands for the node, and only points of the node make its rows 0

@@ -1,4 +1,6 @@
 pub mod Lines
+pub mod EachLaws
+pub mod Utf8ReadLaws
 pub mod CanonicalExamples
 pub mod NoFaultLaws
 pub mod EntryLineLaws

@@ -1,6 +1,7 @@
 pub mod Lines
 pub mod EachLaws
 pub mod Utf8ReadLaws
+pub mod SoundLaws
 pub mod CanonicalExamples
 pub mod NoFaultLaws
 pub mod EntryLineLaws

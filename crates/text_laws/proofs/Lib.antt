@@ -2,6 +2,8 @@ pub mod Lines
 pub mod EachLaws
 pub mod Utf8ReadLaws
 pub mod SoundLaws
+pub mod KeptReadLaws
+pub mod FoundReadLaws
 pub mod CanonicalExamples
 pub mod NoFaultLaws
 pub mod EntryLineLaws

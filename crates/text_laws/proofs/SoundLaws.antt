@@ -8,9 +8,9 @@ use Rattle.std.proofs.lemmas.Bool.{ltb-true, lt-ltb}
 use Rattle.std.proofs.lemmas.List.Folds.{list_any-append}
 use Rattle.std.proofs.lemmas.Slice.Eq.{bytes_eq-Decides}
 use Rattle.decimals.proofs.NumberLaws.{both_true}
-use Rattle.ip_defs.specs.Lists.{is_among, first_of, after_those, when}
-use Rattle.ip_defs.specs.Records.{Line, Entry, items_of, words_of, row_lines, row_name, is_free, is_columns, is_kept, set_of, opens, first_field, last_word, line_of, objective}
-use Rattle.ip_defs.specs.Faults.{line_faults, item_faults, section_faults, is_before, may_come, place_of}
+use Rattle.ip_defs.specs.Lists.{is_among, first_of, after_those, when, through_first}
+use Rattle.ip_defs.specs.Records.{Line, Entry, items_of, words_of, row_lines, row_name, is_free, is_columns, is_kept, set_of, opens, first_field, last_word, line_of, opens_end, numbered, lines_of}
+use Rattle.ip_defs.specs.Faults.{all_line_faults, line_faults, item_faults, section_faults, is_before, may_come, place_of}
 use Rattle.ip_defs.specs.declared.texts.MpsError.{MpsError}
 use Rattle.ip_defs.specs.declared.texts.MpsError.TheVariants.{SectionOrder, UnknownSection}
 use Rattle.text_laws.proofs.ListLaws.{append_nil, append_assoc, last_word-add}
@@ -158,3 +158,7 @@ kept_alike word before ls l e h item own late =
 
     own_item : items_of word (l ∷ []) ≡ l ∷ []
     own_item = ap (λ t. cond (t && bytes_eq l.section word) (l ∷ []) []) item ∙ ap (λ t. cond t (l ∷ []) []) ((bytes_eq-Decides l.section word).1 own)
+
+-- the lines of a text without a fault
+pub sound_read : (text : List ℕ) → all_line_faults (lines_of text) ≡ [] → IsSound [] [] (lines_of text)
+sound_read text e = record { sections = sections_read [] (through_first opens_end (numbered text)); faultless = e; begun = λ late. absurd cc }

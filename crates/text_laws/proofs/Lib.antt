@@ -4,6 +4,7 @@ pub mod Utf8ReadLaws
 pub mod SoundLaws
 pub mod KeptReadLaws
 pub mod FoundReadLaws
+pub mod LeastReadLaws
 pub mod CanonicalExamples
 pub mod NoFaultLaws
 pub mod EntryLineLaws

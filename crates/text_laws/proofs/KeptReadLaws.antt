@@ -50,7 +50,7 @@ abbrev pub HasPairs : List ℕ → Type 0
 HasPairs word = (before : List Line) (n : ℕ) (fs : List (List ℕ)) → line_faults before (record { number = n; is_item = true; section = word; fields = fs }) ≡ [] → pair_faults before (record { number = n; is_item = true; section = word; fields = fs }) ≡ []
 
 -- what holds of a data line of a section, by its number and its fields
-by_parts : (P : Line → Type 0) (l : Line) (word : List ℕ) → l.is_item ≡ true → l.section ≡ word → P (record { number = l.number; is_item = true; section = word; fields = l.fields }) → P l
+pub by_parts : (P : Line → Type 0) (l : Line) (word : List ℕ) → l.is_item ≡ true → l.section ≡ word → P (record { number = l.number; is_item = true; section = word; fields = l.fields }) → P l
 by_parts P l word item own h =
     subst (λ t. P (record { number = l.number; is_item = t; section = l.section; fields = l.fields })) (sym item)
     (subst (λ w. P (record { number = l.number; is_item = true; section = w; fields = l.fields })) (sym own) h)

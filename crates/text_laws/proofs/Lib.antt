@@ -5,6 +5,7 @@ pub mod SoundLaws
 pub mod KeptReadLaws
 pub mod FoundReadLaws
 pub mod LeastReadLaws
+pub mod DistinctReadLaws
 pub mod CanonicalExamples
 pub mod NoFaultLaws
 pub mod EntryLineLaws

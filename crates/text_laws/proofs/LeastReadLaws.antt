@@ -21,7 +21,7 @@ use Rattle.text_laws.proofs.ScaleLaws.{zeros_dropped, least_passes, decimals_wit
 abbrev IsLeast : Number → Type 0
 IsLeast n = (k : ℕ) → decimals_of n ≤ k → needed_decimals k (units k n) ≡ decimals_of n
 
-signed_size : (negative : Bool) (n : ℕ) → unsigned_abs (signed negative n) ≡ n
+pub signed_size : (negative : Bool) (n : ℕ) → unsigned_abs (signed negative n) ≡ n
 signed_size true n = omega (arith, ints)
 signed_size false n = refl
 

@@ -6,6 +6,7 @@ pub mod KeptReadLaws
 pub mod FoundReadLaws
 pub mod LeastReadLaws
 pub mod DistinctReadLaws
+pub mod SideDecimalLaws
 pub mod CanonicalExamples
 pub mod NoFaultLaws
 pub mod EntryLineLaws

@@ -7,6 +7,7 @@ pub mod FoundReadLaws
 pub mod LeastReadLaws
 pub mod DistinctReadLaws
 pub mod SideDecimalLaws
+pub mod EntryDecimalLaws
 pub mod CanonicalExamples
 pub mod NoFaultLaws
 pub mod EntryLineLaws

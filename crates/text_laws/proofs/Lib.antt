@@ -8,6 +8,7 @@ pub mod LeastReadLaws
 pub mod DistinctReadLaws
 pub mod SideDecimalLaws
 pub mod EntryDecimalLaws
+pub mod LeastDecimalLaws
 pub mod CanonicalExamples
 pub mod NoFaultLaws
 pub mod EntryLineLaws

@@ -57,7 +57,7 @@ written_alone word ls row e h same =
 
 -- ---- the coefficients
 
-abbrev placed : List Entry → List ℕ → ℕ × List ℕ → Option (ℕ × Number)
+abbrev pub placed : List Entry → List ℕ → ℕ × List ℕ → Option (ℕ × Number)
 placed es row p = option_map (λ n. (p.0, n)) (written_at es row p.1)
 
 -- what holds of the numbers that are written in a row holds of the one that is written at a column

@@ -40,7 +40,7 @@ entries_read ls sound = record {
 }
 
 -- the entries of the three sections
-abbrev all_kept : List Line → List Entry
+abbrev pub all_kept : List Line → List Entry
 all_kept ls = kept_entries (codes "COLUMNS") ls ++ kept_entries (codes "RHS") ls ++ kept_entries (codes "RANGES") ls
 
 -- decimals are the largest of some needs, where each entry has no more and each need no more than they
@@ -75,7 +75,7 @@ or_nothing : (k : ℕ) (o : Option Number) → ForSome o (NeedsOwn k) → NeedsO
 or_nothing k None h = number_least [] k (omega arith)
 or_nothing k (Some x) h = h x refl
 
-three_parts : (P : Entry → Type 0) (es rs gs : List Entry) → Each P es → Each P rs → Each P gs → Each P (es ++ rs ++ gs)
+pub three_parts : (P : Entry → Type 0) (es rs gs : List Entry) → Each P es → Each P rs → Each P gs → Each P (es ++ rs ++ gs)
 three_parts P es rs gs a b c = each_append P (es ++ rs) gs (each_append P es rs a b) c
 
 -- the entries of COLUMNS for a row, where the number that is written at a column needs no more than some decimals

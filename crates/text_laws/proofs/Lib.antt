@@ -9,6 +9,7 @@ pub mod DistinctReadLaws
 pub mod SideDecimalLaws
 pub mod EntryDecimalLaws
 pub mod LeastDecimalLaws
+pub mod ShapeReadLaws
 pub mod CanonicalExamples
 pub mod NoFaultLaws
 pub mod EntryLineLaws

@@ -10,6 +10,7 @@ pub mod SideDecimalLaws
 pub mod EntryDecimalLaws
 pub mod LeastDecimalLaws
 pub mod ShapeReadLaws
+pub mod ReadCanonicalLaws
 pub mod CanonicalExamples
 pub mod NoFaultLaws
 pub mod EntryLineLaws

@@ -73,8 +73,9 @@ present_at (p ∷ ps) all (suc i) l e = present_at ps all.1 i (omega arith) e
 
 coefs_ordered : (es : List Entry) (names : List (List ℕ)) (row : List ℕ) (k : ℕ) → AreOrdered (length names) (coefs_in es names row k)
 coefs_ordered es names row k =
-    let pairs = map (λ (p : ℕ × Number). (p.0, units k p.1)) (written_in es names row) in
-    let up = filtered_rises (λ (p : ℕ × ℤ). not (unsigned_abs p.1 == 0)) 0 (length names) pairs (mapped_rises (units k) 0 (length names) (written_in es names row) (written_rises es row 0 (length names) names (omega arith))) in
+    let pairs : List (ℕ × ℤ) = map (λ (p : ℕ × Number). (p.0, units k p.1)) (written_in es names row) in
+    let all : 0 + length names ≤ length names = omega arith in
+    let up : Rises 0 (length names) (coefs_in es names row k) = filtered_rises (λ (p : ℕ × ℤ). not (unsigned_abs p.1 == 0)) 0 (length names) pairs (mapped_rises (units k) 0 (length names) (written_in es names row) (written_rises es row 0 (length names) names all)) in
     record {
       rising = rising_places 0 (length names) (coefs_in es names row k) up;
       within = λ i l. (let b = between 0 (length names) (coefs_in es names row k) up i l in b.1);

@@ -1,14 +1,12 @@
 -- The names of rows and of columns that are read of lines without a fault differ.
 use Rattle.std.specs.Prelude.{◌≡◌, ℕ, ◌==◌, Bool, true, false, ◌&&◌, ◌||◌, not, cond, if◌then◌else◌, List, [], ◌∷◌, ◌++◌, length, drop, map, filter, find, Some, bytes_eq, codes}
-use Rattle.std.specs.List.{list_any}
 use Rattle.std.proofs.Common.{refl, ap, sym, ◌∙◌, subst}
 use Rattle.std.proofs.lemmas.List.Folds.{list_any-append}
 use Rattle.std.proofs.lemmas.Slice.Eq.{bytes_eq-Decides}
 use Rattle.decimals.proofs.NumberLaws.{both_true}
 use Rattle.ip_defs.specs.Lists.{is_among, when}
-use Rattle.ip_defs.specs.Records.{Line, Entry, items_of, words_of, row_lines, row_kind, row_name, is_marker, column_name, column_lines, column_names, entries_from, entries_of, all_entries, kept_entries, is_kept, is_columns, set_of, names_set, is_free}
+use Rattle.ip_defs.specs.Records.{Line, items_of, words_of, row_lines, row_kind, row_name, is_marker, column_name, column_names, entries_from, entries_of, all_entries, kept_entries, is_kept, is_columns, set_of, names_set, is_free}
 use Rattle.ip_defs.specs.Faults.{line_faults, row_faults}
-use Rattle.ip_defs.specs.declared.texts.MpsError.{MpsError}
 use Rattle.ip_defs.specs.declared.texts.MpsError.TheVariants.{SectionOrder, FieldCount, RowKind, TwiceRow, Marker}
 use Rattle.text_laws.specs.ReadBack.{AreDistinct}
 use Rattle.text_laws.proofs.ListLaws.{Each, each_both, each_flat, append_nil, append_assoc, map-append}
@@ -195,7 +193,7 @@ entries_owned ls =
     let items = items_of (codes "COLUMNS") ls in
     let names = column_names ls in
     let own = each_both (λ l. (l.is_item && bytes_eq l.section (codes "COLUMNS")) ≡ true) (λ l. is_marker l ≡ false → is_among (column_name l) (columns_among items) ≡ true) (λ l. Each (λ e. is_among e.owner names ≡ true) (entries_of l)) items
-        (each_passes (λ l. l.is_item && bytes_eq l.section (codes "COLUMNS")) ls) (lines_among items)
-        (λ l item h. line_owned names l item (λ e. ap (is_among (column_name l)) (names_are ls) ∙ name_kept (column_name l) [] (names_of ls) refl (h e))) in
+    (each_passes (λ l. l.is_item && bytes_eq l.section (codes "COLUMNS")) ls) (lines_among items)
+    (λ l item h. line_owned names l item (λ e. ap (is_among (column_name l)) (names_are ls) ∙ name_kept (column_name l) [] (names_of ls) refl (h e))) in
     each_filter (λ e. is_among e.owner names ≡ true) (is_kept (codes "COLUMNS") ls) (all_entries (codes "COLUMNS") ls)
     (each_flat (λ l. Each (λ e. is_among e.owner names ≡ true) (entries_of l)) (λ e. is_among e.owner names ≡ true) entries_of items own (λ l h. h))

@@ -1,8 +1,7 @@
 -- The decimals of the entries that are kept for a row, and those of the amounts that are made of them.
-use Rattle.std.specs.Prelude.{◌≡◌, ℕ, ◌+◌, ◌≤◌, ◌==◌, Bool, true, false, ◌&&◌, ◌||◌, not, cond, List, [], ◌∷◌, ◌++◌, map, filter, filter_map, find, Option, None, Some, option_map, unwrap_or, bytes_eq, codes, ℤ, neg_ℤ}
-use Rattle.std.specs.List.{enumerate_from, cons_option, list_any}
+use Rattle.std.specs.Prelude.{◌≡◌, ℕ, ◌+◌, ◌≤◌, ◌==◌, Bool, true, false, ◌||◌, not, cond, List, [], ◌∷◌, map, filter, filter_map, Option, None, Some, option_map, bytes_eq, codes, ℤ}
+use Rattle.std.specs.List.{enumerate_from, cons_option}
 use Rattle.std.specs.Int.RustNames.{unsigned_abs}
-use Rattle.std.specs.Option.{option_map_or}
 use Rattle.std.proofs.Common.{refl, arith, ap, sym, ◌∙◌, subst}
 use Rattle.std.proofs.lemmas.Bool.{eqb-true}
 use Rattle.std.proofs.lemmas.Slice.Eq.{bytes_eq-Decides}

@@ -16,7 +16,7 @@ use Rattle.text_laws.proofs.CoefReadLaws.{or_left, or_right}
 use Rattle.text_laws.proofs.ContinuousLaws.{turned}
 use Rattle.text_laws.proofs.EachLaws.{EachAfter}
 use Rattle.text_laws.proofs.SoundLaws.{IsSound, is_late}
-use Rattle.text_laws.proofs.KeptReadLaws.{IsNewEntry, IsNewKept, HasPairs, entries_new}
+use Rattle.text_laws.proofs.KeptReadLaws.{IsNewKept, HasPairs, entries_new}
 
 -- new among what is kept, and kept
 pub record IsOnly (word : List ℕ) (all : List Line) (before : List Entry) (e : Entry) : Type 0 where

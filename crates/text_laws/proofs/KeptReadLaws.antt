@@ -1,19 +1,17 @@
 -- The entries that are kept of lines without a fault: each has at most nine decimals, and none stands at a place where one came before.
-use Rattle.std.specs.Prelude.{◌≡◌, ℕ, ◌+◌, ◌≤◌, ◌==◌, drop, nat_lt, nat_le, Bool, true, false, ◌&&◌, ◌||◌, not, cond, if◌then◌else◌, List, [], ◌∷◌, ◌++◌, length, map, filter, flat_map, find, Option, None, Some, option_map, bytes_eq, codes, ⊤}
+use Rattle.std.specs.Prelude.{◌≡◌, ℕ, ◌≤◌, ◌==◌, drop, nat_lt, nat_le, Bool, true, false, ◌&&◌, ◌||◌, not, cond, if◌then◌else◌, List, [], ◌∷◌, ◌++◌, length, map, flat_map, bytes_eq, codes}
 use Rattle.std.specs.List.{list_any}
-use Rattle.std.specs.Option.{option_map_or, option_or}
-use Rattle.std.proofs.Common.{refl, arith, ap, sym, ◌∙◌, subst}
+use Rattle.std.proofs.Common.{refl, ap, sym, ◌∙◌, subst}
 use Rattle.std.proofs.lemmas.Bool.{ltb-false}
-use Rattle.std.proofs.lemmas.List.Folds.{list_any-append}
 use Rattle.std.proofs.lemmas.Slice.Eq.{bytes_eq-Decides}
-use Rattle.ip_defs.specs.Lists.{is_among, after_those, with_earlier, when, first_of}
+use Rattle.ip_defs.specs.Lists.{is_among, after_those, with_earlier, when}
 use Rattle.ip_defs.specs.Numbers.{is_number, decimals_of}
-use Rattle.ip_defs.specs.Records.{Line, Entry, items_of, words_of, row_lines, row_name, is_marker, column_name, entries_from, entries_of, all_entries, kept_entries, is_kept}
+use Rattle.ip_defs.specs.Records.{Line, Entry, items_of, words_of, row_lines, row_name, is_marker, column_name, entries_from, entries_of, all_entries, is_kept}
 use Rattle.ip_defs.specs.TextModels.{number_at}
-use Rattle.ip_defs.specs.Faults.{line_faults, item_faults, marker_faults, column_faults, set_faults, is_split, pair_faults, entry_faults, same_place}
+use Rattle.ip_defs.specs.Faults.{line_faults, marker_faults, column_faults, set_faults, is_split, pair_faults, entry_faults, same_place}
 use Rattle.ip_defs.specs.declared.texts.MpsError.{MpsError}
 use Rattle.ip_defs.specs.declared.texts.MpsError.TheVariants.{SectionOrder, FieldCount, SplitColumn, UnknownRow, Number, Digits, TwiceEntry}
-use Rattle.text_laws.proofs.ListLaws.{Each, append_nil, append_assoc, flat_map-append, filter-append}
+use Rattle.text_laws.proofs.ListLaws.{append_nil, append_assoc, flat_map-append, filter-append}
 use Rattle.text_laws.proofs.PriorLaws.{items_more}
 use Rattle.text_laws.proofs.EachLaws.{EachAfter, after_append}
 use Rattle.text_laws.proofs.SoundLaws.{IsSound, is_late, none_left, none_when, sound_line, sound_next, kept_alike}

@@ -1,17 +1,15 @@
 -- The decimals of a row that is read, and of the costs, are the least ones that write its amounts, and no fewer than those asked for.
-use Rattle.std.specs.Prelude.{◌≡◌, ℕ, ◌^◌, ◌≤◌, Bool, true, false, ◌&&◌, ◌||◌, not, if◌then◌else◌, List, [], ◌∷◌, ◌++◌, map, cond, find, Option, None, Some, option_map, unwrap_or, bytes_eq, codes, ℤ, neg_ℤ}
+use Rattle.std.specs.Prelude.{◌≡◌, ℕ, ◌≤◌, Bool, true, false, ◌&&◌, not, List, [], ◌∷◌, ◌++◌, map, cond, find, Option, None, Some, option_map, unwrap_or, bytes_eq, codes, ℤ, neg_ℤ}
 use Rattle.std.specs.Int.RustNames.{unsigned_abs}
 use Rattle.std.specs.Option.{option_map_or, ForSome}
 use Rattle.std.proofs.Common.{refl, arith, ap, sym, ◌∙◌, subst}
 use Rattle.std.proofs.lemmas.Int.{ints}
-use Rattle.std.proofs.lemmas.Slice.Eq.{bytes_eq-Decides}
 use Rattle.ip_defs.specs.Lists.{is_among}
 use Rattle.ip_defs.specs.Limits.{IsRow}
 use Rattle.ip_defs.specs.Numbers.{decimals_of, least_decimals}
-use Rattle.ip_defs.specs.Records.{Line, Entry, objective, is_objective, is_dropped_row, is_kept_set, is_columns, is_kept, column_names, kept_entries}
+use Rattle.ip_defs.specs.Records.{Line, Entry, objective, is_objective, is_dropped_row, is_kept_set, is_kept, column_names, kept_entries}
 use Rattle.ip_defs.specs.TextModels.{no_number, units, number_at, written_for, written_at, largest, decimals_in, row_decimals, row_sides, coefs_in, row_from, column_from, model_from}
 use Rattle.ip_defs.specs.declared.programs.Column.{Column}
-use Rattle.ip_defs.specs.declared.programs.Row.{Row}
 use Rattle.ip_defs.specs.declared.texts.How.{How}
 use Rattle.ip_defs.specs.declared.texts.Number.{Number}
 use Rattle.text_laws.specs.ReadBack.{needed_decimals, row_amounts, cost_amounts}

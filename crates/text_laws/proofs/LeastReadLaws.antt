@@ -1,15 +1,15 @@
 -- A number that is read has the least decimals that write it, in each unit that is fine enough; and the decimals of a difference.
-use Rattle.std.specs.Prelude.{◌≡◌, ℕ, zero, suc, ◌+◌, ◌-◌, ◌*◌, ◌/◌, ◌%◌, ◌^◌, ◌<◌, ◌≤◌, ◌==◌, nat_le, max, Bool, true, false, if◌then◌else◌, List, [], ◌∷◌, ◌++◌, unwrap_or, ℤ, pos, negsuc, neg_ℤ, ◌-ℤ◌, ◌*ℤ◌}
+use Rattle.std.specs.Prelude.{◌≡◌, ℕ, zero, suc, ◌+◌, ◌-◌, ◌*◌, ◌/◌, ◌%◌, ◌^◌, ◌≤◌, nat_le, max, Bool, true, false, if◌then◌else◌, List, [], ◌∷◌, unwrap_or, ℤ, pos, negsuc, ◌-ℤ◌, ◌*ℤ◌}
 use Rattle.std.specs.Int.RustNames.{unsigned_abs}
 use Rattle.std.proofs.Common.{refl, arith, ap, sym, ◌∙◌, subst, leb-false}
 use Rattle.std.proofs.Math.Nat.{mul_assoc, mul_comm, mul-mod_left, mul-sub, add-mul}
 use Rattle.std.proofs.lemmas.Bool.{eqb-true, eq-eqb, leb-true}
 use Rattle.std.proofs.lemmas.Int.{ints, unsigned_abs-mul}
 use Rattle.std.proofs.lemmas.Nat.{pow-add}
-use Rattle.decimals.proofs.DecimalLaws.{ten_positive, least_units, passes_at_k}
+use Rattle.decimals.proofs.DecimalLaws.{least_units, passes_at_k}
 use Rattle.decimals.proofs.NumberLaws.{zero_reached}
 use Rattle.ip_defs.specs.Lists.{least_from, where_true}
-use Rattle.ip_defs.specs.Numbers.{without_sign, is_minus, is_number, is_infinity, fraction_of, signed, has_decimals, least_decimals, number_from, number_of, decimals_of}
+use Rattle.ip_defs.specs.Numbers.{without_sign, is_minus, is_number, is_infinity, fraction_of, signed, has_decimals, least_decimals, number_from, decimals_of}
 use Rattle.ip_defs.specs.TextModels.{units, number_at, no_number, largest}
 use Rattle.ip_defs.specs.declared.texts.Number.{Number}
 use Rattle.ip_defs.specs.declared.texts.Number.TheVariants.{Dec, Large}

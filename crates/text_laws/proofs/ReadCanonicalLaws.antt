@@ -1,13 +1,12 @@
 -- A printable program that was read of a text without a fault is canonical, so that its canonical text is read as the same program.
-use Rattle.std.specs.Prelude.{◌≡◌, ℕ, zero, suc, ◌≤◌, nat_le, Bool, true, false, ◌&&◌, not, cond, if◌then◌else◌, List, [], ◌∷◌, ◌++◌, length, map, filter, flat_map, find, Option, None, Some, option_map, unwrap_or, slice_get, bytes_eq, codes}
+use Rattle.std.specs.Prelude.{◌≡◌, ℕ, zero, suc, nat_le, Bool, true, false, ◌&&◌, not, cond, if◌then◌else◌, List, [], ◌∷◌, ◌++◌, length, map, filter, flat_map, find, Option, None, Some, option_map, unwrap_or, slice_get, bytes_eq, codes}
 use Rattle.std.specs.Option.{is_none}
-use Rattle.std.specs.Str.{IsUtf8, is_utf8}
+use Rattle.std.specs.Str.{is_utf8}
 use Rattle.std.proofs.Common.{refl, ap, sym, ◌∙◌, subst}
 use Rattle.std.proofs.lemmas.Str.{is_utf8-from_IsUtf8}
 use Rattle.ip_defs.specs.Lists.{first_of, when, with_earlier}
 use Rattle.ip_defs.specs.Limits.{IsRow, IsWithinLimits, limits_of}
-use Rattle.ip_defs.specs.Records.{Line, lines_of, items_of, row_lines, row_kind, row_name, is_free, objective, column_lines, column_name, column_names, first_lines, has_column}
-use Rattle.ip_defs.specs.Texts.{canonical_text, is_printable}
+use Rattle.ip_defs.specs.Records.{Line, lines_of, row_lines, row_kind, row_name, is_free, objective, column_lines, column_name, column_names, first_lines, has_column}
 use Rattle.ip_defs.specs.TextModels.{largest, row_decimals, row_from, column_from, model_from}
 use Rattle.ip_defs.specs.Faults.{all_line_faults, is_ended, continuous_faults, bound_missing, upper_faults, limit_faults, faults_of_lines, mps_fault, model_of}
 use Rattle.ip_defs.specs.declared.programs.Column.{Column}
@@ -18,14 +17,14 @@ use Rattle.ip_defs.specs.declared.texts.How.{How}
 use Rattle.ip_defs.specs.declared.texts.MpsError.{MpsError}
 use Rattle.ip_defs.specs.declared.texts.MpsError.TheVariants.{NoEnd, NoObjective, NotUtf8, Limit}
 use Rattle.ip_model.proofs.LimitLaws.{within_limits}
-use Rattle.text_laws.specs.ReadBack.{AreDistinct, HasLeastDecimals, HasTextNames, IsCanonical, ModelsReadAreCanonical, ModelsReadArePrintedAndReadBack, needed_decimals, row_amounts}
+use Rattle.text_laws.specs.ReadBack.{AreDistinct, HasTextNames, ModelsReadAreCanonical, ModelsReadArePrintedAndReadBack, needed_decimals, row_amounts}
 use Rattle.text_laws.proofs.ListLaws.{Each}
 use Rattle.text_laws.proofs.EachLaws.{each_weaker, each_get, each_filter, each_of_map, each_those}
 use Rattle.text_laws.proofs.Utf8ReadLaws.{IsTextLine, lines_utf8, field_utf8}
 use Rattle.text_laws.proofs.SoundLaws.{none_left, none_when, sound_read}
 use Rattle.text_laws.proofs.DistinctReadLaws.{columns_distinct, row_names_distinct}
 use Rattle.text_laws.proofs.LeastDecimalLaws.{AreRead, entries_read, row_least, cost_least}
-use Rattle.text_laws.proofs.ShapeReadLaws.{every, well_shaped}
+use Rattle.text_laws.proofs.ShapeReadLaws.{well_shaped}
 use Rattle.text_laws.proofs.ModelReadLaws.{model_read}
 use Rattle.text_laws.proofs.NoFaultLaws.{none_found}
 
@@ -151,8 +150,8 @@ models_canonical text how digits none printable = record {
   decimals = record {
     costs = cost_least ls how read (row_name l) (ap (option_map row_name) at);
     rows = λ i r g. (let made = mapped_from row bound i r g in
-    subst (λ (x : Row). x.decimals ≡ largest how.digits (map (needed_decimals x.decimals) (row_amounts x))) made.1
-    (row_least ls how (row_kind made.0) (row_name made.0) read (subst IsRow (sym made.1) (limits.rows i r g))));
+        subst (λ (x : Row). x.decimals ≡ largest how.digits (map (needed_decimals x.decimals) (row_amounts x))) made.1
+        (row_least ls how (row_kind made.0) (row_name made.0) read (subst IsRow (sym made.1) (limits.rows i r g))));
   };
 }
   where

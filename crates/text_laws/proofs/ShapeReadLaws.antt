@@ -1,14 +1,12 @@
 -- A program that is read is well shaped: its decimals are at most 9, and the column numbers of each row rise.
-use Rattle.std.specs.Prelude.{◌≡◌, ◌≢◌, ℕ, zero, suc, ◌+◌, ◌<◌, ◌≤◌, ◌==◌, Bool, true, false, not, cond, List, [], ◌∷◌, ◌++◌, length, map, filter, filter_map, Option, None, Some, unwrap_or, slice_get, codes, ℤ, pos, ⊤}
+use Rattle.std.specs.Prelude.{◌≡◌, ◌≢◌, ℕ, zero, suc, ◌+◌, ◌<◌, ◌≤◌, ◌==◌, Bool, true, false, not, cond, List, [], ◌∷◌, length, map, filter, filter_map, Option, None, Some, unwrap_or, codes, ℤ, pos, ⊤}
 use Rattle.std.specs.List.{enumerate_from, cons_option}
 use Rattle.std.specs.Option.{option_map}
 use Rattle.std.specs.Int.RustNames.{unsigned_abs}
-use Rattle.std.proofs.Common.{refl, arith, ap, sym, ◌∙◌, subst}
+use Rattle.std.proofs.Common.{refl, arith, ap, sym, subst}
 use Rattle.ip_defs.specs.Limits.{AreOrdered, IsRowShaped, IsWellShaped, number_at as place_at, value_at}
-use Rattle.ip_defs.specs.Numbers.{decimals_of}
 use Rattle.ip_defs.specs.Records.{Line, Entry, objective, row_lines, row_kind, row_name, is_free, column_names, kept_entries}
-use Rattle.ip_defs.specs.TextModels.{units, number_at, written_at, written_in, decimals_in, row_decimals, coefs_in, row_from, column_from, model_from}
-use Rattle.ip_defs.specs.declared.programs.Row.{Row}
+use Rattle.ip_defs.specs.TextModels.{units, written_at, written_in, decimals_in, row_decimals, coefs_in, row_from, column_from, model_from}
 use Rattle.ip_defs.specs.declared.texts.How.{How}
 use Rattle.ip_defs.specs.declared.texts.Number.{Number}
 use Rattle.text_laws.proofs.ListLaws.{Each}

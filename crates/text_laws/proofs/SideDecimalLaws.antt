@@ -1,14 +1,14 @@
 -- The decimals of a right side and of a range are among those of the amounts that the sides of their row make.
-use Rattle.std.specs.Prelude.{◌≡◌, ℕ, ◌+◌, ◌*◌, ◌^◌, ◌≤◌, Bool, true, false, ◌&&◌, not, if◌then◌else◌, List, [], ◌∷◌, ◌++◌, Option, None, Some, bytes_eq, codes, ℤ, pos, neg_ℤ, ◌+ℤ◌, ◌-ℤ◌}
+use Rattle.std.specs.Prelude.{◌≡◌, ℕ, ◌+◌, ◌*◌, ◌^◌, ◌≤◌, Bool, true, false, ◌&&◌, not, if◌then◌else◌, List, [], ◌∷◌, ◌++◌, Option, None, Some, bytes_eq, codes, ℤ, pos, ◌+ℤ◌, ◌-ℤ◌}
 use Rattle.std.specs.Int.RustNames.{unsigned_abs}
 use Rattle.std.specs.Int.Signed.{lt_z}
 use Rattle.std.specs.Option.{option_map_or, is_some, is_none, ForSome}
-use Rattle.std.proofs.Common.{refl, arith, ap, sym, ◌∙◌, subst}
+use Rattle.std.proofs.Common.{refl, arith, ap, ◌∙◌, subst}
 use Rattle.std.proofs.lemmas.Int.{ints}
 use Rattle.std.proofs.lemmas.Nat.{pow-add}
 use Rattle.decimals.proofs.DecimalLaws.{ten_positive}
 use Rattle.ip_defs.specs.Lists.{where_true}
-use Rattle.ip_defs.specs.Numbers.{decimals_of, is_large, signed}
+use Rattle.ip_defs.specs.Numbers.{decimals_of, is_large}
 use Rattle.ip_defs.specs.TextModels.{units, plain_sides, range_sides, row_sides}
 use Rattle.ip_defs.specs.declared.texts.Number.{Number}
 use Rattle.ip_defs.specs.declared.texts.Number.TheVariants.{Dec, Large}

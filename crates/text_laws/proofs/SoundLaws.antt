@@ -1,9 +1,9 @@
 -- Lines without a fault, in the order in which they are read: no line of ROWS comes after a later section, so that what is kept at a
 -- line is kept at the end.
-use Rattle.std.specs.Prelude.{◌≡◌, ℕ, ◌<◌, nat_lt, Bool, true, false, ◌&&◌, ◌||◌, not, cond, if◌then◌else◌, List, [], ◌∷◌, ◌++◌, map, filter, Option, None, Some, bytes_eq, codes, find, option_map, ⊤}
+use Rattle.std.specs.Prelude.{◌≡◌, ℕ, nat_lt, Bool, true, false, ◌&&◌, ◌||◌, not, cond, if◌then◌else◌, List, [], ◌∷◌, ◌++◌, map, filter, Option, None, Some, bytes_eq, codes, find, option_map, ⊤}
 use Rattle.std.specs.List.{list_any, list_all}
 use Rattle.std.specs.Option.{option_map_or, is_none}
-use Rattle.std.proofs.Common.{refl, arith, ap, sym, ◌∙◌, subst}
+use Rattle.std.proofs.Common.{refl, arith, ap, sym, ◌∙◌}
 use Rattle.std.proofs.lemmas.Bool.{ltb-true, lt-ltb}
 use Rattle.std.proofs.lemmas.List.Folds.{list_any-append}
 use Rattle.std.proofs.lemmas.Slice.Eq.{bytes_eq-Decides}
@@ -11,7 +11,6 @@ use Rattle.decimals.proofs.NumberLaws.{both_true}
 use Rattle.ip_defs.specs.Lists.{is_among, first_of, after_those, when, through_first}
 use Rattle.ip_defs.specs.Records.{Line, Entry, items_of, words_of, row_lines, row_name, is_free, is_columns, is_kept, set_of, opens, first_field, last_word, line_of, opens_end, numbered, lines_of}
 use Rattle.ip_defs.specs.Faults.{all_line_faults, line_faults, item_faults, section_faults, is_before, may_come, place_of}
-use Rattle.ip_defs.specs.declared.texts.MpsError.{MpsError}
 use Rattle.ip_defs.specs.declared.texts.MpsError.TheVariants.{SectionOrder, UnknownSection}
 use Rattle.text_laws.proofs.ListLaws.{append_nil, append_assoc, last_word-add}
 use Rattle.text_laws.proofs.PriorLaws.{faults_after, words_more, items_more}

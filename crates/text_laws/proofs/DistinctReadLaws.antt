@@ -9,14 +9,14 @@ use Rattle.ip_defs.specs.Records.{Line, items_of, words_of, row_lines, row_kind,
 use Rattle.ip_defs.specs.Faults.{line_faults, row_faults}
 use Rattle.ip_defs.specs.declared.texts.MpsError.TheVariants.{SectionOrder, FieldCount, RowKind, TwiceRow, Marker}
 use Rattle.text_laws.specs.ReadBack.{AreDistinct}
-use Rattle.text_laws.proofs.ListLaws.{Each, each_both, each_flat, append_nil, append_assoc, map-append}
+use Rattle.text_laws.proofs.ListLaws.{Each, each_both, each_flat, append_nil, append_assoc, map-append, none_left, none_when}
 use Rattle.text_laws.proofs.SectionLaws.{new_names, names_of, names_are}
 use Rattle.text_laws.proofs.PriorLaws.{items_more}
 use Rattle.text_laws.proofs.EntryReadLaws.{bytes_same}
 use Rattle.text_laws.proofs.CoefReadLaws.{apart_turned, or_left, or_right, or_true}
 use Rattle.text_laws.proofs.EachLaws.{each_weaker, each_filter, each_passes}
 use Rattle.text_laws.proofs.LineFaultLaws.{row_names}
-use Rattle.text_laws.proofs.SoundLaws.{IsSound, none_left, none_when, sound_line, sound_next}
+use Rattle.text_laws.proofs.SoundLaws.{IsSound, sound_line, sound_next}
 use Rattle.text_laws.proofs.KeptReadLaws.{by_parts}
 
 -- ---- columns

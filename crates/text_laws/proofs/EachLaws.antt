@@ -68,6 +68,6 @@ abbrev pub EachAfter : {A : Type 0} → (List A → A → Type 0) → List A →
 EachAfter P seen [] = ⊤
 EachAfter P seen (x ∷ xs) = P seen x × EachAfter P (seen ++ x ∷ []) xs
 
-pub after_append : {A : Type 0} (P : List A → A → Type 0) (seen xs ys : List A) → EachAfter P seen xs → EachAfter P (seen ++ xs) ys → EachAfter P seen (xs ++ ys)
-after_append P seen [] ys h k = subst (λ s. EachAfter P s ys) (append_nil seen) k
-after_append P seen (x ∷ xs) ys h k = (h.0, after_append P (seen ++ x ∷ []) xs ys h.1 (subst (λ s. EachAfter P s ys) (sym (append_assoc seen (x ∷ []) xs)) k))
+pub each_after_append : {A : Type 0} (P : List A → A → Type 0) (seen xs ys : List A) → EachAfter P seen xs → EachAfter P (seen ++ xs) ys → EachAfter P seen (xs ++ ys)
+each_after_append P seen [] ys h k = subst (λ s. EachAfter P s ys) (append_nil seen) k
+each_after_append P seen (x ∷ xs) ys h k = (h.0, each_after_append P (seen ++ x ∷ []) xs ys h.1 (subst (λ s. EachAfter P s ys) (sym (append_assoc seen (x ∷ []) xs)) k))

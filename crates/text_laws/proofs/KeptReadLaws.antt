@@ -11,10 +11,10 @@ use Rattle.ip_defs.specs.TextModels.{number_at}
 use Rattle.ip_defs.specs.Faults.{line_faults, marker_faults, column_faults, set_faults, is_split, pair_faults, entry_faults, same_place}
 use Rattle.ip_defs.specs.declared.texts.MpsError.{MpsError}
 use Rattle.ip_defs.specs.declared.texts.MpsError.TheVariants.{SectionOrder, FieldCount, SplitColumn, UnknownRow, Number, Digits, TwiceEntry}
-use Rattle.text_laws.proofs.ListLaws.{append_nil, append_assoc, flat_map-append, filter-append}
+use Rattle.text_laws.proofs.ListLaws.{append_nil, append_assoc, flat_map-append, filter-append, none_left, none_when}
 use Rattle.text_laws.proofs.PriorLaws.{items_more}
-use Rattle.text_laws.proofs.EachLaws.{EachAfter, after_append}
-use Rattle.text_laws.proofs.SoundLaws.{IsSound, is_late, none_left, none_when, sound_line, sound_next, kept_alike}
+use Rattle.text_laws.proofs.EachLaws.{EachAfter, each_after_append}
+use Rattle.text_laws.proofs.SoundLaws.{IsSound, is_late, sound_line, sound_next, kept_alike}
 
 -- no entry before stands at the place of this one, and it has few decimals
 pub record IsNewEntry (before : List Entry) (e : Entry) : Type 0 where
@@ -98,7 +98,7 @@ entries_new word current before (l ∷ ls) all has late sound is =
         let here = subst (λ w. IsSound w before (l ∷ ls)) (sym (sections.0 e) ∙ own) sound in
         let mine : all_entries word (l ∷ []) ≡ entries_of l = ap (λ t. flat_map entries_of (cond (t && bytes_eq l.section word) (l ∷ []) [])) e ∙ ap (λ t. flat_map entries_of (cond t (l ∷ []) [])) f ∙ append_nil (entries_of l) in
         subst (EachAfter (IsNewKept word all) seen) (sym one)
-        (after_append (IsNewKept word all) seen (all_entries word (l ∷ [])) (all_entries word ls)
+        (each_after_append (IsNewKept word all) seen (all_entries word (l ∷ [])) (all_entries word ls)
         (subst (EachAfter (IsNewKept word all) seen) (sym mine) (subst (λ k. EachAfter (IsNewKept word k) seen (entries_of l)) (sym is) (line_new word before ls l has late here e own)))
         (subst (λ s. EachAfter (IsNewKept word all) s (all_entries word ls)) grown rest))
     by true false e f rest =

@@ -88,8 +88,8 @@ few_from ls row k most read own needs =
     omega arith)
 
 -- a range that is kept is not for the objective
-no_range : (ls : List Line) (row : List ℕ) (e : Entry) → objective ls ≡ Some row → is_kept (codes "RANGES") ls e ≡ true → bytes_eq e.row row ≡ true → ⊥
-no_range ls row e is kept same =
+none_on_objective : (ls : List Line) (row : List ℕ) (e : Entry) → objective ls ≡ Some row → is_kept (codes "RANGES") ls e ≡ true → bytes_eq e.row row ≡ true → ⊥
+none_on_objective ls row e is kept same =
     let on : is_objective ls e.row ≡ true = ap (λ o. option_map_or (bytes_eq e.row) o false) is ∙ same in
     let off : is_objective ls e.row ≡ false = last (not (is_dropped_row ls e.row)) (is_kept_set (codes "RANGES") ls e.owner) (is_objective ls e.row) kept in
     cc
@@ -238,4 +238,4 @@ cost_least ls how read row is = least_is ls how cost_row amounts (three_parts (I
 
     ranges_few : Each (IsFewFor most cost_row) gs
     ranges_few = each_weaker (IsFound (codes "RANGES") ls of_row) (IsFewFor most cost_row) gs
-        (λ e found same. absurd (no_range ls row e is found.kept (ap (bytes_eq e.row) (sym (ap (λ o. unwrap_or o []) is)) ∙ same))) read.ranges
+        (λ e found same. absurd (none_on_objective ls row e is found.kept (ap (bytes_eq e.row) (sym (ap (λ o. unwrap_or o []) is)) ∙ same))) read.ranges

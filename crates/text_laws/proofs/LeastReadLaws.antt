@@ -21,15 +21,15 @@ use Rattle.text_laws.proofs.ScaleLaws.{zeros_dropped, least_passes, decimals_wit
 abbrev IsLeast : Number → Type 0
 IsLeast n = (k : ℕ) → decimals_of n ≤ k → needed_decimals k (units k n) ≡ decimals_of n
 
-pub signed_size : (negative : Bool) (n : ℕ) → unsigned_abs (signed negative n) ≡ n
-signed_size true n = omega (arith, ints)
-signed_size false n = refl
+pub size_of_signed : (negative : Bool) (n : ℕ) → unsigned_abs (signed negative n) ≡ n
+size_of_signed true n = omega (arith, ints)
+size_of_signed false n = refl
 
 large_least : (negative : Bool) → IsLeast (Large negative)
 large_least negative k h =
     let split : 10 ^ (20 + k) ≡ 10 ^ 20 * 10 ^ k = pow-add 10 20 k in
     let whole : 0 + k ≡ k = omega arith in
-    ap (λ (m : ℕ). least_decimals m k) (signed_size negative (10 ^ (20 + k)) ∙ split)
+    ap (λ (m : ℕ). least_decimals m k) (size_of_signed negative (10 ^ (20 + k)) ∙ split)
     ∙ ap (λ (j : ℕ). least_decimals (10 ^ 20 * 10 ^ k) j) (sym whole) ∙ (zeros_dropped (10 ^ 20) 0 k).1
 
 exact_least : (negative : Bool) (n k : ℕ) → IsLeast (Dec (signed negative (least_units n k)) (least_decimals n k))
@@ -39,7 +39,7 @@ exact_least negative n k w h =
     let within = decimals_within n k in
     let here : d + (k - d) ≡ k = omega arith in
     let there : d + (w - d) ≡ w = omega arith in
-    let size : unsigned_abs (signed negative u *ℤ pos (10 ^ (w - d))) ≡ u * 10 ^ (w - d) = unsigned_abs-mul (signed negative u) (pos (10 ^ (w - d))) ∙ ap (λ (m : ℕ). m * 10 ^ (w - d)) (signed_size negative u) in
+    let size : unsigned_abs (signed negative u *ℤ pos (10 ^ (w - d))) ≡ u * 10 ^ (w - d) = unsigned_abs-mul (signed negative u) (pos (10 ^ (w - d))) ∙ ap (λ (m : ℕ). m * 10 ^ (w - d)) (size_of_signed negative u) in
     ap (λ (m : ℕ). least_decimals m w) size
     ∙ ap (λ (j : ℕ). least_decimals (u * 10 ^ (w - d)) j) (sym there)
     ∙ (zeros_dropped u d (w - d)).1

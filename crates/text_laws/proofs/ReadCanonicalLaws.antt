@@ -18,10 +18,10 @@ use Rattle.ip_defs.specs.declared.texts.MpsError.{MpsError}
 use Rattle.ip_defs.specs.declared.texts.MpsError.TheVariants.{NoEnd, NoObjective, NotUtf8, Limit}
 use Rattle.ip_model.proofs.LimitLaws.{within_limits}
 use Rattle.text_laws.specs.ReadBack.{AreDistinct, HasTextNames, ModelsReadAreCanonical, ModelsReadArePrintedAndReadBack, needed_decimals, row_amounts}
-use Rattle.text_laws.proofs.ListLaws.{Each}
+use Rattle.text_laws.proofs.ListLaws.{Each, none_left, none_when}
 use Rattle.text_laws.proofs.EachLaws.{each_weaker, each_get, each_filter, each_of_map, each_those}
 use Rattle.text_laws.proofs.Utf8ReadLaws.{IsTextLine, lines_utf8, field_utf8}
-use Rattle.text_laws.proofs.SoundLaws.{none_left, none_when, sound_read}
+use Rattle.text_laws.proofs.SoundLaws.{sound_read}
 use Rattle.text_laws.proofs.DistinctReadLaws.{columns_distinct, row_names_distinct}
 use Rattle.text_laws.proofs.LeastDecimalLaws.{AreRead, entries_read, row_least, cost_least}
 use Rattle.text_laws.proofs.ShapeReadLaws.{well_shaped}

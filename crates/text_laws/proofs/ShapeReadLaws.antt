@@ -3,7 +3,8 @@ use Rattle.std.specs.Prelude.{◌≡◌, ◌≢◌, ℕ, zero, suc, ◌+◌, ◌
 use Rattle.std.specs.List.{enumerate_from, cons_option}
 use Rattle.std.specs.Option.{option_map}
 use Rattle.std.specs.Int.RustNames.{unsigned_abs}
-use Rattle.std.proofs.Common.{refl, arith, ap, sym, subst}
+use Rattle.std.proofs.Common.{arith, ap, sym, subst}
+use Rattle.std.proofs.lemmas.List.{length-map}
 use Rattle.ip_defs.specs.Limits.{AreOrdered, IsRowShaped, IsWellShaped, number_at as place_at, value_at}
 use Rattle.ip_defs.specs.Records.{Line, Entry, objective, row_lines, row_kind, row_name, is_free, column_names, kept_entries}
 use Rattle.ip_defs.specs.TextModels.{units, written_at, written_in, decimals_in, row_decimals, coefs_in, row_from, column_from, model_from}
@@ -97,16 +98,12 @@ pub every : {A : Type 0} (P : A → Type 0) (xs : List A) → ((x : A) → P x) 
 every P [] h = tt
 every P (x ∷ xs) h = (h x, every P xs h)
 
-same_count : {A B : Type 0} (f : A → B) (xs : List A) → length (map f xs) ≡ length xs
-same_count f [] = refl
-same_count f (x ∷ xs) = ap suc (same_count f xs)
-
 pub well_shaped : (ls : List Line) (how : How) → AreRead ls → how.digits ≤ 9 → IsWellShaped (model_from ls how)
 well_shaped ls how read digits =
     let cost_row = unwrap_or (objective ls) [] in
     let column = column_from ls how cost_row (row_decimals ls how cost_row) in
     let bound = filter (λ l. not (is_free l)) (row_lines ls) in
-    let width : length (map column (column_names ls)) ≡ length (column_names ls) = same_count column (column_names ls) in
+    let width : length (map column (column_names ls)) ≡ length (column_names ls) = length-map (column_names ls) column in
     record {
       decimals = few_decimals_read ls how cost_row read digits;
       rows = λ i r at. each_get (IsRowShaped (length (map column (column_names ls)))) (map (λ l. row_from ls how (row_kind l) (row_name l)) bound) i r

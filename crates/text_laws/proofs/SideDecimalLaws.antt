@@ -14,7 +14,7 @@ use Rattle.ip_defs.specs.declared.texts.Number.{Number}
 use Rattle.ip_defs.specs.declared.texts.Number.TheVariants.{Dec, Large}
 use Rattle.text_laws.specs.ReadBack.{needed_decimals}
 use Rattle.text_laws.proofs.ListLaws.{Each}
-use Rattle.text_laws.proofs.LeastReadLaws.{difference_needs, nothing_needs, signed_size}
+use Rattle.text_laws.proofs.LeastReadLaws.{difference_needs, nothing_needs, size_of_signed}
 
 -- the right side and the range of two sides
 abbrev pub right_amount : Option ℤ → Option ℤ → List ℤ
@@ -33,7 +33,7 @@ NeedsOwn k n = needed_decimals k (units k n) ≡ decimals_of n
 -- a Large number passes the limit of a side
 large_passes : (k : ℕ) (negative : Bool) → unsigned_abs (units k (Large negative)) ≤ 2 ^ 62 → ⊥
 large_passes k negative small =
-    let size = signed_size negative (10 ^ (20 + k)) in
+    let size = size_of_signed negative (10 ^ (20 + k)) in
     let split : 10 ^ (20 + k) ≡ 10 ^ 20 * 10 ^ k = pow-add 10 20 k in
     let some = ten_positive k in
     omega arith

@@ -12,7 +12,7 @@ use Rattle.ip_defs.specs.Lists.{is_among, first_of, after_those, when, through_f
 use Rattle.ip_defs.specs.Records.{Line, Entry, items_of, words_of, row_lines, row_name, is_free, is_columns, is_kept, set_of, opens, first_field, last_word, line_of, opens_end, numbered, lines_of}
 use Rattle.ip_defs.specs.Faults.{all_line_faults, line_faults, item_faults, section_faults, is_before, may_come, place_of}
 use Rattle.ip_defs.specs.declared.texts.MpsError.TheVariants.{SectionOrder, UnknownSection}
-use Rattle.text_laws.proofs.ListLaws.{append_nil, append_assoc, last_word-add}
+use Rattle.text_laws.proofs.ListLaws.{none_left, none_when, append_nil, append_assoc, last_word-add}
 use Rattle.text_laws.proofs.PriorLaws.{faults_after, words_more, items_more}
 use Rattle.text_laws.proofs.CoefReadLaws.{or_true}
 
@@ -58,14 +58,6 @@ pub record IsSound (word : List ℕ) (before ls : List Line) : Type 0 where
   pub sections : InSections word ls
   pub faultless : faults_after before ls ≡ []
   pub begun : is_late word ≡ true → list_any is_late (words_of before) ≡ true
-
-pub none_left : {A : Type 0} (xs ys : List A) → xs ++ ys ≡ [] → (xs ≡ []) × (ys ≡ [])
-none_left [] ys e = (refl, e)
-none_left (x ∷ xs) ys e = absurd cc
-
-pub none_when : {A : Type 0} (t : Bool) (x : A) → when t x ≡ [] → t ≡ false
-none_when true x e = absurd cc
-none_when false x e = refl
 
 pub sound_line : (word : List ℕ) (before ls : List Line) (l : Line) → IsSound word before (l ∷ ls) → line_faults before l ≡ []
 sound_line word before ls l h = let parts = none_left (line_faults before l) (faults_after (before ++ l ∷ []) ls) h.faultless in parts.0

@@ -39,7 +39,7 @@ plain_lines n ((true, a ∷ []) ∷ ds) h = absurd h.0
 plain_lines n ((true, []) ∷ ds) h = absurd h.0
 plain_lines n ((false, fs) ∷ ds) h = absurd h.0
 
-turned : (a b : List ℕ) → bytes_eq a b ≡ bytes_eq b a
+pub turned : (a b : List ℕ) → bytes_eq a b ≡ bytes_eq b a
 turned a b = by (bytes_eq a b) (bytes_eq b a) refl refl
   where
     by : (t u : Bool) → bytes_eq a b ≡ t → bytes_eq b a ≡ u → bytes_eq a b ≡ bytes_eq b a

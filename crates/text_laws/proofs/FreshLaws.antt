@@ -1,5 +1,5 @@
 -- No place is written twice in a canonical text, and the entries of a column stand together.
-use Rattle.std.specs.Prelude.{◌≡◌, ℕ, ◌+◌, ◌==◌, Bool, true, false, ◌&&◌, ◌||◌, not, List, [], ◌∷◌, ◌++◌, map, flat_map, find, Option, None, Some, bytes_eq, codes, ℤ, pos, neg_ℤ, ◌-ℤ◌, ⊤}
+use Rattle.std.specs.Prelude.{◌≡◌, ℕ, ◌+◌, ◌==◌, Bool, true, false, ◌&&◌, ◌||◌, not, List, [], ◌∷◌, ◌++◌, map, flat_map, find, Option, None, Some, bytes_eq, codes, ℤ, pos, neg_ℤ, ◌-ℤ◌}
 use Rattle.std.specs.List.{list_any, enumerate_from}
 use Rattle.std.specs.Option.{option_map_or}
 use Rattle.std.specs.Ordering.{int_eq}
@@ -12,7 +12,8 @@ use Rattle.ip_defs.specs.declared.programs.Column.{Column}
 use Rattle.ip_defs.specs.declared.programs.Row.{Row}
 use Rattle.ip_defs.specs.declared.programs.Parts.{Parts}
 use Rattle.text_laws.specs.ReadBack.{AreDistinct}
-use Rattle.text_laws.proofs.ListLaws.{Each, append_nil, append_assoc, map-append, last_of-add}
+use Rattle.text_laws.proofs.ListLaws.{Each, map-append, last_of-add}
+use Rattle.text_laws.proofs.EachLaws.{EachAfter, each_after_append}
 use Rattle.text_laws.proofs.EntryReadLaws.{bytes_same, Told, tells, tells_append}
 use Rattle.text_laws.proofs.CoefReadLaws.{told_from, block_told, coef_told, apart_turned, or_left, or_right}
 use Rattle.text_laws.proofs.SideReadLaws.{rhs_told, range_told}
@@ -20,15 +21,6 @@ use Rattle.text_laws.proofs.DecimalReadLaws.{flat_flat}
 use Rattle.text_laws.proofs.RecordReadLaws.{IsApart}
 use Rattle.text_laws.proofs.NameReadLaws.{owners, AreOwned, coefs_owned, not_owned, not_among_more}
 use Rattle.text_laws.proofs.ModelReadLaws.{each_apart}
-
--- something holds of each entry, after those before it
-abbrev pub Follow : (List Told → Told → Type 0) → List Told → List Told → Type 0
-Follow P seen [] = ⊤
-Follow P seen (t ∷ ts) = P seen t × Follow P (seen ++ t ∷ []) ts
-
-follow_append : (P : List Told → Told → Type 0) (seen xs ys : List Told) → Follow P seen xs → Follow P (seen ++ xs) ys → Follow P seen (xs ++ ys)
-follow_append P seen [] ys h k = subst (λ s. Follow P s ys) (append_nil seen) k
-follow_append P seen (x ∷ xs) ys h k = (h.0, follow_append P (seen ++ x ∷ []) xs ys h.1 (subst (λ s. Follow P s ys) (sym (append_assoc seen (x ∷ []) xs)) k))
 
 -- an entry is for this owner and this row
 abbrev pub is_said : List ℕ → List ℕ → List Told → Bool
@@ -67,7 +59,7 @@ said_more owner row seen t e f =
     ∙ ap (λ k. k || false) (and_off (bytes_eq owner t.owner))
 
 rows_fresh : (owner : List ℕ) (f : Row → List Told) → ((r : Row) → IsOne owner r.name (f r)) → (rs : List Row) (seen : List Told) → AreDistinct (map (λ r. r.name) rs)
-    → Each (λ r. is_said owner r.name seen ≡ false) rs → Follow IsFresh seen (flat_map f rs)
+    → Each (λ r. is_said owner r.name seen ≡ false) rs → EachAfter IsFresh seen (flat_map f rs)
 rows_fresh owner f one [] seen d h = tt
 rows_fresh owner f one (r ∷ rs) seen d h = by ((one r).0) ((one r).1) (rows_fresh owner f one rs seen d.1 h.1) (λ text. rows_fresh owner f one rs (seen ++ told_of owner r.name text ∷ []) d.1 (after text rs d.0 h.1))
   where
@@ -78,9 +70,9 @@ rows_fresh owner f one (r ∷ rs) seen d h = by ((one r).0) ((one r).1) (rows_fr
       after text ks (or_right (bytes_eq r.name k.name) (is_among r.name (map (λ y. y.name) ks)) e) g.1,
     )
 
-    by : (o : Option (List ℕ)) → f r ≡ option_map_or (λ text. told_of owner r.name text ∷ []) o [] → Follow IsFresh seen (flat_map f rs) → ((text : List ℕ) → Follow IsFresh (seen ++ told_of owner r.name text ∷ []) (flat_map f rs)) → Follow IsFresh seen (f r ++ flat_map f rs)
-    by None e none some = subst (λ k. Follow IsFresh seen (k ++ flat_map f rs)) (sym e) none
-    by (Some text) e none some = subst (λ k. Follow IsFresh seen (k ++ flat_map f rs)) (sym e) (h.0, some text)
+    by : (o : Option (List ℕ)) → f r ≡ option_map_or (λ text. told_of owner r.name text ∷ []) o [] → EachAfter IsFresh seen (flat_map f rs) → ((text : List ℕ) → EachAfter IsFresh (seen ++ told_of owner r.name text ∷ []) (flat_map f rs)) → EachAfter IsFresh seen (f r ++ flat_map f rs)
+    by None e none some = subst (λ k. EachAfter IsFresh seen (k ++ flat_map f rs)) (sym e) none
+    by (Some text) e none some = subst (λ k. EachAfter IsFresh seen (k ++ flat_map f rs)) (sym e) (h.0, some text)
 
 one_when : (t : Bool) (owner row text : List ℕ) → IsOne owner row (flat_map tells (when t (triple owner row text)))
 one_when true owner row text = (Some text, refl)
@@ -114,18 +106,18 @@ none_said : (owner : List ℕ) (rs : List Row) → Each (λ r. is_said owner r.n
 none_said owner [] = tt
 none_said owner (r ∷ rs) = (refl, none_said owner rs)
 
-pub ranges_fresh : (m : Parts) → AreDistinct (map (λ r. r.name) m.rows) → Follow IsFresh [] (flat_map tells (flat_map range_line m.rows))
-ranges_fresh m d = subst (Follow IsFresh []) (sym (flat_flat range_line m.rows)) (rows_fresh (codes "RNG") range_told one_range m.rows [] d (none_said (codes "RNG") m.rows))
+pub ranges_fresh : (m : Parts) → AreDistinct (map (λ r. r.name) m.rows) → EachAfter IsFresh [] (flat_map tells (flat_map range_line m.rows))
+ranges_fresh m d = subst (EachAfter IsFresh []) (sym (flat_flat range_line m.rows)) (rows_fresh (codes "RNG") range_told one_range m.rows [] d (none_said (codes "RNG") m.rows))
 
 -- rows after an entry of the objective
 beside : (m : Parts) (owner text : List ℕ) (seen : List Told) (rs : List Row) → Each (λ r. IsApart m r.name) rs → Each (λ r. is_said owner r.name seen ≡ false) rs → Each (λ r. is_said owner r.name (seen ++ told_of owner m.objective text ∷ []) ≡ false) rs
 beside m owner text seen [] a h = tt
 beside m owner text seen (r ∷ rs) a h = (said_more owner r.name seen (told_of owner m.objective text) h.0 a.0, beside m owner text seen rs a.1 h.1)
 
-pub right_sides_fresh : (m : Parts) → AreDistinct (m.objective ∷ map (λ r. r.name) m.rows) → Follow IsFresh [] (flat_map tells (constant_line m ++ flat_map rhs_line m.rows))
-right_sides_fresh m d = subst (Follow IsFresh []) (sym (tells_append (constant_line m) (flat_map rhs_line m.rows) ∙ ap (λ k. flat_map tells (constant_line m) ++ k) (flat_flat rhs_line m.rows))) (by (not (int_eq m.constant (pos 0))))
+pub right_sides_fresh : (m : Parts) → AreDistinct (m.objective ∷ map (λ r. r.name) m.rows) → EachAfter IsFresh [] (flat_map tells (constant_line m ++ flat_map rhs_line m.rows))
+right_sides_fresh m d = subst (EachAfter IsFresh []) (sym (tells_append (constant_line m) (flat_map rhs_line m.rows) ∙ ap (λ k. flat_map tells (constant_line m) ++ k) (flat_flat rhs_line m.rows))) (by (not (int_eq m.constant (pos 0))))
   where
-    by : (t : Bool) → Follow IsFresh [] (flat_map tells (when t (triple (codes "RHS") m.objective (value_text m (neg_ℤ m.constant)))) ++ flat_map rhs_told m.rows)
+    by : (t : Bool) → EachAfter IsFresh [] (flat_map tells (when t (triple (codes "RHS") m.objective (value_text m (neg_ℤ m.constant)))) ++ flat_map rhs_told m.rows)
     by false = rows_fresh (codes "RHS") rhs_told one_rhs m.rows [] d.1 (none_said (codes "RHS") m.rows)
     by true = (refl, rows_fresh (codes "RHS") rhs_told one_rhs m.rows (told_of (codes "RHS") m.objective (value_text m (neg_ℤ m.constant)) ∷ []) d.1 (beside m (codes "RHS") (value_text m (neg_ℤ m.constant)) [] m.rows (each_apart m m.rows d.0) (none_said (codes "RHS") m.rows)))
 
@@ -138,7 +130,7 @@ not_said name row (t ∷ ts) e =
     ∙ not_said name row ts (or_right (bytes_eq name t.owner) (is_among name (owners ts)) e)
 
 -- entries of one owner stand together
-joined : (name : List ℕ) (seen : List Told) (t : Told) (ts : List Told) → t.owner ≡ name → AreOwned name ts → Follow IsFresh (seen ++ t ∷ []) ts → Follow IsNew (seen ++ t ∷ []) ts
+joined : (name : List ℕ) (seen : List Told) (t : Told) (ts : List Told) → t.owner ≡ name → AreOwned name ts → EachAfter IsFresh (seen ++ t ∷ []) ts → EachAfter IsNew (seen ++ t ∷ []) ts
 joined name seen t [] e h k = tt
 joined name seen t (u ∷ us) e h k =
     let same : bytes_eq t.owner u.owner ≡ true = ap (λ n. bytes_eq n u.owner) (e ∙ sym h.0) ∙ bytes_same u.owner in
@@ -147,11 +139,11 @@ joined name seen t (u ∷ us) e h k =
     ∙ ap (λ b. is_among u.owner (owners (seen ++ t ∷ [])) && not b) same ∙ and_off (is_among u.owner (owners (seen ++ t ∷ []))) in
     ((k.0, here), joined name (seen ++ t ∷ []) u us h.0 h.1 k.1)
 
-block_new : (m : Parts) (j : ℕ) (c : Column) (seen : List Told) → AreDistinct (m.objective ∷ map (λ r. r.name) m.rows) → is_among c.name (owners seen) ≡ false → Follow IsNew seen (block_told m j c)
+block_new : (m : Parts) (j : ℕ) (c : Column) (seen : List Told) → AreDistinct (m.objective ∷ map (λ r. r.name) m.rows) → is_among c.name (owners seen) ≡ false → EachAfter IsNew seen (block_told m j c)
 block_new m j c seen d e = (
   (not_said c.name m.objective seen e, ap (λ t. t && not (option_map_or (λ (u : Told). bytes_eq u.owner c.name) (last_of seen) false)) e),
   joined c.name seen (told_of c.name m.objective (value_text m c.cost)) (coef_told j c.name m.rows) refl (coefs_owned j c.name m.rows)
-      (subst (Follow IsFresh (seen ++ told_of c.name m.objective (value_text m c.cost) ∷ [])) (sym (flat_flat (coef_line j c.name) m.rows))
+      (subst (EachAfter IsFresh (seen ++ told_of c.name m.objective (value_text m c.cost) ∷ [])) (sym (flat_flat (coef_line j c.name) m.rows))
       (rows_fresh c.name (λ r. flat_map tells (coef_line j c.name r)) (one_coef j c.name) m.rows (seen ++ told_of c.name m.objective (value_text m c.cost) ∷ []) d.1
       (beside m c.name (value_text m c.cost) seen m.rows (each_apart m m.rows d.0) (unsaid m.rows)))),
 )
@@ -161,11 +153,11 @@ block_new m j c seen d e = (
     unsaid (r ∷ rs) = (not_said c.name r.name seen e, unsaid rs)
 
 pub columns_new : (m : Parts) (j : ℕ) (cs : List Column) (seen : List Told) → AreDistinct (m.objective ∷ map (λ r. r.name) m.rows) → AreDistinct (map (λ c. c.name) cs) → Each (λ c. is_among c.name (owners seen) ≡ false) cs
-    → Follow IsNew seen (told_from m j cs)
+    → EachAfter IsNew seen (told_from m j cs)
 columns_new m j [] seen rows d h = tt
 columns_new m j (c ∷ cs) seen rows d h =
-    subst (Follow IsNew seen) (sym (tells_append (column_block m (j, c)) (flat_map (column_block m) (enumerate_from (j + 1) cs))))
-    (follow_append IsNew seen (block_told m j c) (told_from m (j + 1) cs) (block_new m j c seen rows h.0) (columns_new m (j + 1) cs (seen ++ block_told m j c) rows d.1 (after cs d.0 h.1)))
+    subst (EachAfter IsNew seen) (sym (tells_append (column_block m (j, c)) (flat_map (column_block m) (enumerate_from (j + 1) cs))))
+    (each_after_append IsNew seen (block_told m j c) (told_from m (j + 1) cs) (block_new m j c seen rows h.0) (columns_new m (j + 1) cs (seen ++ block_told m j c) rows d.1 (after cs d.0 h.1)))
   where
     after : (ks : List Column) → is_among c.name (map (λ k. k.name) ks) ≡ false → Each (λ k. is_among k.name (owners seen) ≡ false) ks → Each (λ k. is_among k.name (owners (seen ++ block_told m j c)) ≡ false) ks
     after [] e g = tt

@@ -1,4 +1,16 @@
 pub mod Lines
+pub mod EachLaws
+pub mod Utf8ReadLaws
+pub mod SoundLaws
+pub mod KeptReadLaws
+pub mod FoundReadLaws
+pub mod LeastReadLaws
+pub mod DistinctReadLaws
+pub mod SideDecimalLaws
+pub mod EntryDecimalLaws
+pub mod LeastDecimalLaws
+pub mod ShapeReadLaws
+pub mod ReadCanonicalLaws
 pub mod CanonicalExamples
 pub mod NoFaultLaws
 pub mod EntryLineLaws

@@ -25,7 +25,8 @@ use Rattle.text_laws.proofs.EntryReadLaws.{bytes_same, Told, told, tells}
 use Rattle.text_laws.proofs.CoefReadLaws.{apart_turned, or_left, or_right}
 use Rattle.text_laws.proofs.NameReadLaws.{owners, not_among_more}
 use Rattle.text_laws.proofs.BoundReadLaws.{two_bounds}
-use Rattle.text_laws.proofs.FreshLaws.{Follow, IsFresh, IsNew, is_said, is_parted, and_off}
+use Rattle.text_laws.proofs.EachLaws.{EachAfter}
+use Rattle.text_laws.proofs.FreshLaws.{IsFresh, IsNew, is_said, is_parted, and_off}
 use Rattle.text_laws.proofs.PriorLaws.{faults_after, line_faultless, opening, words_more, items_more}
 
 -- ---- what a line adds
@@ -127,7 +128,7 @@ set_line_faultless before n word a b c w came pairs =
     ∙ pairs
 
 pub sets_faultless : (word : List ℕ) → IsSetWord word → (rows : List (List ℕ)) (before : List Line) (n : ℕ) (ds : List Written) (seen : List Told) → RowsCame before → row_names before ≡ rows → told_in word before ≡ seen
-    → Each (IsEntry rows) ds → Follow IsFresh seen (flat_map tells ds) → faults_after before (lines_from n word ds) ≡ []
+    → Each (IsEntry rows) ds → EachAfter IsFresh seen (flat_map tells ds) → faults_after before (lines_from n word ds) ≡ []
 sets_faultless word w rows before n [] seen came known is all fresh = refl
 sets_faultless word w rows before n ((true, a ∷ b ∷ c ∷ []) ∷ ds) seen came known is all fresh =
     let l = item n word (a ∷ b ∷ c ∷ []) in
@@ -187,7 +188,7 @@ column_line_faultless before n a b c plain came whole pairs =
     ∙ pairs
 
 pub columns_faultless : (rows : List (List ℕ)) (before : List Line) (n : ℕ) (ds : List Written) (seen : List Told) → RowsCame before → row_names before ≡ rows → ColumnsKnown before seen
-    → Each (IsEntry rows) ds → Follow IsNew seen (flat_map tells ds) → faults_after before (lines_from n (codes "COLUMNS") ds) ≡ []
+    → Each (IsEntry rows) ds → EachAfter IsNew seen (flat_map tells ds) → faults_after before (lines_from n (codes "COLUMNS") ds) ≡ []
 columns_faultless rows before n [] seen came known is all new = refl
 columns_faultless rows before n ((true, a ∷ b ∷ c ∷ []) ∷ ds) seen came known is all new =
     let l = item n (codes "COLUMNS") (a ∷ b ∷ c ∷ []) in

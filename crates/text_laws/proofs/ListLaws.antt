@@ -30,6 +30,15 @@ pub each_both : {A : Type 0} (P Q R : A → Type 0) (xs : List A) → Each P xs 
 each_both P Q R [] p q h = tt
 each_both P Q R (x ∷ xs) p q h = (h x p.0 q.0, each_both P Q R xs p.1 q.1 h)
 
+-- both parts of an empty list are empty, and a test that adds nothing is false
+pub none_left : {A : Type 0} (xs ys : List A) → xs ++ ys ≡ [] → (xs ≡ []) × (ys ≡ [])
+none_left [] ys e = (refl, e)
+none_left (x ∷ xs) ys e = absurd cc
+
+pub none_when : {A : Type 0} (t : Bool) (x : A) → when t x ≡ [] → t ≡ false
+none_when true x e = absurd cc
+none_when false x e = refl
+
 pub append_nil : {A : Type 0} (xs : List A) → xs ++ [] ≡ xs
 append_nil [] = refl
 append_nil (x ∷ xs) = ap (λ l. x ∷ l) (append_nil xs)

@@ -17,6 +17,7 @@ use Rattle.ip_defs.specs.declared.programs.Column.{Column}
 use Rattle.ip_defs.specs.declared.programs.Row.{Row}
 use Rattle.ip_defs.specs.declared.programs.Parts.{Parts}
 use Rattle.text_laws.specs.ReadBack.{needed_decimals, range_of, IsCanonical}
+use Rattle.text_laws.proofs.EachLaws.{each_get}
 use Rattle.text_laws.proofs.ListLaws.{Each, append_nil, map-append}
 use Rattle.text_laws.proofs.NumberTextLaws.{decimal_text_units}
 use Rattle.text_laws.proofs.SectionLaws.{lines_in}
@@ -37,11 +38,6 @@ lines m = lines_in (sections_of m)
 pub each_apart : (m : Parts) (rs : List Row) → is_among m.objective (map (λ r. r.name) rs) ≡ false → Each (λ r. IsApart m r.name) rs
 each_apart m [] e = tt
 each_apart m (r ∷ rs) e = (apart_turned m.objective r.name (or_left (bytes_eq m.objective r.name) (is_among m.objective (map (λ k. k.name) rs)) e), each_apart m rs (or_right (bytes_eq m.objective r.name) (is_among m.objective (map (λ k. k.name) rs)) e))
-
-each_at : {A : Type 0} (P : A → Type 0) (xs : List A) (i : ℕ) (x : A) → Each P xs → slice_get xs i ≡ Some x → P x
-each_at P [] i x h at = absurd cc
-each_at P (y ∷ ys) zero x h at = let same : y ≡ x = cc in subst P same h.0
-each_at P (y ∷ ys) (suc i) x h at = each_at P ys i x h.1 at
 
 not_crossed : (rs : List Row) (i : ℕ) (r : Row) → list_any is_crossed rs ≡ false → slice_get rs i ≡ Some r → is_crossed r ≡ false
 not_crossed [] i r e at = absurd cc
@@ -100,7 +96,7 @@ constant_row m = when_row (not (int_eq m.constant (pos 0))) (codes "RHS") m.obje
 pub row_decimals_read : (m : Parts) (how : How) → IsCanonical m how → (i : ℕ) (r : Row) → slice_get m.rows i ≡ Some r → row_decimals (lines m) how r.name ≡ r.decimals
 row_decimals_read m how h i r at =
     let text = program_text m h.printable h.limits in
-    let row = each_at IsRowText m.rows i r text.rows at in
+    let row = each_get IsRowText m.rows i r text.rows at in
     let ordered = ordered_from (length m.columns) 0 r.coefs ((h.limits.shape.rows i r at).coefs) ((h.limits.rows i r at).coefs) (λ j l. omega arith) in
     let apart = not_at m.objective (map (λ k. k.name) m.rows) i r.name h.rows.0 (named_at (λ k. k.name) m.rows i r at) in
     let k = r.decimals in
@@ -139,7 +135,7 @@ cost_units_read m how h =
 pub column_read : (m : Parts) (how : How) → IsCanonical m how → (j : ℕ) (c : Column) → slice_get m.columns j ≡ Some c → column_from (lines m) how m.objective m.cost_decimals c.name ≡ c
 column_read m how h j c at =
     let text = program_text m h.printable h.limits in
-    let column = each_at IsColumnText m.columns j c text.columns at in
+    let column = each_get IsColumnText m.columns j c text.columns at in
     let cost : written_at (kept_entries (codes "COLUMNS") (lines m)) m.objective c.name ≡ Some (number_at (value_text m c.cost)) =
     written_at_told (kept_entries (codes "COLUMNS") (lines m)) m.objective c.name ∙ ap (λ ts. told_at ts m.objective c.name) (columns_kept m text) ∙ cost_written m j c h.columns at in
     ap (λ o. made (units m.cost_decimals (unwrap_or o no_number)) (unwrap_or (lower_side (lines m) c.name) (box_low how)) (unwrap_or (upper_side (lines m) c.name) (box_high how))) cost
@@ -155,7 +151,7 @@ column_read m how h j c at =
 pub row_coefs_read : (m : Parts) (how : How) → IsCanonical m how → (i : ℕ) (r : Row) → slice_get m.rows i ≡ Some r → coefs_in (kept_entries (codes "COLUMNS") (lines m)) (column_names (lines m)) r.name r.decimals ≡ r.coefs
 row_coefs_read m how h i r at =
     let text = program_text m h.printable h.limits in
-    let row = each_at IsRowText m.rows i r text.rows at in
+    let row = each_get IsRowText m.rows i r text.rows at in
     let ordered = ordered_from (length m.columns) 0 r.coefs ((h.limits.shape.rows i r at).coefs) ((h.limits.rows i r at).coefs) (λ j l. omega arith) in
     let size : length m.columns ≡ 0 + length (map (λ (c : Column). c.name) m.columns) = same_size m.columns ∙ omega arith in
     ap (λ names. coefs_in (kept_entries (codes "COLUMNS") (lines m)) names r.name r.decimals) (names_read m text h.columns)
@@ -181,7 +177,7 @@ pub row_sides_read : (m : Parts) (how : How) → IsCanonical m how → (i : ℕ)
     → row_sides (kind_text r) r.decimals (unwrap_or (written_for (kept_entries (codes "RHS") (lines m)) r.name) no_number) (written_for (kept_entries (codes "RANGES") (lines m)) r.name) ≡ (r.low, r.high)
 row_sides_read m how h i r at =
     let text = program_text m h.printable h.limits in
-    let row = each_at IsRowText m.rows i r text.rows at in
+    let row = each_get IsRowText m.rows i r text.rows at in
     let apart = not_at m.objective (map (λ k. k.name) m.rows) i r.name h.rows.0 (named_at (λ k. k.name) m.rows i r at) in
     let right : written_for (kept_entries (codes "RHS") (lines m)) r.name ≡ told_for (rhs_told r) r.name =
     written_for_told (kept_entries (codes "RHS") (lines m)) r.name

@@ -62,3 +62,13 @@ CanonicalTextsHaveNoFault = (m : Parts) (how : How) → IsCanonical m how → mp
 -- and what is read is the program
 abbrev pub CanonicalTextsAreReadBack : Type 0
 CanonicalTextsAreReadBack = (m : Parts) (how : How) → IsCanonical m how → model_of (canonical_text m) how ≡ m
+
+-- each printable program that was read of a text without a fault is such a program
+abbrev pub ModelsReadAreCanonical : Type 0
+ModelsReadAreCanonical = (text : List ℕ) (how : How) → how.digits ≤ 9 → mps_fault text how ≡ None → is_printable (model_of text how) ≡ true → IsCanonical (model_of text how) how
+
+-- so its canonical text is read, and gives the program again
+abbrev pub ModelsReadArePrintedAndReadBack : Type 0
+ModelsReadArePrintedAndReadBack =
+    (text : List ℕ) (how : How) → how.digits ≤ 9 → mps_fault text how ≡ None → is_printable (model_of text how) ≡ true
+    → (mps_fault (canonical_text (model_of text how)) how ≡ None) × (model_of (canonical_text (model_of text how)) how ≡ model_of text how)

@@ -3,4 +3,4 @@
 
 mod laws;
 
-pub use laws::canonical_texts_are_read_back;
+pub use laws::{canonical_texts_are_read_back, models_read_are_canonical};

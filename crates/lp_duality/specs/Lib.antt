@@ -1,2 +1,4 @@
+pub mod CertificateDuals
 pub mod Duals
+pub mod Laws
 pub mod Relaxations

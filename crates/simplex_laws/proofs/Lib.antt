@@ -1,0 +1,13 @@
+pub mod AnswerLaws
+pub mod BestLaws
+pub mod ChoiceLaws
+pub mod DualLaws
+pub mod EmptyLaws
+pub mod Examples
+pub mod PointLaws
+pub mod PriceLaws
+pub mod RestLaws
+pub mod RunLaws
+pub mod SideLaws
+pub mod StepLaws
+pub mod StopLaws

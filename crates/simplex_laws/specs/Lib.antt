@@ -1,4 +1,5 @@
 pub mod Finals
+pub mod Laws
 pub mod Runs
 pub mod Steps
 pub mod Wides

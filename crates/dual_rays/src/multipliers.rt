@@ -1,0 +1,46 @@
+ghost use Rattle.std.specs.Prelude.{◌≡◌, ◌^◌, ◌≤◌, length, map, IfOk};
+ghost use Rattle.frac128.specs.Values.{value_of};
+ghost use Rattle.dual_rays.specs.Certificates.{multiplier_of, multipliers_of, values};
+ghost use Rattle.dual_rays.specs.Multiples.{multiple};
+
+use crate::denominators::{LARGEST, denominator};
+use frac128::Frac;
+use ip_defs::{Memory, Multipliers};
+use std::alloc::Global;
+
+/// The numerator of a fraction.
+#[inline]
+pub fn numerator(x: Frac) -> i128
+    ensures { result ≡ (value_of x).top }
+{
+    x.num()
+}
+
+/// A multiple of a fraction, where it is within the limit.
+fn multiplier(q: u128, x: Frac) -> Option<i64>
+    requires { q ≤ 2 ^ 36 }
+    ensures { result ≡ multiplier_of (multiple q (value_of x)) }
+{
+    let times = (q / denominator(x)) as i128;
+    match numerator(x).checked_mul(times) {
+        Some(multiple) if multiple.unsigned_abs() <= LARGEST => Some(multiple as i64),
+        _ => None,
+    }
+}
+
+/// The multiples of fractions by row, those of 0 left out, where each is within the limit.
+pub fn multipliers(alloc: Global, q: u128, prices: &[Frac]) -> Result<Option<Multipliers>, Memory>
+    requires limit { q ≤ 2 ^ 36 }
+    requires size { length prices.now ≤ 1024 }
+    ensures { IfOk result (λ y. y ≡ multipliers_of (map (multiple q) (values prices.now))) }
+{
+    let mut y = Vec::new(alloc);
+    for (row, price) in prices.iter().enumerate() {
+        match multiplier(q, *price) {
+            None => return Ok(None),
+            Some(0) => {}
+            Some(multiple) => y.push((row as u32, multiple))?,
+        }
+    }
+    Ok(Some(Multipliers::from_vec(y)))
+}

@@ -1,0 +1,88 @@
+ghost use Rattle.std.specs.Prelude.{◌≡◌, ◌≢◌, ◌≤◌, length, pos, IfOk, IfSome, option_map};
+ghost use Rattle.frac128.specs.Values.{value_of};
+ghost use Rattle.dual_rays.specs.Certificates.{certificate_of_ray, values};
+ghost use Rattle.dual_rays.specs.Meanings.{IsOfRay, BoundsByRay};
+ghost use Rattle.dual_rays.specs.Quotients.{AreQuotients, first_size as first_size_of, size_of};
+
+use crate::prices::certificate;
+use frac128::{Frac, Wide, div, frac};
+use ip_defs::{Cert, Memory, Multipliers};
+use lp_duality::Fracs;
+use std::alloc::Global;
+
+/// A fraction without its sign.
+fn size(x: Frac) -> Frac
+    ensures { value_of result ≡ size_of (value_of x) }
+{
+    if x.num() < 0 {
+        frac(-x.num(), x.den())
+    } else {
+        x
+    }
+}
+
+/// The size of the first number that is not 0.
+fn first_size(ray: &[Frac]) -> Option<Frac>
+    ensures value { option_map value_of result ≡ first_size_of (values ray.now) }
+    ensures present { IfSome result (λ x. x.num ≢ pos 0) }
+{
+    for number in ray {
+        if number.num() != 0 {
+            return Some(size(*number));
+        }
+    }
+    None
+}
+
+/// Each number divided by another one, where no quotient is wide.
+fn quotients(alloc: Global, ray: &[Frac], size: Frac) -> Result<Option<Vec<Frac>>, Memory>
+    requires { size.num ≢ pos 0 }
+    ensures { IfOk result (λ xs. AreQuotients (values ray.now) (value_of size) (option_map (λ v. v.items) xs)) }
+{
+    let mut quotients = Vec::with_capacity(alloc, ray.len())?;
+    for number in ray {
+        match div(*number, size) {
+            Ok(quotient) => quotients.push(quotient)?,
+            Err(Wide) => return Ok(None),
+        }
+    }
+    Ok(Some(quotients))
+}
+
+/// The certificate of a ray, with its exact answer: the numbers over the size of the first that is not 0 have their least whole multiple
+/// at their least common denominator, which is then the size of a multiplier.
+fn ray_certificate(alloc: Global, ray: &[Frac]) -> Result<Option<Cert>, Memory>
+    requires { length ray.now ≤ 1024 }
+    ensures { IfOk result (λ c. c ≡ certificate_of_ray ray.now) }
+{
+    let size = match first_size(ray) {
+        Some(size) => size,
+        None => {
+            return Ok(Some(Cert {
+                q: 0,
+                y: Multipliers::from_vec(Vec::new(alloc)),
+            }));
+        }
+    };
+    let numbers = match quotients(alloc, ray, size)? {
+        Some(numbers) => numbers,
+        None => return Ok(None),
+    };
+    match certificate(alloc, numbers.as_slice())? {
+        Some(cert) => Ok(Some(Cert { q: 0, y: cert.y })),
+        None => Ok(None),
+    }
+}
+
+/// The certificate of a ray, one number for each row. Its divisor is 0, and its multipliers are the least whole multiple of the ray, a
+/// positive one without a common divisor; rows with 0 are left out. `None` comes exactly where a multiplier passes 2^36 in size.
+///
+/// Over a box where the dual value of the ray is positive its leaf bound is infinite.
+pub fn cert_of_ray(alloc: Global, ray: &Fracs) -> Result<Option<Cert>, Memory>
+    requires { length ray.now ≤ 1024 }
+    ensures exact { IfOk result (λ c. c ≡ certificate_of_ray ray.now) }
+    ensures meaning { IfOk result (λ c. IfSome c (IsOfRay ray.now)) }
+    ensures bound { IfOk result (λ c. IfSome c (BoundsByRay ray.now)) }
+{
+    ray_certificate(alloc, ray.as_slice())
+}

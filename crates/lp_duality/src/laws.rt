@@ -1,0 +1,33 @@
+ghost use Rattle.lp_duality.specs.Laws.{DualsAreScaled, CertificatesHaveTheirDuals, PricesBound, RaysBound, RelaxedWeakDuality, FeasiblePointsAreRelaxed};
+
+/// A positive multiple of a divisor and multipliers has that multiple of their dual value.
+pub fn duals_are_scaled()
+    ensures { DualsAreScaled }
+{}
+
+/// The dual value of a certificate is that of its multipliers, of which the rows that it leaves out have 0.
+pub fn certificates_have_their_duals()
+    ensures { CertificatesHaveTheirDuals }
+{}
+
+/// Where no column of a box is empty, a certificate whose multipliers are its positive divisor times other ones has a leaf bound: the dual
+/// value of those, rounded up.
+pub fn prices_bound()
+    ensures { PricesBound }
+{}
+
+/// A certificate with the divisor 0 whose multipliers are a positive multiple of other ones has an infinite leaf bound, where the dual value
+/// of those is positive. This is the lemma of Farkas over boxes.
+pub fn rays_bound()
+    ensures { RaysBound }
+{}
+
+/// Weak duality over relaxations: a dual value is at most the divisor times the cost of each point of the relaxation.
+pub fn relaxed_weak_duality()
+    ensures { RelaxedWeakDuality }
+{}
+
+/// A feasible point that lies in a box is a point of the relaxation there, and costs the same.
+pub fn feasible_points_are_relaxed()
+    ensures { FeasiblePointsAreRelaxed }
+{}

@@ -1,0 +1,5 @@
+use Rattle.simplex_laws.proofs.BestLaws.{best_is_least}
+use Rattle.simplex_laws.proofs.laws.best_is_least.Goals as goal
+
+pub returns : goal.returns
+returns c = best_is_least

@@ -1,2 +1,2 @@
-pub mod FirstLaws
+pub mod ScanLaws
 pub mod SignLaws

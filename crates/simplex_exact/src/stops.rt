@@ -1,14 +1,14 @@
-ghost use Rattle.std.specs.Prelude.{◌≡◌, ◌≢◌, ◌<◌, ◌≤◌, IfOk, OnErr, length, Ok, option_and_then, option_map, pos};
+ghost use Rattle.std.specs.Prelude.{◌≡◌, ◌≢◌, ◌<◌, ◌≤◌, IfOk, OnErr, length, Ok, option_and_then, option_map, Some, pos};
 ghost use Rattle.frac128.specs.Fractions.{difference_of, quotient_of};
 ghost use Rattle.frac128.specs.Rationals.{Rational, of, sub as less, quotient};
 ghost use Rattle.frac128.specs.Values.{value_of};
 ghost use Rattle.tableau.specs.declared.rests.Rest.TheVariants.{Basic};
-ghost use Rattle.tableau.specs.Tables.{IsTable, entry as entry_at, rest_at, whole as whole_of};
-ghost use Rattle.tableau.specs.Numbers.{and_then, value as value_in};
+ghost use Rattle.tableau.specs.Tables.{IsTable, entry as entry_at, basic_at, rest_at, variable_at, whole as whole_of};
+ghost use Rattle.tableau.specs.Numbers.{and_then, side_at, value as value_in};
 ghost use Rattle.tableau.specs.Nodes.{number};
-ghost use Rattle.tableau.specs.Meanings.{value_number};
+ghost use Rattle.tableau.specs.Meanings.{ratio_number, value_number};
 ghost use Rattle.simplex_laws.specs.declared.next.Next.TheVariants.{Flip};
-ghost use Rattle.simplex_laws.specs.Steps.{room as room_of, side_met as side_met_by, stop_at as stop_in, stop as stop_by, nearer as nearer_of, nearest as nearest_of};
+ghost use Rattle.simplex_laws.specs.Steps.{room as room_of, size_of, side_met as side_met_by, stop_at as stop_in, stop as stop_by, nearer as nearer_of, nearest as nearest_of};
 ghost use Rattle.simplex_laws.specs.Wides.{HasWideNumber};
 ghost use Rattle.simplex_exact.specs.Numbers.{place_of, ArePlaces, IsNumber, AreNumbersBelow, stop_value};
 
@@ -43,7 +43,32 @@ fn ratio(value: Frac, side: i64, entry: Frac) -> Result<Frac, Wide>
     }
 }
 
-/// The stop of a variable by a row's basic variable at a side.
+/// How far a variable can go until a row's basic variable meets a side that it has.
+fn distance(
+    tableau: &Tableau,
+    value: Frac,
+    row: u32,
+    var: u32,
+    side: Rest,
+    there: i64,
+) -> Result<Frac, Wide>
+    requires row { row < length tableau.now.rows }
+    requires variable { var < length tableau.now.variables }
+    requires value { value_in tableau.now row ≡ Ok value }
+    requires number { value_of value ≡ value_number tableau.now row }
+    requires free { rest_at tableau.now.rests var ≢ Basic }
+    requires pivot { (entry_at tableau.now.rows row var).num ≢ pos 0 }
+    requires side { side_at (variable_at tableau.now.variables (basic_at tableau.now.basics row)) side ≡ Some there }
+    ensures size { IfOk result (λ x. value_of x ≡ size_of (ratio_number tableau.now row var side)) }
+    ensures wide { OnErr result (HasWideNumber tableau.now) }
+{
+    match ratio(value, there, tableau.entry(row, var)) {
+        Ok(far) => Ok(size(far)),
+        Err(Wide) => Err(Wide),
+    }
+}
+
+/// The stop of a variable by a row's basic variable at a side, where it has that side.
 fn stop_at(
     tableau: &Tableau,
     value: Frac,
@@ -64,14 +89,14 @@ fn stop_at(
         Some(there) => there,
         None => return Ok(None),
     };
-    match ratio(value, there, tableau.entry(row, var)) {
+    match distance(tableau, value, row, var, side, there) {
         Ok(far) => {
             let next = Next::Pivot {
                 row,
                 var,
                 leaving: side,
             };
-            Ok(Some((size(far), next)))
+            Ok(Some((far, next)))
         }
         Err(Wide) => Err(Wide),
     }

@@ -1,29 +1,23 @@
-use Rattle.std.proofs.Common.{rules, ◌≡◌, ◌≢◌, ◌<◌, IfOk, OnErr, length, Ok, ℕ, ◌+◌, ◌-◌, ◌*◌, ◌≤◌, ◌/◌, ◌%◌, Bool, true, false, nat_eq, nat_lt, List, [], ◌∷◌, ◌++◌, slice_index_or, slice_set, bit_and, bit_or, Fits, w8, w32, w64, Bor, MutBor}
-use Rattle.tableau.specs.declared.rests.Rest.TheVariants.{Basic}
-use Rattle.tableau.specs.Tables.{IsTable, rest_at}
-use Rattle.simplex_laws.specs.declared.next.Next.TheVariants.{FinalPoint}
-use Rattle.simplex_laws.specs.Steps.{entering as entering_at}
-use Rattle.simplex_laws.specs.Steps.{improve as improve_by}
-use Rattle.simplex_laws.specs.Steps.{mend as mend_by}
-use Rattle.simplex_laws.specs.Steps.{mender as mender_at}
-use Rattle.simplex_laws.specs.Steps.{move as move_of}
-use Rattle.simplex_laws.specs.Steps.{next as next_of}
-use Rattle.simplex_laws.specs.Wides.{HasWideNumber}
-use Rattle.simplex_exact.specs.Numbers.{ArePlaces, AreNumbersBelow}
+use Rattle.std.proofs.Common.{◌∙◌, sym, ap, subst, ◌≡◌, ℕ, Bool, Option, Some, None, IfOk}
+use Rattle.simplex_laws.specs.declared.next.Next.{Next}
+use Rattle.simplex_laws.specs.Steps.{next, by_breach}
+use Rattle.simplex_laws.proofs.StepLaws.{first_breach}
 use Rattle.simplex_exact.proofs.choices.choose.Goals as goal
 
--- src/choices.rt:99:35
 pub mend-requires-clause-row : goal.mend-requires-clause-row
-mend-requires-clause-row c = ?
+mend-requires-clause-row c =
+    let x : ℕ × Bool = (c.in-Ok-Some.row, c.in-Ok-Some.up) in
+    (first_breach c.args.tableau.now c.requires.table x (sym c.in-Ok-Some.ensures.breach ∙ c.in-Ok-Some.field-0-is)).0
 
--- src/choices.rt:82:1
 pub returns-in-Ok-Some-clause-next : goal.returns-in-Ok-Some-clause-next
-returns-in-Ok-Some-clause-next c = ?
+unfolding next
+returns-in-Ok-Some-clause-next c = c.mend.ensures.next ∙ ap (by_breach c.args.tableau.now) (sym c.in-Ok-Some.field-0-is ∙ c.in-Ok-Some.ensures.breach)
 
--- src/choices.rt:82:1
 pub returns-in-Ok-None-clause-next : goal.returns-in-Ok-None-clause-next
-returns-in-Ok-None-clause-next c = ?
+unfolding next
+returns-in-Ok-None-clause-next c =
+    let T = c.args.tableau.now in
+    subst (λ (z : Next). IfOk c.improve.result (λ n. n ≡ z)) (ap (by_breach T) (sym c.in-Ok-None.field-0-is ∙ c.in-Ok-None.ensures.breach)) c.improve.ensures.next
 
--- src/choices.rt:82:1
 pub returns-in-Err-clause-wide : goal.returns-in-Err-clause-wide
-returns-in-Err-clause-wide c = ?
+returns-in-Err-clause-wide c = c.in-Err.ensures.wide

@@ -1,25 +1,11 @@
-use Rattle.std.proofs.Common.{rules, ◌≡◌, ◌≢◌, ◌<◌, IfOk, OnErr, length, Ok, ℕ, ◌+◌, ◌-◌, ◌*◌, ◌≤◌, ◌/◌, ◌%◌, Bool, true, false, nat_eq, nat_lt, List, [], ◌∷◌, ◌++◌, slice_index_or, slice_set, bit_and, bit_or, Fits, w8, w32, w64, Bor, MutBor}
-use Rattle.tableau.specs.declared.rests.Rest.TheVariants.{Basic}
-use Rattle.tableau.specs.Tables.{IsTable, rest_at}
-use Rattle.simplex_laws.specs.declared.next.Next.TheVariants.{FinalPoint}
-use Rattle.simplex_laws.specs.Steps.{entering as entering_at}
-use Rattle.simplex_laws.specs.Steps.{improve as improve_by}
-use Rattle.simplex_laws.specs.Steps.{mend as mend_by}
-use Rattle.simplex_laws.specs.Steps.{mender as mender_at}
-use Rattle.simplex_laws.specs.Steps.{move as move_of}
-use Rattle.simplex_laws.specs.Steps.{next as next_of}
-use Rattle.simplex_laws.specs.Wides.{HasWideNumber}
-use Rattle.simplex_exact.specs.Numbers.{ArePlaces, AreNumbersBelow}
+use Rattle.simplex_exact.proofs.ScanLaws.{enters}
 use Rattle.simplex_exact.proofs.choices.improve.Goals as goal
 
--- src/choices.rt:75:32
 pub go-requires-clause-variable : goal.go-requires-clause-variable
-go-requires-clause-variable c = ?
+go-requires-clause-variable c = (enters c.args.tableau.now c.in-Ok-Some.var c.in-Ok-Some.up c.in-Ok-Some.field-0 c.in-Ok-Some.ensures.first c.in-Ok-Some.field-0-is).0
 
--- src/choices.rt:75:32
 pub go-requires-clause-free : goal.go-requires-clause-free
-go-requires-clause-free c = ?
+go-requires-clause-free c = (enters c.args.tableau.now c.in-Ok-Some.var c.in-Ok-Some.up c.in-Ok-Some.field-0 c.in-Ok-Some.ensures.first c.in-Ok-Some.field-0-is).1
 
--- src/choices.rt:60:1
 pub returns-in-Err-clause-wide : goal.returns-in-Err-clause-wide
-returns-in-Err-clause-wide c = ?
+returns-in-Err-clause-wide c = c.in-Err.ensures.wide

@@ -1,19 +1,17 @@
-use Rattle.std.proofs.Common.{rules, ◌≡◌, ◌<◌, ◌≤◌, ◌+◌, IfOk, MatchOption, length, ℕ, ◌-◌, ◌*◌, ◌/◌, ◌%◌, Bool, true, false, nat_eq, nat_lt, List, [], ◌∷◌, ◌++◌, slice_index_or, slice_set, bit_and, bit_or, Fits, w8, w32, w64, Bor, MutBor}
-use Rattle.tableau.specs.Tables.{Table, IsTable}
-use Rattle.tableau.specs.Nodes.{number}
+use Rattle.std.proofs.Common.{arith, subst, ◌+◌, ℕ, Option, List, MatchOption}
+use Rattle.frac128.specs.Fractions.{Fraction}
 use Rattle.tableau.specs.Meanings.{price_number}
 use Rattle.simplex_laws.specs.Wides.{HasWideNumber}
-use Rattle.simplex_laws.specs.Finals.{point_of}
 use Rattle.simplex_exact.specs.Answers.{AreNumbers}
-use Rattle.simplex_exact.specs.Numbers.{AreNumbersBelow}
-use Rattle.simplex_exact.specs.Numbers.{turned as turned_number}
-use Rattle.simplex_exact.specs.Reads.{IsPointRead, IsRayRead}
 use Rattle.simplex_exact.proofs.finals.best.Goals as goal
 
--- src/finals.rt:73:1
 pub returns-in-Some : goal.returns-in-Some
-returns-in-Some c = ?
+returns-in-Some c =
+    let T = c.args.tableau.now in
+    (c.in_ok-point.ensures T (λ v h. c.requires.values v (omega arith)),
+    subst (λ (o : Option (List Fraction)). MatchOption o (HasWideNumber T) (AreNumbers c.args.rows (λ k. price_number T (c.args.columns + k)))) c.in-Some.is c.in_ok-prices.ensures)
 
--- src/finals.rt:73:1
 pub returns-in-None : goal.returns-in-None
-returns-in-None c = ?
+returns-in-None c =
+    let T = c.args.tableau.now in
+    subst (λ (o : Option (List Fraction)). MatchOption o (HasWideNumber T) (AreNumbers c.args.rows (λ k. price_number T (c.args.columns + k)))) c.in-None.is c.in_ok-prices.ensures

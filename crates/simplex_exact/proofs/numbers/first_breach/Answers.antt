@@ -1,11 +1,10 @@
-use Rattle.std.proofs.Common.{rules, ◌≡◌, ◌<◌, ◌≤◌, ℕ, IfOk, OnErr, length, None, Ok, slice_index_or, ◌+◌, ◌-◌, ◌*◌, ◌/◌, ◌%◌, Bool, true, false, nat_eq, nat_lt, List, [], ◌∷◌, ◌++◌, slice_set, bit_and, bit_or, Fits, w8, w32, w64, Bor, MutBor}
-use Rattle.tableau.specs.Tables.{IsTable}
-use Rattle.simplex_laws.specs.Steps.{first}
-use Rattle.simplex_laws.specs.Steps.{breach as breach_at}
-use Rattle.simplex_laws.specs.Wides.{HasWideNumber}
-use Rattle.simplex_exact.specs.Numbers.{place_of, ArePlaces, IsNumber, AreNumbersBelow}
+use Rattle.std.proofs.Common.{◌∙◌, sym, length, arith, ◌<◌}
+use Rattle.simplex_laws.specs.Steps.{breach}
+use Rattle.simplex_laws.proofs.ChoiceLaws.{first_at}
 use Rattle.simplex_exact.proofs.numbers.first_breach.Goals as goal
 
--- src/numbers.rt:100:28
 pub returns-in-Some-clause-breach : goal.returns-in-Some-clause-breach
-returns-in-Some-clause-breach c = ?
+returns-in-Some-clause-breach c =
+    let T = c.args.tableau.now in
+    let inside : c.loop-v.v < length T.variables = omega arith in
+    sym (first_at (breach T) c.loop-v.v (length T.variables) c.in-Some.found c.loop-v.invariant.none (sym c.breach.ensures ∙ c.in-Some.is) inside)

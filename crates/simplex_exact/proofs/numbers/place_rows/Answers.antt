@@ -1,11 +1,18 @@
-use Rattle.std.proofs.Common.{rules, ◌≡◌, ◌<◌, ◌≤◌, ℕ, IfOk, OnErr, length, None, Ok, slice_index_or, ◌+◌, ◌-◌, ◌*◌, ◌/◌, ◌%◌, Bool, true, false, nat_eq, nat_lt, List, [], ◌∷◌, ◌++◌, slice_set, bit_and, bit_or, Fits, w8, w32, w64, Bor, MutBor}
-use Rattle.tableau.specs.Tables.{IsTable}
-use Rattle.simplex_laws.specs.Steps.{first}
-use Rattle.simplex_laws.specs.Steps.{breach as breach_at}
-use Rattle.simplex_laws.specs.Wides.{HasWideNumber}
-use Rattle.simplex_exact.specs.Numbers.{place_of, ArePlaces, IsNumber, AreNumbersBelow}
+use Rattle.std.proofs.Common.{arith, ◌≡◌, ◌≢◌, ◌<◌, ◌∙◌, sym, ap, subst, length, ℕ, List, Option, slice_index_or, None, Some, get_or, get_or-set_same, get_or-set_other}
+use Rattle.simplex_exact.proofs.ScanLaws.{place_step, placed_here, placed_there, kept_here}
+use Rattle.simplex_exact.proofs.numbers.place_rows.Goals.{then-is_none, else-is_none}
 use Rattle.simplex_exact.proofs.numbers.place_rows.Goals as goal
 
--- src/numbers.rt:28:5
 pub loop-row-preserved : goal.loop-row-preserved
-loop-row-preserved c = ?
+loop-row-preserved c = λ v h.
+    let T = c.args.tableau.now in
+    let row = c.loop-row.row in
+    let basic = c.basic-basic.result in
+    let places = c.loop-row.places in
+    let is : basic ≡ get_or T.basics row 0 = c.basic-basic.ensures.basic in
+    let size = c.requires.table.basics in
+    let inside : row < length T.basics = omega arith in
+    let room : basic < length places = omega arith in
+    place_step places c.if-is_none.places T.basics row v inside (c.loop-row.invariant v h)
+    (λ e. elim c.if-is_none.branch [ then-is_none w ↦ placed_here places c.if-is_none.places basic row v w.places-is room w.if-is_none.ensures (is ∙ e) | else-is_none w ↦ kept_here places c.if-is_none.places basic row v w.places-is w.if-is_none.ensures (is ∙ e) ])
+    (λ n. elim c.if-is_none.branch [ then-is_none w ↦ placed_there places c.if-is_none.places basic row v w.places-is (λ e. n (sym is ∙ e)) | else-is_none w ↦ ap (λ (xs : List (Option ℕ)). slice_index_or xs v None) w.places-is ])

@@ -1,8 +1,9 @@
-use Rattle.std.proofs.Common.{arith, ap, ◌∙◌, ◌≡◌, ◌≤ℤ◌, false, pos, neg_ℤ, to_z, of_z}
+use Rattle.std.proofs.Common.{arith, ap, ◌∙◌, ◌≡◌, ◌<ℤ◌, false, pos, neg_ℤ, cond}
 use Rattle.std.proofs.lemmas.Int.{ints}
-use Rattle.std.specs.Prelude.{int_lt}
+use Rattle.std.specs.Prelude.{int_lt, ℤ, if◌then◌else◌}
 use Rattle.std.specs.Int.{w128}
-use Rattle.frac128.specs.Fractions.{reduced_of}
+use Rattle.std.proofs.Common.{to_z, of_z, ◌-ℤ◌}
+use Rattle.frac128.specs.Fractions.{reduced_of, lowest_of}
 use Rattle.simplex_exact.proofs.SignLaws.{negative_value}
 use Rattle.simplex_exact.proofs.signs.negative.Goals as goal
 
@@ -10,4 +11,10 @@ pub returns : goal.returns
 returns c =
     let x = c.args.x in
     let p = c.num.ensures.fraction in
-    negative_value x c.frac.result p ?
+    let positive = p.positive in
+    let num : to_z w128 (of_z w128 (pos 0 -ℤ to_z w128 (of_z w128 c.num.result))) ≡ neg_ℤ x.num = omega (arith, ints) in
+    let den : to_z w128 (of_z w128 c.den.result) ≡ x.den = omega (arith, ints) in
+    let up : int_lt x.den (pos 0) ≡ false = grind (arith, ints) in
+    negative_value x c.frac.result p
+    (c.frac.ensures.value ∙ ap (λ n. reduced_of n (to_z w128 (of_z w128 c.den.result))) num ∙ ap (λ d. reduced_of (neg_ℤ x.num) d) den
+    ∙ ap (λ t. if t then lowest_of (neg_ℤ (neg_ℤ x.num)) (neg_ℤ x.den) else lowest_of (neg_ℤ x.num) x.den) up)

@@ -1,20 +1,16 @@
-use Rattle.std.proofs.Common.{rules, ◌≡◌, ◌<◌, ◌≤◌, ◌^◌, length, IfOk, OnOk, OnErr, option_map, ℕ, ◌+◌, ◌-◌, ◌*◌, ◌/◌, ◌%◌, Bool, true, false, nat_eq, nat_lt, List, [], ◌∷◌, ◌++◌, slice_index_or, slice_set, bit_and, bit_or, Fits, w8, w32, w64, Bor, MutBor}
-use Rattle.frac128.specs.Rationals.{Rational}
-use Rattle.frac128.specs.Values.{value_of}
-use Rattle.tableau.specs.Nodes.{number}
-use Rattle.tableau.specs.Meanings.{price_number}
-use Rattle.simplex_laws.specs.Steps.{can_go as can_go_at}
-use Rattle.simplex_laws.specs.Steps.{way as way_at}
-use Rattle.simplex_laws.specs.Steps.{mender as mender_at}
-use Rattle.simplex_laws.specs.Steps.{entering as entering_at}
-use Rattle.simplex_laws.specs.Wides.{HasWideNumber}
-use Rattle.simplex_exact.specs.Numbers.{turned}
+use Rattle.std.proofs.Common.{◌∙◌, ◌≡◌, sym, ap, length, arith, ◌<◌, ℕ, Bool, Option, Some, option_map}
+use Rattle.simplex_laws.proofs.ChoiceLaws.{first_at}
+use Rattle.simplex_exact.proofs.ScanLaws.{lowering}
 use Rattle.simplex_exact.proofs.ways.entering.Goals as goal
 
--- src/ways.rt:83:29
 pub returns-in-Ok-Some-clause-first : goal.returns-in-Ok-Some-clause-first
-returns-in-Ok-Some-clause-first c = ?
+returns-in-Ok-Some-clause-first c =
+    let T = c.args.tableau.now in
+    let v = c.loop-var.var in
+    let go : Bool → ℕ × Bool = λ up. (v, up) in
+    let inside : v < length T.variables = omega arith in
+    let found : lowering T v ≡ Some (go c.in-Ok-Some.up) = ap (option_map go) (sym c.in-Ok-Some.ensures.way ∙ c.in-Ok-Some.field-0-is) in
+    sym (first_at (lowering T) v (length T.variables) (go c.in-Ok-Some.up) c.loop-var.invariant found inside)
 
--- src/ways.rt:85:26
 pub returns-in-Err-clause-wide : goal.returns-in-Err-clause-wide
-returns-in-Err-clause-wide c = ?
+returns-in-Err-clause-wide c = c.in-Err.ensures.wide

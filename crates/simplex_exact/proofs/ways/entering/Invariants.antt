@@ -1,6 +1,6 @@
 use Rattle.std.proofs.Common.{◌≡◌, None}
 use Rattle.simplex_laws.specs.Steps.{first, way}
-use Rattle.simplex_exact.proofs.FirstLaws.{lowering}
+use Rattle.simplex_exact.proofs.ScanLaws.{lowering}
 use Rattle.simplex_exact.proofs.ways.entering.Given as goal
 
 abbrev pub invariant-loop-var : goal.invariant-loop-var

@@ -1,16 +1,14 @@
-use Rattle.std.proofs.Common.{rules, ◌≡◌, ◌<◌, ◌≤◌, ◌^◌, length, IfOk, OnOk, OnErr, option_map, ℕ, ◌+◌, ◌-◌, ◌*◌, ◌/◌, ◌%◌, Bool, true, false, nat_eq, nat_lt, List, [], ◌∷◌, ◌++◌, slice_index_or, slice_set, bit_and, bit_or, Fits, w8, w32, w64, Bor, MutBor}
-use Rattle.frac128.specs.Rationals.{Rational}
-use Rattle.frac128.specs.Values.{value_of}
+use Rattle.std.proofs.Common.{◌∙◌, sym, ap, length, arith, ◌<◌, option_map}
 use Rattle.tableau.specs.Nodes.{number}
-use Rattle.tableau.specs.Meanings.{price_number}
-use Rattle.simplex_laws.specs.Steps.{can_go as can_go_at}
-use Rattle.simplex_laws.specs.Steps.{way as way_at}
-use Rattle.simplex_laws.specs.Steps.{mender as mender_at}
-use Rattle.simplex_laws.specs.Steps.{entering as entering_at}
-use Rattle.simplex_laws.specs.Wides.{HasWideNumber}
+use Rattle.simplex_laws.specs.Steps.{way}
+use Rattle.simplex_laws.proofs.ChoiceLaws.{first_at}
 use Rattle.simplex_exact.specs.Numbers.{turned}
 use Rattle.simplex_exact.proofs.ways.mender.Goals as goal
 
--- src/ways.rt:53:24
 pub returns-in-Some : goal.returns-in-Some
-returns-in-Some c = ?
+returns-in-Some c =
+    let T = c.args.tableau.now in
+    let v = c.loop-var.var in
+    let inside : v < length T.variables = omega arith in
+    sym (first_at (λ v. option_map (λ go. v) (way T (turned c.args.up (number T c.args.row v)) v)) v (length T.variables) v c.loop-var.invariant
+    (ap (option_map (λ go. v)) (sym c.mending_way.ensures ∙ c.in-Some.is)) inside)

@@ -1,9 +1,10 @@
 -- What the loops of a step find.
-use Rattle.std.specs.Prelude.{◌≡◌, ◌≢◌, ℕ, zero, suc, ◌+◌, ◌<◌, ◌==◌, Bool, true, false, if◌then◌else◌, List, [], ◌∷◌, ◌++◌, Option, Some, None, option_map, option_and_then, length, slice_index_or, slice_set, nat_lt, cond, not, Result, Ok, Err, OnErr, ℤ, pos}
+use Rattle.std.specs.Prelude.{◌≡◌, ◌≢◌, ℕ, suc, ◌+◌, ◌<◌, ◌==◌, Bool, true, false, if◌then◌else◌, List, [], ◌∷◌, ◌++◌, Option, Some, None, option_map, length, slice_index_or, slice_set, nat_lt, cond, not, Result, Ok, Err, OnErr, ℤ, pos}
 use Rattle.std.specs.List.{position, prefix_len}
 use Rattle.std.specs.Option.{is_some}
 use Rattle.std.specs.Int.Signed.{lt_z}
-use Rattle.std.proofs.Common.{arith, refl, ap, sym, ◌∙◌, take, get_or, get_or-set_same, get_or-set_other}
+use Rattle.std.proofs.Common.{arith, refl, ap, sym, ◌∙◌, take, drop, get_or, get_or-set_same, get_or-set_other}
+use Rattle.std.proofs.Math.Seq.{take-append_seam}
 use Rattle.std.proofs.lemmas.Bool.{eqb-true, eqb-false}
 use borrow.Author.Tests.{ltb-true, ltb-false}
 use Rattle.std.proofs.lemmas.List.{take_more, length-take-le}
@@ -48,6 +49,7 @@ position_cons p x xs = by (p x) refl
     from t =
         let n = cond (not t) (1 + prefix_len (λ x. not (p x)) xs) 0 in
         cond (nat_lt n (suc (length xs))) (Some n) None
+
     by : (t : Bool) → p x ≡ t → position p (x ∷ xs) ≡ (if t then Some 0 else option_map suc (position p xs))
     by true e = ap from e ∙ ap (λ t. cond t (Some 0) None) (is_below 0 (suc (length xs)) (omega arith))
     by false e = ap from e ∙ next_place (prefix_len (λ x. not (p x)) xs) (length xs)
@@ -77,6 +79,7 @@ place_step places new basics row v l old here elsewhere =
     kept : (o : Option ℕ) → o ≡ or_else o None
     kept None = refl
     kept (Some x) = refl
+
     by : (t : Bool) → (get_or basics row 0 == v) ≡ t → slice_index_or new v None ≡ or_else (position (λ w. w == v) (take row basics)) (if t then Some row else None)
     by true e = here (eqb-true (get_or basics row 0) v e) ∙ ap (λ o. or_else o (Some row)) old
     by false e = elsewhere (eqb-false (get_or basics row 0) v e) ∙ old ∙ kept (position (λ w. w == v) (take row basics))
@@ -125,3 +128,7 @@ ratio_wide T x i v side there o w value side_is is wide =
 pub wide_answer : {A : Type 0} {P : Type 0} (o : Result A Wide) → ((w : Wide) → o ≡ Err w → P) → OnErr o P
 wide_answer (Ok x) f = tt
 wide_answer (Err w) f = f w refl
+
+-- what a slice of a whole vector leaves is the vector
+pub written_back : {X : Type 0} (k : ℕ) (new old : List X) → k ≡ length new → take k (new ++ drop (length new) old) ≡ new
+written_back k new old e = ap (λ n. take n (new ++ drop (length new) old)) e ∙ take-append_seam new (drop (length new) old)

@@ -1,13 +1,13 @@
 -- The sign and the order of a number, by the parts of its fraction.
-use Rattle.std.specs.Prelude.{◌≡◌, ◌≢◌, ◌==◌, Bool, true, false, if◌then◌else◌, ℤ, pos, neg_ℤ, ◌*ℤ◌, int_lt, ◌<ℤ◌, ◌≤ℤ◌}
+use Rattle.std.specs.Prelude.{◌≡◌, ◌≢◌, ◌==◌, true, false, if◌then◌else◌, ℤ, pos, neg_ℤ, ◌*ℤ◌, ◌<ℤ◌, ◌≤ℤ◌}
 use Rattle.std.specs.Int.Signed.{lt_z}
 use Rattle.std.specs.Ordering.{ordering_index}
 use Rattle.std.specs.declared.cmp.Ordering.{Ordering}
 use Rattle.std.specs.declared.cmp.Ordering.TheVariants.{Less, Equal, Greater}
-use Rattle.std.proofs.Common.{arith, refl, ap, sym, ◌∙◌, subst}
+use Rattle.std.proofs.Common.{arith, refl, ap, sym, ◌∙◌}
 use Rattle.std.proofs.lemmas.Int.{ints}
-use Rattle.frac128.specs.Fractions.{Fraction, IsFraction, reduced_of, negative_of, lowest_of}
-use Rattle.frac128.specs.Rationals.{Rational, bottom, of, neg, rational, AtMost, IsBelow}
+use Rattle.frac128.specs.Fractions.{Fraction, IsFraction, negative_of, lowest_of}
+use Rattle.frac128.specs.Rationals.{Rational, bottom, neg, AtMost, IsBelow}
 use Rattle.frac128.specs.Values.{value_of, IsOrder}
 use Rattle.frac128.proofs.Rationals.{unique}
 use Rattle.frac128.proofs.Order.{at_most_cross}
@@ -15,7 +15,6 @@ use Rattle.frac128.proofs.Fractions.{lowest-is}
 use Rattle.frac128.proofs.FractionLaws.{lowest-value, negative-value, IsFraction-negative}
 use Rattle.lp_duality.specs.Duals.{is_below}
 use Rattle.simplex_laws.specs.Steps.{size_of}
-use Rattle.simplex_exact.specs.Numbers.{turned}
 
 -- ---- parts
 pub value_top : (x : Fraction) → IsFraction x.num x.den → (value_of x).top ≡ x.num

@@ -1,8 +1,6 @@
 -- What is read off a final tableau, before anything is said of a node.
-use Rattle.std.specs.Prelude.{◌≡◌, ◌≢◌, ℕ, ◌+◌, ◌<◌, Bool, List, length, None, pos}
-use Rattle.tableau.specs.declared.rests.Rest.{Rest}
-use Rattle.tableau.specs.declared.rests.Rest.TheVariants.{Basic}
-use Rattle.tableau.specs.Tables.{Table, entry, basic_at, rest_at, variable_at, CanRest}
+use Rattle.std.specs.Prelude.{ℕ, ◌+◌, Bool}
+use Rattle.tableau.specs.Tables.{Table}
 use Rattle.tableau.specs.Nodes.{number}
 use Rattle.tableau.specs.Meanings.{price_number}
 use Rattle.simplex_laws.specs.declared.next.Next.{Next}
@@ -28,9 +26,9 @@ IsRayRead T row up columns rows (Empty ray) = AreNumbers rows (λ k. turned up (
 IsRayRead T row up columns rows Stopped = ⊥
 IsRayRead T row up columns rows Wide = ⊥
 
--- a tableau can take a step
-abbrev pub CanTake : Table → Next → Type 0
-CanTake T (Pivot r v leaving) = (r < length T.rows) × (v < length T.variables) × ((entry T.rows r v).num ≢ pos 0) × (rest_at T.rests v ≢ Basic) × CanRest (variable_at T.variables (basic_at T.basics r)) leaving
-CanTake T (Flip v) = (v < length T.variables) × ((variable_at T.variables v).low ≢ None) × ((variable_at T.variables v).high ≢ None) × CanRest (variable_at T.variables v) (rest_at T.rests v)
-CanTake T (FinalRow i up) = ⊥
-CanTake T FinalPoint = ⊥
+-- what is read off a tableau that is final so
+abbrev pub IsRead : Table → ℕ → ℕ → Next → LpAnswer → Type 0
+IsRead T columns rows (Pivot r v leaving) answer = ⊥
+IsRead T columns rows (Flip v) answer = ⊥
+IsRead T columns rows (FinalRow i up) answer = IsRayRead T i up columns rows answer
+IsRead T columns rows FinalPoint answer = IsPointRead T columns rows answer

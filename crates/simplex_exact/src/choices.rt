@@ -57,11 +57,7 @@ fn go(
 }
 
 /// What is next where each basic variable is within its sides.
-fn improve(
-    tableau: &Tableau,
-    places: &[Option<u32>],
-    values: &[Frac],
-) -> Result<Next, Wide>
+fn improve(tableau: &Tableau, places: &[Option<u32>], values: &[Frac]) -> Result<Next, Wide>
     requires table { IsTable tableau.now }
     requires small { length places.now < 8192 }
     requires count { length places.now ≡ length tableau.now.variables }

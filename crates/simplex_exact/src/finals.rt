@@ -1,17 +1,21 @@
-ghost use Rattle.std.specs.Prelude.{◌≡◌, ◌<◌, ◌≤◌, ◌+◌, IfOk, MatchOption, length};
+ghost use Rattle.std.specs.Prelude.{◌≡◌, ◌<◌, ◌≤◌, ◌+◌, IfOk, MatchOption, length, true};
 ghost use Rattle.tableau.specs.Tables.{Table, IsTable};
 ghost use Rattle.tableau.specs.Nodes.{number};
 ghost use Rattle.tableau.specs.Meanings.{price_number};
+ghost use Rattle.simplex_laws.specs.declared.next.Next.TheVariants.{FinalPoint};
+ghost use Rattle.simplex_laws.specs.Laws.{CanStep};
+ghost use Rattle.simplex_laws.specs.Steps.{is_final};
 ghost use Rattle.simplex_laws.specs.Wides.{HasWideNumber};
 ghost use Rattle.simplex_laws.specs.Finals.{point_of};
 ghost use Rattle.simplex_exact.specs.Answers.{AreNumbers};
 ghost use Rattle.simplex_exact.specs.Numbers.{AreNumbersBelow, turned as turned_number};
-ghost use Rattle.simplex_exact.specs.Reads.{IsPointRead, IsRayRead};
+ghost use Rattle.simplex_exact.specs.Reads.{IsPointRead, IsRayRead, IsRead};
 
 use crate::LpAnswer;
 use crate::signs::turned;
 use ip_defs::Memory;
 use lp_duality::Fracs;
+use simplex_laws::Next;
 use std::alloc::Global;
 use tableau::{Frac, Tableau, Wide};
 
@@ -70,7 +74,7 @@ fn ray(
 }
 
 /// The answer of a tableau that is final with a point.
-pub fn best(
+fn best(
     alloc: Global,
     tableau: &Tableau,
     values: &[Frac],
@@ -91,7 +95,7 @@ pub fn best(
 }
 
 /// The answer of a tableau that is final by a row.
-pub fn empty(
+fn empty(
     alloc: Global,
     tableau: &Tableau,
     row: u32,
@@ -106,4 +110,33 @@ pub fn empty(
 {
     let ray = ray(alloc, tableau, row, up, columns, rows)?;
     Ok(LpAnswer::Empty { ray })
+}
+
+/// The answer of a final tableau.
+pub fn read(
+    alloc: Global,
+    tableau: &Tableau,
+    values: &[Frac],
+    next: Next,
+    columns: u32,
+    rows: u32,
+) -> Result<LpAnswer, Memory>
+    requires small { columns + rows < 8192 }
+    requires count { columns + rows ≡ length tableau.now.variables }
+    requires size { length values.now ≡ length tableau.now.variables }
+    requires ended { is_final next ≡ true }
+    requires step { CanStep tableau.now next }
+    requires values { next ≡ FinalPoint → AreNumbersBelow tableau.now values.now (length tableau.now.variables) }
+    ensures { IfOk result (IsRead tableau.now columns rows next) }
+{
+    match next {
+        Next::FinalPoint => best(alloc, tableau, values, columns, rows),
+        Next::FinalRow { row, up } => empty(alloc, tableau, row, up, columns, rows),
+        Next::Pivot {
+            row: _,
+            var: _,
+            leaving: _,
+        }
+        | Next::Flip { var: _ } => unreachable!(),
+    }
 }

@@ -51,12 +51,7 @@ fn number(tableau: &Tableau, place: Option<u32>, var: u32) -> Result<Frac, Wide>
 }
 
 /// The row of a variable that is outside its sides, and whether it has to rise.
-fn breach(
-    tableau: &Tableau,
-    place: Option<u32>,
-    number: Frac,
-    var: u32,
-) -> Option<(u32, bool)>
+fn breach(tableau: &Tableau, place: Option<u32>, number: Frac, var: u32) -> Option<(u32, bool)>
     requires variable { var < length tableau.now.variables }
     requires place { place ≡ place_of tableau.now var }
     requires number { IsNumber tableau.now var number }

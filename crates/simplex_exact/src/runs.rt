@@ -1,17 +1,16 @@
-ghost use Rattle.std.specs.Prelude.{◌≡◌, ◌≤◌, ◌+◌, false, length, IfOk, OnOk, OnErr, List, ℤ, None, Ok, Err};
+ghost use Rattle.std.specs.Prelude.{◌≡◌, ◌≤◌, ◌+◌, false, length, IfOk, OnOk, OnErr, None, Ok, Err};
 ghost use Rattle.std.specs.List.{list_any};
 ghost use Rattle.ip_defs.specs.Certificates.{is_empty_side};
-ghost use Rattle.ip_defs.specs.declared.programs.Parts.{Parts};
 ghost use Rattle.ip_model.specs.Sizes.{first_crossed};
-ghost use Rattle.tableau.specs.Nodes.{StandsFor, HasItsPoints};
+ghost use Rattle.simplex_laws.specs.Laws.{CanStep};
 ghost use Rattle.simplex_laws.specs.Runs.{step};
+ghost use Rattle.simplex_laws.specs.Steps.{is_final};
 ghost use Rattle.simplex_exact.specs.declared.answers.LpAnswer.TheVariants.{Stopped};
 ghost use Rattle.simplex_exact.specs.Answers.{IsLpAnswer};
-ghost use Rattle.simplex_exact.specs.Reads.{CanTake};
 
 use crate::LpAnswer;
 use crate::choices::choose;
-use crate::finals::{best, empty};
+use crate::finals::read;
 use crate::signs::whole;
 use ip_defs::{Area, Memory};
 use ip_model::IntModel;
@@ -20,13 +19,27 @@ use std::alloc::Global;
 use std::sync::ledger::Ledger;
 use tableau::{Steps, Tableau, Wide, start};
 
+/// Whether a tableau that is next to go so is final.
+fn ends(next: Next) -> bool
+    ensures { result ≡ is_final next }
+{
+    match next {
+        Next::FinalRow { row: _, up: _ } | Next::FinalPoint => true,
+        Next::Pivot {
+            row: _,
+            var: _,
+            leaving: _,
+        }
+        | Next::Flip { var: _ } => false,
+    }
+}
+
 /// Takes a step, a pivot or a flip.
 fn take<L: Ledger>(tableau: &mut Tableau, next: Next, steps: &mut Steps<L>) -> Result<(), Wide>
-    requires { CanTake tableau.old next }
+    requires unfinished { is_final next ≡ false }
+    requires step { CanStep tableau.old next }
     ensures taken { OnOk result (step tableau.old next ≡ Ok tableau.new) }
     ensures wide { OnErr result (step tableau.old next ≡ Err (record {})) }
-    ensures stands { (m : Parts) (b : List (ℤ × ℤ)) → StandsFor m b tableau.old → StandsFor m b tableau.new }
-    ensures points { (m : Parts) (b : List (ℤ × ℤ)) → StandsFor m b tableau.old → HasItsPoints m tableau.old → HasItsPoints m tableau.new }
     ensures steps { steps.new ≡ steps.old + 1 }
 {
     match next {
@@ -63,24 +76,19 @@ fn solve<L: Ledger>(
     let mut values = vec![in alloc; whole(0); count]?;
     let mut taken = 0;
     loop {
-        match choose(&tableau, rows, places.as_mut_slice(), values.as_mut_slice()) {
-            Ok(Next::FinalPoint) => {
-                let answer = best(alloc, &tableau, values.as_slice(), columns, rows)?;
-                return Ok((answer, tableau));
-            }
-            Ok(Next::FinalRow { row, up }) => {
-                let answer = empty(alloc, &tableau, row, up, columns, rows)?;
-                return Ok((answer, tableau));
-            }
-            Ok(next) => {
-                if taken == pivots {
-                    return Ok((LpAnswer::Stopped, tableau));
-                }
-                match take(&mut tableau, next, steps) {
-                    Ok(()) => taken += 1,
-                    Err(Wide) => return Ok((LpAnswer::Wide, tableau)),
-                }
-            }
+        let next = match choose(&tableau, rows, places.as_mut_slice(), values.as_mut_slice()) {
+            Ok(next) => next,
+            Err(Wide) => return Ok((LpAnswer::Wide, tableau)),
+        };
+        if ends(next) {
+            let answer = read(alloc, &tableau, values.as_slice(), next, columns, rows)?;
+            return Ok((answer, tableau));
+        }
+        if taken == pivots {
+            return Ok((LpAnswer::Stopped, tableau));
+        }
+        match take(&mut tableau, next, steps) {
+            Ok(()) => taken += 1,
             Err(Wide) => return Ok((LpAnswer::Wide, tableau)),
         }
     }

@@ -6,9 +6,9 @@ ghost use Rattle.lp_duality.specs.Duals.{is_below as is_below_number};
 ghost use Rattle.simplex_laws.specs.Steps.{size_of};
 ghost use Rattle.simplex_exact.specs.Numbers.{turned as turned_number};
 
+use frac128::{cmp, frac};
 use std::cmp::Ordering;
 use tableau::Frac;
-use frac128::{cmp, frac};
 
 /// A whole number as a fraction.
 #[inline]

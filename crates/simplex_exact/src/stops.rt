@@ -161,20 +161,11 @@ fn stop(
 }
 
 /// The nearer of two stops, the first among equals.
-fn nearer(
-    first: Option<(Frac, Next)>,
-    second: Option<(Frac, Next)>,
-) -> Option<(Frac, Next)>
+fn nearer(first: Option<(Frac, Next)>, second: Option<(Frac, Next)>) -> Option<(Frac, Next)>
     ensures { stop_value result ≡ nearer_of (stop_value first) (stop_value second) }
 {
     match (first, second) {
-        (Some(x), Some(y)) => {
-            if is_below(y.0, x.0) {
-                Some(y)
-            } else {
-                Some(x)
-            }
-        }
+        (Some(x), Some(y)) => { if is_below(y.0, x.0) { Some(y) } else { Some(x) } }
         (Some(x), None) => Some(x),
         (None, other) => other,
     }

@@ -43,7 +43,13 @@ fn model(alloc: Global, columns: Vec<Column>, rows: Vec<Row>) -> Option<IntModel
 }
 
 /// The answer for a model over its own box, and the number of steps.
-fn solved(alloc: Global, columns: Vec<Column>, rows: Vec<Row>, pivots: u32, blank: Blank) -> Result<Option<LpAnswer>, Memory> {
+fn solved(
+    alloc: Global,
+    columns: Vec<Column>,
+    rows: Vec<Row>,
+    pivots: u32,
+    blank: Blank,
+) -> Result<Option<LpAnswer>, Memory> {
     let Some(model) = model(alloc, columns, rows) else {
         return Ok(None);
     };
@@ -86,7 +92,11 @@ fn told(alloc: Global, answer: &Option<LpAnswer>) -> Result<String, Memory> {
 #[test]
 fn one_row(rt: HostRuntime) -> Result<(), Memory> {
     let alloc = rt.alloc();
-    for (pivots, want) in [(0, "stopped"), (1, "best 3/2 prices -1/2"), (9, "best 3/2 prices -1/2")] {
+    for (pivots, want) in [
+        (0, "stopped"),
+        (1, "best 3/2 prices -1/2"),
+        (9, "best 3/2 prices -1/2"),
+    ] {
         let columns = vec![in alloc; column(alloc, -1, 0, 2)]?;
         let rows = vec![in alloc; row(alloc, vec![in alloc; (0, 2)]?, None, Some(3))]?;
         let answer = solved(alloc, columns, rows, pivots, Blank::new(1))?;

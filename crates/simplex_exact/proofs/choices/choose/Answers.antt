@@ -1,4 +1,4 @@
-use Rattle.std.proofs.Common.{◌∙◌, sym, ap, subst, ◌≡◌, ℕ, Bool, Option, Some, None, IfOk}
+use Rattle.std.proofs.Common.{◌∙◌, sym, ap, subst, ◌≡◌, ℕ, Bool, IfOk}
 use Rattle.simplex_laws.specs.declared.next.Next.{Next}
 use Rattle.simplex_laws.specs.Steps.{next, by_breach}
 use Rattle.simplex_laws.proofs.StepLaws.{first_breach}

@@ -1,4 +1,4 @@
-use Rattle.std.proofs.Common.{◌∙◌, ◌+◌, ◌<◌, ◌≡◌, sym, arith, length}
+use Rattle.std.proofs.Common.{◌∙◌, ◌+◌, ◌<◌, sym, arith, length}
 use Rattle.tableau.proofs.ListLaws.{is_wide}
 use Rattle.simplex_laws.specs.Wides.{wide_price}
 use Rattle.simplex_exact.proofs.finals.prices.Goals as goal

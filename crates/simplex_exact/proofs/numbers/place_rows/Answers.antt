@@ -1,4 +1,4 @@
-use Rattle.std.proofs.Common.{arith, ◌≡◌, ◌≢◌, ◌<◌, ◌∙◌, sym, ap, subst, length, ℕ, List, Option, slice_index_or, None, Some, get_or, get_or-set_same, get_or-set_other}
+use Rattle.std.proofs.Common.{arith, ◌≡◌, ◌<◌, ◌∙◌, sym, ap, length, ℕ, List, Option, slice_index_or, None, get_or}
 use Rattle.simplex_exact.proofs.ScanLaws.{place_step, placed_here, placed_there, kept_here}
 use Rattle.simplex_exact.proofs.numbers.place_rows.Goals.{then-is_none, else-is_none}
 use Rattle.simplex_exact.proofs.numbers.place_rows.Goals as goal

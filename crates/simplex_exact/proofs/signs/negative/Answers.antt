@@ -1,6 +1,6 @@
-use Rattle.std.proofs.Common.{arith, ap, ◌∙◌, ◌≡◌, ◌<ℤ◌, false, pos, neg_ℤ, cond}
+use Rattle.std.proofs.Common.{arith, ap, ◌∙◌, ◌≡◌, false, pos, neg_ℤ}
 use Rattle.std.proofs.lemmas.Int.{ints}
-use Rattle.std.specs.Prelude.{int_lt, ℤ, if◌then◌else◌}
+use Rattle.std.specs.Prelude.{int_lt, if◌then◌else◌}
 use Rattle.std.specs.Int.{w128}
 use Rattle.std.proofs.Common.{to_z, of_z, ◌-ℤ◌}
 use Rattle.frac128.specs.Fractions.{reduced_of, lowest_of}

@@ -1,6 +1,5 @@
-use Rattle.std.proofs.Common.{arith, ap, sym, refl, ◌∙◌, ◌≡◌, ℤ, pos, neg_ℤ, ◌<ℤ◌, ◌≤ℤ◌, to_z, of_z}
+use Rattle.std.proofs.Common.{arith, sym, ◌∙◌, pos, ◌<ℤ◌, ◌≤ℤ◌}
 use Rattle.std.proofs.lemmas.Int.{ints}
-use Rattle.std.specs.Int.{w128}
 use Rattle.simplex_exact.proofs.SignLaws.{size_below, size_above}
 use Rattle.simplex_exact.proofs.signs.size.Goals as goal
 

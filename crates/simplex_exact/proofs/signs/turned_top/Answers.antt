@@ -1,7 +1,5 @@
-use Rattle.std.proofs.Common.{arith, ap, sym, refl, ◌∙◌, ◌≡◌, ℤ, pos, neg_ℤ, ◌<ℤ◌, ◌≤ℤ◌, to_z, of_z}
+use Rattle.std.proofs.Common.{arith, ap}
 use Rattle.std.proofs.lemmas.Int.{ints}
-use Rattle.std.specs.Int.{w128}
-use Rattle.frac128.specs.Rationals.{Rational}
 use Rattle.frac128.specs.Values.{value_of}
 use Rattle.simplex_exact.specs.Numbers.{turned}
 use Rattle.simplex_exact.proofs.SignLaws.{value_top, negative_top}

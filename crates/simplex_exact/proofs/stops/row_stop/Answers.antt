@@ -1,4 +1,4 @@
-use Rattle.std.proofs.Common.{◌∙◌, ◌≡◌, ◌≢◌, sym, ap, arith, Some, to_z, of_z}
+use Rattle.std.proofs.Common.{◌∙◌, ◌≡◌, sym, ap, arith, to_z, of_z}
 use Rattle.std.proofs.lemmas.Int.{ints}
 use Rattle.std.specs.Int.{w128}
 use Rattle.frac128.specs.Fractions.{Fraction}

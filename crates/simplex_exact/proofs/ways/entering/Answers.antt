@@ -1,4 +1,4 @@
-use Rattle.std.proofs.Common.{◌∙◌, ◌≡◌, sym, ap, length, arith, ◌<◌, ℕ, Bool, Option, Some, option_map}
+use Rattle.std.proofs.Common.{◌∙◌, ◌≡◌, sym, ap, length, arith, ◌<◌, ℕ, Bool, Some, option_map}
 use Rattle.simplex_laws.proofs.ChoiceLaws.{first_at}
 use Rattle.simplex_exact.proofs.ScanLaws.{lowering}
 use Rattle.simplex_exact.proofs.ways.entering.Goals as goal

@@ -1,5 +1,5 @@
 use Rattle.std.proofs.Common.{◌≡◌, None}
-use Rattle.simplex_laws.specs.Steps.{first, way}
+use Rattle.simplex_laws.specs.Steps.{first}
 use Rattle.simplex_exact.proofs.ScanLaws.{lowering}
 use Rattle.simplex_exact.proofs.ways.entering.Given as goal
 

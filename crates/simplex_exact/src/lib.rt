@@ -2,7 +2,18 @@
 #![tactic(auto)]
 
 mod answers;
+mod choices;
+mod finals;
+mod numbers;
+mod runs;
+mod sides;
+mod signs;
+mod stops;
+#[cfg(test)]
+mod tests;
+mod ways;
 
 pub use answers::LpAnswer;
 pub use lp_duality::Fracs;
+pub use runs::solve_lp;
 pub use tableau::Steps;

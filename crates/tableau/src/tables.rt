@@ -79,6 +79,14 @@ impl Tableau {
         can_rest_at(self.variables[var as usize], rest)
     }
 
+    /// A variable: its sides and its cost.
+    pub fn variable(&self, var: u32) -> Variable
+        requires { var < length self.now.variables }
+        ensures { result ≡ variable_at self.now.variables var }
+    {
+        self.variables[var as usize]
+    }
+
     /// The entry of a row and a variable.
     pub fn entry(&self, row: u32, var: u32) -> Frac
         requires row { row < length self.now.rows }

@@ -1,0 +1,4 @@
+pub mod AnswerLaws
+pub mod NodeLaws
+pub mod ScanLaws
+pub mod SignLaws

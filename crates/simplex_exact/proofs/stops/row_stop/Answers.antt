@@ -1,0 +1,17 @@
+use Rattle.std.proofs.Common.{◌∙◌, ◌≡◌, sym, ap, arith, to_z, of_z}
+use Rattle.std.proofs.lemmas.Int.{ints}
+use Rattle.std.specs.Int.{w128}
+use Rattle.frac128.specs.Fractions.{Fraction}
+use Rattle.frac128.specs.Values.{value_of}
+use Rattle.tableau.specs.Tables.{entry}
+use Rattle.simplex_laws.proofs.StepLaws.{numerator}
+use Rattle.simplex_exact.proofs.ScanLaws.{met}
+use Rattle.simplex_exact.proofs.stops.row_stop.Goals as goal
+
+pub stop_at-requires-clause-pivot : goal.stop_at-requires-clause-pivot
+stop_at-requires-clause-pivot c =
+    let T = c.args.tableau.now in
+    let x : Fraction = entry T.rows c.args.row c.args.var in
+    let top : (value_of x).top ≡ c.top.result = ap (λ (y : Fraction). (value_of y).top) (sym c.entry.ensures) ∙ sym c.top.ensures in
+    let back : to_z w128 (of_z w128 c.top.result) ≡ c.top.result = omega (arith, ints) in
+    numerator x (met c.args.up (value_of x) c.in-Some.side (sym (c.side_met.ensures (value_of x) (top ∙ sym back)) ∙ c.in-Some.is))

@@ -1,0 +1,16 @@
+use Rattle.std.proofs.Common.{◌∙◌, ◌≡◌, sym, ap, length, arith, ◌<◌, ℕ, Bool, Some, option_map}
+use Rattle.simplex_laws.proofs.ChoiceLaws.{first_at}
+use Rattle.simplex_exact.proofs.ScanLaws.{lowering}
+use Rattle.simplex_exact.proofs.ways.entering.Goals as goal
+
+pub returns-in-Ok-Some-clause-first : goal.returns-in-Ok-Some-clause-first
+returns-in-Ok-Some-clause-first c =
+    let T = c.args.tableau.now in
+    let v = c.loop-var.var in
+    let go : Bool → ℕ × Bool = λ up. (v, up) in
+    let inside : v < length T.variables = omega arith in
+    let found : lowering T v ≡ Some (go c.in-Ok-Some.up) = ap (option_map go) (sym c.in-Ok-Some.ensures.way ∙ c.in-Ok-Some.field-0-is) in
+    sym (first_at (lowering T) v (length T.variables) (go c.in-Ok-Some.up) c.loop-var.invariant found inside)
+
+pub returns-in-Err-clause-wide : goal.returns-in-Err-clause-wide
+returns-in-Err-clause-wide c = c.in-Err.ensures.wide

@@ -1,1 +1,5 @@
-
+pub mod DenominatorLaws
+pub mod Examples
+pub mod LimitLaws
+pub mod PartLaws
+pub mod PresentLaws

@@ -1,8 +1,10 @@
 pub mod AnswerLaws
 pub mod DenominatorLaws
+pub mod DivisorLaws
 pub mod Examples
 pub mod KeptLaws
 pub mod LimitLaws
 pub mod PartLaws
 pub mod PresentLaws
 pub mod PriceLaws
+pub mod RayLaws

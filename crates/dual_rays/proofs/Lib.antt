@@ -8,3 +8,4 @@ pub mod PartLaws
 pub mod PresentLaws
 pub mod PriceLaws
 pub mod RayLaws
+pub mod UnitLaws

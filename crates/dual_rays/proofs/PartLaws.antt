@@ -9,7 +9,7 @@ use Rattle.frac128.proofs.Fractions.{lowest-is}
 pub top_is : (x : Fraction) → IsFraction x.num x.den → (value_of x).top ≡ x.num
 top_is x p = (lowest-is x.num x.den p.positive p.lowest).0
 
-size_of_S : (c : ℕ) → unsigned_abs (S c) ≡ suc c
+pub size_of_S : (c : ℕ) → unsigned_abs (S c) ≡ suc c
 unfolding S
 size_of_S c = refl
 

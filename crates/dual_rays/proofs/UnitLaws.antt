@@ -27,14 +27,14 @@ unfolding of S
 of-injective x y e = let c = crosswise x 0 y 0 e in omega (arith, ints)
 
 -- ---- sizes
-size-up : (p : Rational) → pos 0 ≤ℤ p.top → size_of p ≡ p
+pub size-up : (p : Rational) → pos 0 ≤ℤ p.top → size_of p ≡ p
 size-up p h = by (lt_z p.top (pos 0)) refl
   where
     by : (t : Bool) → lt_z p.top (pos 0) ≡ t → cond t (neg p) p ≡ p
     by true e = absurd (let l = lt_true p.top (pos 0) e in omega (arith, ints))
     by false e = refl
 
-size-down : (p : Rational) → p.top <ℤ pos 0 → size_of p ≡ neg p
+pub size-down : (p : Rational) → p.top <ℤ pos 0 → size_of p ≡ neg p
 size-down p h = by (lt_z p.top (pos 0)) refl
   where
     by : (t : Bool) → lt_z p.top (pos 0) ≡ t → cond t (neg p) p ≡ neg p

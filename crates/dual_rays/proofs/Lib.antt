@@ -9,5 +9,6 @@ pub mod PartLaws
 pub mod PresentLaws
 pub mod PriceLaws
 pub mod QuotientLaws
+pub mod RayCertificateLaws
 pub mod RayLaws
 pub mod UnitLaws

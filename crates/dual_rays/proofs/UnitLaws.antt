@@ -107,7 +107,7 @@ quotient_one zero q m p e l = absurd (omega arith)
 quotient_one (suc zero) q m p e l = refl
 quotient_one (suc (suc d)) q m p e l = absurd (omega arith)
 
-positive_right : (b e q : ℕ) → b * e ≡ q → 0 < q → 0 < e
+pub positive_right : (b e q : ℕ) → b * e ≡ q → 0 < q → 0 < e
 positive_right b zero q p l = absurd (omega arith)
 positive_right b (suc e) q p l = omega arith
 

@@ -1,1 +1,14 @@
-
+pub mod AnswerLaws
+pub mod DenominatorLaws
+pub mod DivisorLaws
+pub mod Examples
+pub mod FirstLaws
+pub mod KeptLaws
+pub mod LimitLaws
+pub mod PartLaws
+pub mod PresentLaws
+pub mod PriceLaws
+pub mod QuotientLaws
+pub mod RayCertificateLaws
+pub mod RayLaws
+pub mod UnitLaws

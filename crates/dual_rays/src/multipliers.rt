@@ -1,12 +1,12 @@
-ghost use Rattle.std.specs.Prelude.{◌≡◌, ◌^◌, ◌≤◌, length, map, IfOk};
+ghost use Rattle.std.specs.Prelude.{◌≡◌, ◌^◌, ◌≤◌, ◌++◌, ◌∷◌, [], filter, length, map, IfOk, OnOk};
 ghost use Rattle.frac128.specs.Values.{value_of};
-ghost use Rattle.dual_rays.specs.Certificates.{multiplier_of, multipliers_of, values};
+ghost use Rattle.dual_rays.specs.Certificates.{is_present, multiplier_of, multipliers_of, values};
 ghost use Rattle.dual_rays.specs.Multiples.{multiple};
 
 use crate::denominators::{LARGEST, denominator};
 use frac128::Frac;
 use ip_defs::{Memory, Multipliers};
-use std::alloc::Global;
+use std::alloc::{AllocError, Global};
 
 /// The numerator of a fraction.
 #[inline]
@@ -28,19 +28,28 @@ fn multiplier(q: u128, x: Frac) -> Option<i64>
     }
 }
 
+/// Adds a multiplier of a row, unless it is 0.
+fn add(y: &mut Multipliers, row: u32, multiple: i64) -> Result<(), AllocError>
+    ensures { OnOk result (y.new ≡ y.old ++ filter is_present ((row, multiple) ∷ [])) }
+{
+    if multiple == 0 {
+        return Ok(());
+    }
+    y.push((row, multiple))
+}
+
 /// The multiples of fractions by row, those of 0 left out, where each is within the limit.
 pub fn multipliers(alloc: Global, q: u128, prices: &[Frac]) -> Result<Option<Multipliers>, Memory>
     requires limit { q ≤ 2 ^ 36 }
     requires size { length prices.now ≤ 1024 }
     ensures { IfOk result (λ y. y ≡ multipliers_of (map (multiple q) (values prices.now))) }
 {
-    let mut y = Vec::new(alloc);
+    let mut y = Multipliers::from_vec(Vec::new(alloc));
     for (row, price) in prices.iter().enumerate() {
         match multiplier(q, *price) {
+            Some(multiple) => add(&mut y, row as u32, multiple)?,
             None => return Ok(None),
-            Some(0) => {}
-            Some(multiple) => y.push((row as u32, multiple))?,
         }
     }
-    Ok(Some(Multipliers::from_vec(y)))
+    Ok(Some(y))
 }

@@ -1,8 +1,9 @@
-ghost use Rattle.std.specs.Prelude.{◌≡◌, ◌≢◌, ◌≤◌, length, pos, IfOk, IfSome, option_map};
+ghost use Rattle.std.specs.Prelude.{◌≡◌, ◌≢◌, ◌≤◌, length, pos, IfOk, IfSome, MatchOption, option_map};
 ghost use Rattle.frac128.specs.Values.{value_of};
+ghost use Rattle.frac128.specs.Rationals.{quotient};
 ghost use Rattle.dual_rays.specs.Certificates.{certificate_of_ray, values};
 ghost use Rattle.dual_rays.specs.Meanings.{IsOfRay, BoundsByRay};
-ghost use Rattle.dual_rays.specs.Quotients.{AreQuotients, first_size as first_size_of, size_of};
+ghost use Rattle.dual_rays.specs.Quotients.{AreQuotients, IsWide, first_size as first_size_of, size_of};
 
 use crate::prices::certificate;
 use frac128::{Frac, Wide, div, frac};
@@ -34,16 +35,28 @@ fn first_size(ray: &[Frac]) -> Option<Frac>
     None
 }
 
-/// Each number divided by another one, where no quotient is wide.
-fn quotients(alloc: Global, ray: &[Frac], size: Frac) -> Result<Option<Vec<Frac>>, Memory>
+/// A quotient, where it is not wide.
+fn over(x: Frac, size: Frac) -> Option<Frac>
     requires { size.num ≢ pos 0 }
-    ensures { IfOk result (λ xs. AreQuotients (values ray.now) (value_of size) (option_map (λ v. v.items) xs)) }
+    ensures { MatchOption result (IsWide (quotient (value_of x) (value_of size))) (λ r. value_of r ≡ quotient (value_of x) (value_of size)) }
 {
-    let mut quotients = Vec::with_capacity(alloc, ray.len())?;
+    let _ = (x.num(), size.num());
+    match div(x, size) {
+        Ok(quotient) => Some(quotient),
+        Err(Wide) => None,
+    }
+}
+
+/// Each number divided by another one, where no quotient is wide.
+fn quotients(alloc: Global, ray: &[Frac], size: Frac) -> Result<Option<Fracs>, Memory>
+    requires { size.num ≢ pos 0 }
+    ensures { IfOk result (AreQuotients (values ray.now) (value_of size)) }
+{
+    let mut quotients = Fracs::from_vec(Vec::with_capacity(alloc, ray.len())?);
     for number in ray {
-        match div(*number, size) {
-            Ok(quotient) => quotients.push(quotient)?,
-            Err(Wide) => return Ok(None),
+        match over(*number, size) {
+            Some(quotient) => quotients.push(quotient)?,
+            None => return Ok(None),
         }
     }
     Ok(Some(quotients))

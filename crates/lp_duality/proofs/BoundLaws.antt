@@ -56,9 +56,9 @@ cross_multiple z q g e =
     (var 0 ⊗ var 3) (var 2 ⊗ var 1) refl
     (crosswise z 0 (q *ℤ g.top) K product, (both-is 0 g.less, tt))
 
-cross : (z : ℤ) (g : Rational) (q : ℤ) → of z ≡ mul (of q) g → z *ℤ pos (suc g.less) ≡ g.top *ℤ q
+pub whole_multiple_cross : (z : ℤ) (g : Rational) (q : ℤ) → of z ≡ mul (of q) g → z *ℤ pos (suc g.less) ≡ g.top *ℤ q
 unfolding S
-cross z g q e = cross_multiple z q g e
+whole_multiple_cross z g q e = cross_multiple z q g e
 
 -- the dual value of a certificate with multiples of y
 multiple_value : (m : Parts) (b : List (ℤ × ℤ)) (c : Cert) (a : Rational) (q : Rational) (y : ℕ → Rational) (g : Rational) → AreOrdered (length m.rows) c.y → length b ≡ length m.columns → pos 0 <ℤ a.top → of c.q ≡ mul a q → AreMultiples c (length m.rows) a y → dual m b q y ≡ Some g → option_map of (dual_value m b c.q c.y) ≡ Some (mul a g)
@@ -78,7 +78,7 @@ prices_bound m b c y g o size open' positive multiples e =
     by (pos zero) o p h = absurd (omega (arith, ints))
     by (negsuc n) o p h = absurd (omega (arith, ints))
     by (pos (suc n)) None p h = absurd cc
-    by (pos (suc n)) (Some z) p h = let is : of z ≡ mul (of (pos (suc n))) g = cc in ap At (ceiling_same z n g.top g.less (cross z g (pos (suc n)) is))
+    by (pos (suc n)) (Some z) p h = let is : of z ≡ mul (of (pos (suc n))) g = cc in ap At (ceiling_same z n g.top g.less (whole_multiple_cross z g (pos (suc n)) is))
 
 pub rays_bound : RaysBound
 rays_bound m b c a y g o size zero' positive multiples e above = by (list_any is_empty_side b)

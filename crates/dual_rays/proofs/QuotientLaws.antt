@@ -3,25 +3,34 @@ use Rattle.std.specs.Prelude.{◌≡◌, ◌≢◌, ℕ, zero, suc, ◌^◌, ◌
 use Rattle.std.proofs.Common.{arith, refl, ap, sym, ◌∙◌, subst, inl, inr}
 use Rattle.std.proofs.lemmas.Int.{ints}
 use borrow.Author.Tests.{ltb-false}
+use Rattle.frac128.specs.Gcd.{gcd}
 use Rattle.frac128.specs.declared.fraction.Wide.{Wide}
 use Rattle.frac128.specs.Fractions.{Fraction, IsFraction, in_range, within, shared, lowest_of, reduced_of, negative_of, fraction_where, product_of, reciprocal_of, quotient_of}
 use Rattle.frac128.specs.Rationals.{quotient, rational, mul}
 use Rattle.frac128.specs.Values.{value_of}
 use Rattle.frac128.proofs.Fractions.{lowest-is, product_is}
-use Rattle.frac128.proofs.FractionLaws.{product-positive, product-lowest, product-equal, lowest-value, negative-value, reciprocal-value, IsFraction-turned}
+use Rattle.frac128.proofs.FractionLaws.{product-positive, product-lowest, product-equal, negative-value, reciprocal-value, IsFraction-turned}
+use Rattle.frac128.proofs.SharedLaws.{lowest-already}
 use Rattle.dual_rays.specs.Quotients.{IsWide, size_of}
 use Rattle.dual_rays.proofs.PartLaws.{top_is, size_of_S}
 use Rattle.dual_rays.proofs.UnitLaws.{size-up, size-down}
 
 -- ---- sizes
-pub size-negative : (x : Fraction) (n : ℤ) → IsFraction x.num x.den → x.num <ℤ pos 0 → n ≡ neg_ℤ x.num → value_of (reduced_of n x.den) ≡ size_of (value_of x)
-size-negative x n p down is =
-    let top = top_is x p in
+pub size-parts : (x : Fraction) (n : ℤ) → IsFraction x.num x.den → n ≡ neg_ℤ x.num → reduced_of n x.den ≡ negative_of x
+size-parts x n p is =
     let den = p.positive in
     let positive : int_lt x.den (pos 0) ≡ false = grind (arith, ints) in
-    ap (λ z. value_of (reduced_of z x.den)) is
-    ∙ ap (λ t. value_of (if t then lowest_of (neg_ℤ (neg_ℤ x.num)) (neg_ℤ x.den) else lowest_of (neg_ℤ x.num) x.den)) positive
-    ∙ lowest-value (neg_ℤ x.num) x.den p.positive ∙ negative-value x ∙ sym (size-down (value_of x) (omega (arith, ints)))
+    let size : unsigned_abs n ≡ unsigned_abs x.num = omega (arith, ints) in
+    let one : shared n x.den ≡ pos 1 = ap pos (ap (λ z. gcd z (unsigned_abs x.den)) size ∙ p.lowest) in
+    ap (λ t. if t then lowest_of (neg_ℤ n) (neg_ℤ x.den) else lowest_of n x.den) positive ∙ lowest-already n x.den (neg_ℤ x.num) x.den one (sym is) refl
+
+pub size-negative : (x r : Fraction) (n : ℤ) → IsFraction x.num x.den → x.num <ℤ pos 0 → n ≡ neg_ℤ x.num → r ≡ reduced_of n x.den → value_of r ≡ size_of (value_of x)
+size-negative x r n p down is e =
+    let top = top_is x p in
+    ap value_of (e ∙ size-parts x n p is) ∙ negative-value x ∙ sym (size-down (value_of x) (omega (arith, ints)))
+
+pub size-present : (x r : Fraction) (n : ℤ) → IsFraction x.num x.den → n ≡ neg_ℤ x.num → r ≡ reduced_of n x.den → x.num ≢ pos 0 → r.num ≢ pos 0
+size-present x r n p is e present' f = let num : neg_ℤ x.num ≡ pos 0 = sym (ap (λ (z : Fraction). z.num) (e ∙ size-parts x n p is)) ∙ f in present' (omega (arith, ints))
 
 pub size-other : (x : Fraction) → IsFraction x.num x.den → pos 0 ≤ℤ x.num → value_of x ≡ size_of (value_of x)
 size-other x p up = let top = top_is x p in sym (size-up (value_of x) (omega (arith, ints)))

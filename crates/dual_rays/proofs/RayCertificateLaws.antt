@@ -37,7 +37,7 @@ none_above [] = refl
 none_above (p ∷ ps) = none_above ps
 
 -- the certificate of a divisor and its multipliers
-abbrev certificate : ℕ → List (ℕ × ℤ) → Cert
+abbrev pub certificate : ℕ → List (ℕ × ℤ) → Cert
 certificate q y = record { q = pos q; y = y }
 
 certificate_of_zeros : (ps : List Rational) → certificate_of 0 (map (λ p. pos 0) ps) ≡ Some (record { q = pos 0; y = [] })

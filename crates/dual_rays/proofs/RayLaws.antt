@@ -72,13 +72,21 @@ module _ (xs : List Fraction) where
   multiple-is k l = ap of (multiple-at q xs k (record { num = pos 0; den = pos 1 }) (pos 0) l) ∙ multiple-value q (numbers_of xs k) (denominator-at xs k l)
 
   ratio : (g : ℕ) → common_divisor ws ≡ g → (a : Rational) × (pos 0 <ℤ a.top) × ((k : ℕ) → k < length xs → of (at (primitive ws) k) ≡ mul a (numbers_of xs k))
-  ratio zero e = (of (pos q), of_positive (pos q) (let p = denominator-positive (values xs) in omega (arith, ints)), λ k l.
-      let none : at ws k ≡ pos 0 = divisor-none ws k (inside k l) e in
-      ap of (at-primitive ws k (inside k l) ∙ ap (λ d. int_div (at ws k) (pos d)) e ∙ ap (λ z. int_div z (pos 0)) none ∙ sym none) ∙ multiple-is k l)
-  ratio (suc g) e = (over (pos q) g, over_positive (pos q) g (let p = denominator-positive (values xs) in omega (arith, ints)), λ k l.
-      let divides : suc g ∣ unsigned_abs (at ws k) = subst (λ d. d ∣ unsigned_abs (at ws k)) e (divisor-divides ws k (inside k l)) in
-      ap of (at-primitive ws k (inside k l) ∙ ap (λ d. int_div (at ws k) (pos d)) e)
-      ∙ quotient-value g (pos q) (int_div (at ws k) (pos (suc g))) (numbers_of xs k) (ap of (divided-is (suc g) (at ws k) divides) ∙ multiple-is k l))
+  ratio zero e = (
+    of (pos q),
+    of_positive (pos q) (let p = denominator-positive (values xs) in omega (arith, ints)),
+    λ k l.
+        let none : at ws k ≡ pos 0 = divisor-none ws k (inside k l) e in
+        ap of (at-primitive ws k (inside k l) ∙ ap (λ d. int_div (at ws k) (pos d)) e ∙ ap (λ z. int_div z (pos 0)) none ∙ sym none) ∙ multiple-is k l,
+  )
+  ratio (suc g) e = (
+    over (pos q) g,
+    over_positive (pos q) g (let p = denominator-positive (values xs) in omega (arith, ints)),
+    λ k l.
+        let divides : suc g ∣ unsigned_abs (at ws k) = subst (λ d. d ∣ unsigned_abs (at ws k)) e (divisor-divides ws k (inside k l)) in
+        ap of (at-primitive ws k (inside k l) ∙ ap (λ d. int_div (at ws k) (pos d)) e)
+        ∙ quotient-value g (pos q) (int_div (at ws k) (pos (suc g))) (numbers_of xs k) (ap of (divided-is (suc g) (at ws k) divides) ∙ multiple-is k l),
+  )
 
   module _ (c : Cert) (e : certificate_of_ray xs ≡ Some c) where
     made : IsMade 0 (primitive ws) c

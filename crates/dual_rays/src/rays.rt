@@ -13,7 +13,8 @@ use std::alloc::Global;
 
 /// A fraction without its sign.
 fn size(x: Frac) -> Frac
-    ensures { value_of result ≡ size_of (value_of x) }
+    ensures value { value_of result ≡ size_of (value_of x) }
+    ensures present { x.num ≢ pos 0 → result.num ≢ pos 0 }
 {
     if x.num() < 0 {
         frac(-x.num(), x.den())

@@ -1,11 +1,11 @@
 -- A program that meets what the law of reading back asks for, and some that miss it by one condition and are not read back.
-use Rattle.std.specs.Prelude.{◌≡◌, ◌≢◌, ℕ, zero, suc, ◌<◌, ◌≤◌, ◌^◌, true, List, [], ◌∷◌, map, None, Some, slice_get, slice_index_or, codes, ℤ, pos, negsuc}
+use Rattle.std.specs.Prelude.{◌≡◌, ◌≢◌, ℕ, zero, suc, ◌<◌, ◌≤◌, ◌^◌, true, false, List, [], ◌∷◌, ◌++◌, map, None, Some, slice_get, slice_index_or, codes, ℤ, pos, negsuc}
 use Rattle.std.specs.Int.RustNames.{unsigned_abs}
 use Rattle.std.specs.Fmt.{digits}
 use Rattle.std.specs.Str.{is_utf8, chars}
 use Rattle.std.proofs.Common.{refl, arith, subst}
 use Rattle.ip_defs.specs.Limits.{IsWithinLimits, IsRowShaped, IsColumn, IsRow}
-use Rattle.ip_defs.specs.Texts.{canonical_text}
+use Rattle.ip_defs.specs.Texts.{canonical_text, is_printable}
 use Rattle.ip_defs.specs.TextModels.{largest}
 use Rattle.ip_defs.specs.Faults.{mps_fault, model_of}
 use Rattle.ip_defs.specs.declared.texts.MpsError.TheVariants.{NotUtf8, TwiceEntry, TwiceRow}
@@ -127,3 +127,15 @@ row_named_as_objective = refl
 pub name_not_utf8 : mps_fault (canonical_text (program_of (first_column ∷ second_column ∷ []) (row_named (255 ∷ []) ∷ []))) (reading 1) ≡ Some NotUtf8
 unfolding is_utf8 chars lib.Utf8.encode digits
 name_not_utf8 = refl
+
+-- a text of an objective whose name ends with a carriage return: it is read, and is not printable, for its canonical text is read as a
+-- program with another name
+abbrev returned : List ℕ
+returned = codes "ROWS\n N c" ++ 13 ∷ 13 ∷ 10 ∷ codes "COLUMNS\nENDATA\n"
+
+pub returned_is_read : (mps_fault returned (reading 0) ≡ None) × (is_printable (model_of returned (reading 0)) ≡ false)
+unfolding is_utf8 chars lib.Utf8.encode
+returned_is_read = (refl, refl)
+
+pub returned_is_renamed : ((model_of returned (reading 0)).objective ≡ 99 ∷ 13 ∷ []) × ((model_of (canonical_text (model_of returned (reading 0))) (reading 0)).objective ≡ 99 ∷ [])
+returned_is_renamed = (refl, refl)

@@ -1,0 +1,154 @@
+ghost use Rattle.std.specs.Prelude.{◌≡◌, ◌≢◌, ◌<◌, ◌+◌, ◌*◌, ◌≤◌, ℕ, IfOk, IfNone, IfSome, OnOk, length, None, pos};
+ghost use Rattle.frac128.specs.Rationals.{of};
+ghost use Rattle.ip_defs.specs.Boxes.{IsOpen};
+ghost use Rattle.ip_defs.specs.Program.{at as number_at};
+ghost use Rattle.ip_model.specs.Sizes.{first_crossed};
+ghost use Rattle.leaf_cert.specs.Room.{FitsScratch, room_of};
+ghost use Rattle.lp_duality.specs.Relaxations.{numbers_of, IsRelaxed};
+ghost use Rattle.simplex_exact.specs.Answers.{IsBest};
+ghost use Rattle.branching.specs.Relaxed.{IsBounded, IsRelaxedNode, IsSmallNumber, IsWholeNumber, stops_by};
+ghost use Rattle.branching.specs.Search.{Improves, IsSearchArea, IsSound};
+
+use crate::Why;
+use crate::ends::is_closed;
+use crate::nodes::Progress;
+use dual_rays::{cert_of_prices, cert_of_ray};
+use frac128::Frac;
+use ip_defs::{Area, Cert, Memory, Point};
+use ip_model::{IntModel, cost};
+use leaf_cert::leaf_bound;
+use simplex_exact::{Fracs, LpAnswer, Steps, solve_lp};
+use std::alloc::{AllocError, Global};
+use std::sync::ledger::Ledger;
+
+/// What the linear program of a node says.
+#[derive(Debug, Drop)]
+pub enum Relaxed {
+    /// The node is a leaf.
+    Closed(Cert),
+    /// The point of the relaxation has a fraction at a column, with this floor.
+    Between { col: u32, at: i64, why: Why },
+    /// There is no answer, for this reason.
+    Unanswered(Why),
+}
+
+/// How far a number is from the middle of two whole numbers, in 2^32ths of 1, about: a rule of thumb, of which nothing is promised.
+fn middle_distance(number: Frac) -> u64 {
+    let den = number.den().unsigned_abs();
+    let rest = number.num().rem_euclid(number.den()).unsigned_abs();
+    let shift = 96_u32.saturating_sub(den.leading_zeros());
+    let whole = u64::try_from(den >> shift).unwrap_or(1).max(1);
+    let part = u64::try_from(rest >> shift).unwrap_or(0);
+    (part.wrapping_mul(1 << 32) / whole).abs_diff(1 << 31)
+}
+
+/// The column of a point with the number nearest to the middle of two whole ones, the first of those that are as near.
+fn fractional_column(point: &[Frac]) -> Option<u32>
+    requires { length point.now ≤ 4096 }
+    ensures some { IfSome result (λ j. (j < length point.now) × (IsWholeNumber (numbers_of point.now j) → ⊥)) }
+    ensures none { IfNone result ((j : ℕ) → j < length point.now → IsWholeNumber (numbers_of point.now j)) }
+{
+    let mut nearest = None;
+    let mut least = u64::MAX;
+    for (j, number) in point.iter().enumerate() {
+        if number.den() != 1 {
+            let distance = middle_distance(*number);
+            if nearest.is_none() || distance < least {
+                nearest = Some(j as u32);
+                least = distance;
+            }
+        }
+    }
+    nearest
+}
+
+/// The whole numbers of a point.
+fn whole_point(alloc: Global, point: &[Frac]) -> Result<Point, AllocError>
+    requires whole { (j : ℕ) → j < length point.now → IsWholeNumber (numbers_of point.now j) }
+    requires small { (j : ℕ) → j < length point.now → IsSmallNumber (numbers_of point.now j) }
+    ensures size { IfOk result (λ x. length x ≡ length point.now) }
+    ensures same { IfOk result (λ x. (j : ℕ) → j < length point.now → numbers_of point.now j ≡ of (number_at x j)) }
+{
+    let mut numbers = Vec::with_capacity(alloc, point.len())?;
+    for number in point {
+        numbers.push(number.num() as i64)?;
+    }
+    Ok(Point::from_vec(numbers))
+}
+
+/// Closes a node, or splits it at a column with a fraction, by a point of its relaxation that costs least there and a certificate that
+/// bounds by just that cost. A whole point that costs less than what was found is kept.
+fn bounded(
+    alloc: Global,
+    model: &IntModel,
+    area: &Area,
+    point: Fracs,
+    cert: Cert,
+    search: &mut Progress,
+) -> Result<Relaxed, Memory>
+    requires area { IsSearchArea model.now area.now }
+    requires open { IsOpen area.now }
+    requires bounds { IsBounded model.now area.now point cert }
+    requires sound { IsSound model.now search.old.found }
+    requires room { FitsScratch model.now search.old.scratch }
+    ensures relaxed { IfOk result (λ r. (pivots : ℕ) → IsRelaxedNode model.now pivots area.now search.new.found r) }
+    ensures sound { IsSound model.now search.new.found }
+    ensures improves { Improves search.old.found search.new.found }
+    ensures nodes { search.new.nodes ≡ search.old.nodes }
+    ensures room { room_of search.new.scratch ≡ room_of search.old.scratch }
+{
+    let bound = leaf_bound(model, &cert, area, &mut search.scratch);
+    if is_closed(&search.found, bound) {
+        return Ok(Relaxed::Closed(cert));
+    }
+    match fractional_column(point.as_slice()) {
+        Some(col) => {
+            let at = point.as_slice()[col as usize].floor() as i64;
+            let why = Why::Fractional { point, cert };
+            Ok(Relaxed::Between { col, at, why })
+        }
+        None => {
+            let point = whole_point(alloc, point.as_slice())?;
+            let cost = cost(model, &point);
+            search.found = Some((point, cost));
+            Ok(Relaxed::Closed(cert))
+        }
+    }
+}
+
+/// Solves the linear program of a node, and reads its answer: a certificate that closes the node, or a column between whose whole numbers
+/// a least point lies, or that there is no answer.
+pub fn relax<L: Ledger>(
+    alloc: Global,
+    model: &IntModel,
+    pivots: u32,
+    area: &Area,
+    search: &mut Progress,
+    steps: &mut Steps<L>,
+) -> Result<Relaxed, Memory>
+    requires uncrossed { first_crossed model.now ≡ None }
+    requires area { IsSearchArea model.now area.now }
+    requires open { IsOpen area.now }
+    requires sound { IsSound model.now search.old.found }
+    requires room { FitsScratch model.now search.old.scratch }
+    ensures relaxed { IfOk result (IsRelaxedNode model.now pivots area.now search.new.found) }
+    ensures least { IfOk result (λ r. steps.old + stops_by r * pivots ≤ steps.new) }
+    ensures most { steps.new ≤ steps.old + pivots }
+    ensures sound { IsSound model.now search.new.found }
+    ensures improves { Improves search.old.found search.new.found }
+    ensures nodes { search.new.nodes ≡ search.old.nodes }
+    ensures room { room_of search.new.scratch ≡ room_of search.old.scratch }
+{
+    match solve_lp(alloc, model, area, pivots, steps)? {
+        LpAnswer::Best { point, prices } => match cert_of_prices(alloc, &prices)? {
+            Some(cert) => bounded(alloc, model, area, point, cert, search),
+            None => Ok(Relaxed::Unanswered(Why::Wide)),
+        },
+        LpAnswer::Empty { ray } => match cert_of_ray(alloc, &ray)? {
+            Some(cert) => Ok(Relaxed::Closed(cert)),
+            None => Ok(Relaxed::Unanswered(Why::Wide)),
+        },
+        LpAnswer::Stopped => Ok(Relaxed::Unanswered(Why::Stopped)),
+        LpAnswer::Wide => Ok(Relaxed::Unanswered(Why::Wide)),
+    }
+}

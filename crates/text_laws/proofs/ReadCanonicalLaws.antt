@@ -1,5 +1,5 @@
 -- A printable program that was read of a text without a fault is canonical, so that its canonical text is read as the same program.
-use Rattle.std.specs.Prelude.{◌≡◌, ℕ, zero, suc, nat_le, Bool, true, false, ◌&&◌, not, cond, if◌then◌else◌, List, [], ◌∷◌, ◌++◌, length, map, filter, flat_map, find, Option, None, Some, option_map, unwrap_or, slice_get, bytes_eq, codes}
+use Rattle.std.specs.Prelude.{◌≡◌, ℕ, zero, suc, ◌≤◌, nat_le, Bool, true, false, ◌&&◌, not, cond, if◌then◌else◌, List, [], ◌∷◌, ◌++◌, length, map, filter, flat_map, find, Option, None, Some, option_map, unwrap_or, slice_get, bytes_eq, codes}
 use Rattle.std.specs.Option.{is_none}
 use Rattle.std.specs.Str.{is_utf8}
 use Rattle.std.proofs.Common.{refl, ap, sym, ◌∙◌, subst}
@@ -17,7 +17,7 @@ use Rattle.ip_defs.specs.declared.texts.How.{How}
 use Rattle.ip_defs.specs.declared.texts.MpsError.{MpsError}
 use Rattle.ip_defs.specs.declared.texts.MpsError.TheVariants.{NoEnd, NoObjective, NotUtf8, Limit}
 use Rattle.ip_model.proofs.LimitLaws.{within_limits}
-use Rattle.text_laws.specs.ReadBack.{AreDistinct, HasTextNames, ModelsReadAreCanonical, ModelsReadArePrintedAndReadBack, needed_decimals, row_amounts}
+use Rattle.text_laws.specs.ReadBack.{AreDistinct, HasLeastDecimals, HasTextNames, IsCanonical, ModelsReadAreCanonical, ModelsReadArePrintedAndReadBack, needed_decimals, row_amounts}
 use Rattle.text_laws.proofs.ListLaws.{Each, none_left, none_when}
 use Rattle.text_laws.proofs.EachLaws.{each_weaker, each_get, each_filter, each_of_map, each_those}
 use Rattle.text_laws.proofs.Utf8ReadLaws.{IsTextLine, lines_utf8, field_utf8}
@@ -182,7 +182,19 @@ models_canonical text how digits none printable = record {
     limits : IsWithinLimits (model_of text how)
     limits = within_limits (model_of text how) (well_shaped ls how read digits) h.limits
 
+-- what is canonical for one reading is so for each with the same digits
+with_digits : (m : Parts) (how again : How) → again.digits ≡ how.digits → IsCanonical m how → IsCanonical m again
+with_digits m how again same h = record {
+  printable = h.printable;
+  limits = h.limits;
+  texts = h.texts;
+  columns = h.columns;
+  rows = h.rows;
+  digits = subst (λ (n : ℕ). n ≤ 9) (sym same) h.digits;
+  decimals = subst (λ (n : ℕ). HasLeastDecimals n m) (sym same) h.decimals;
+}
+
 pub models_read_back : ModelsReadArePrintedAndReadBack
-models_read_back text how digits none printable =
-    let canonical = models_canonical text how digits none printable in
-    (none_found (model_of text how) how canonical, model_read (model_of text how) how canonical)
+models_read_back text how again digits same none printable =
+    let canonical = with_digits (model_of text how) how again same (models_canonical text how digits none printable) in
+    (none_found (model_of text how) again canonical, model_read (model_of text how) again canonical)

@@ -67,8 +67,8 @@ CanonicalTextsAreReadBack = (m : Parts) (how : How) → IsCanonical m how → mo
 abbrev pub ModelsReadAreCanonical : Type 0
 ModelsReadAreCanonical = (text : List ℕ) (how : How) → how.digits ≤ 9 → mps_fault text how ≡ None → is_printable (model_of text how) ≡ true → IsCanonical (model_of text how) how
 
--- so its canonical text is read, and gives the program again
+-- so its canonical text, read with the same digits and any box side, has no fault and gives the program again
 abbrev pub ModelsReadArePrintedAndReadBack : Type 0
 ModelsReadArePrintedAndReadBack =
-    (text : List ℕ) (how : How) → how.digits ≤ 9 → mps_fault text how ≡ None → is_printable (model_of text how) ≡ true
-    → (mps_fault (canonical_text (model_of text how)) how ≡ None) × (model_of (canonical_text (model_of text how)) how ≡ model_of text how)
+    (text : List ℕ) (how again : How) → how.digits ≤ 9 → again.digits ≡ how.digits → mps_fault text how ≡ None → is_printable (model_of text how) ≡ true
+    → (mps_fault (canonical_text (model_of text how)) again ≡ None) × (model_of (canonical_text (model_of text how)) again ≡ model_of text how)

@@ -9,7 +9,7 @@ pub fn canonical_texts_are_read_back()
 {}
 
 /// A program that was read of a text without a fault, and that is printable, meets what the law above asks for: printed, and read again
-/// with the same digits, it is the same program.
+/// with the same digits and any box side, it is the same program.
 pub fn models_read_are_canonical()
     ensures canonical { ModelsReadAreCanonical }
     ensures read_back { ModelsReadArePrintedAndReadBack }

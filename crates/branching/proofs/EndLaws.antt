@@ -15,7 +15,7 @@ use Rattle.branching.specs.declared.outcomes.Outcome.TheVariants.{Best, Empty, B
 use Rattle.branching.specs.OpenTrees.{PlainOpen, pending, stuck, ended, parted, plain_open, places, places_from}
 use Rattle.branching.specs.Outcomes.{SomeOf, HasReason, IsStuckNode, IsStuckAt, IsStopped}
 use Rattle.branching.specs.Sizes.{point_count, AreAmple, SearchesEnd}
-use Rattle.branching.specs.Splits.{IsStuckFor}
+use Rattle.branching.specs.Reasons.{IsStuckFor}
 use Rattle.branching.proofs.OutcomeLaws.{some_parts}
 use Rattle.branching.proofs.BoxSizeLaws.{proper_open, points_split, has_point, below_narrower, above_narrower, width_of}
 
@@ -59,13 +59,13 @@ stuck_counted d b (parted col cut why left right) (inr h) = by (some_parts (λ p
         let sum = length-append (places_from (suc d) (below b col cut) left) (places_from (suc d) (above b col cut) right) in
         omega arith
 
-module _ (m : Parts) where
+module _ (m : Parts) (pivots : ℕ) where
   -- at most as many leaves as points
-  ends_small : (d : ℕ) (b : List (ℤ × ℤ)) (t : PlainOpen) → IsOpen b → Each (λ p. HasReason m p.box p.node) (places_from d b t) → end_count t ≤ point_count b
+  ends_small : (d : ℕ) (b : List (ℤ × ℤ)) (t : PlainOpen) → IsOpen b → Each (λ p. HasReason m pivots p.box p.node) (places_from d b t) → end_count t ≤ point_count b
   ends_small d b pending has h = has_point b has
   ends_small d b (ended c) has h = has_point b has
   ends_small d b (stuck why) has h =
-      let s : IsStuckFor m b why = h.0 in
+      let s : IsStuckFor m pivots b why = h.0 in
       let proper = s.reasoned.0 in
       let sum = points_split b s.col s.cut proper in
       let left = has_point (below b s.col s.cut) proper.left in
@@ -79,23 +79,23 @@ module _ (m : Parts) where
       omega arith
 
   -- a box with a stuck node has a point
-  open_of : (d : ℕ) (b : List (ℤ × ℤ)) (t : PlainOpen) → SomeOf (λ p. IsStuckNode p.node) (places_from d b t) → Each (λ p. HasReason m p.box p.node) (places_from d b t) → IsOpen b
+  open_of : (d : ℕ) (b : List (ℤ × ℤ)) (t : PlainOpen) → SomeOf (λ p. IsStuckNode p.node) (places_from d b t) → Each (λ p. HasReason m pivots p.box p.node) (places_from d b t) → IsOpen b
   open_of d b pending (inl s) h = absurd s
   open_of d b pending (inr s) h = absurd s
   open_of d b (ended c) (inl s) h = absurd s
   open_of d b (ended c) (inr s) h = absurd s
-  open_of d b (stuck why) s h = let r : IsStuckFor m b why = h.0 in proper_open b r.col r.cut r.reasoned.0
+  open_of d b (stuck why) s h = let r : IsStuckFor m pivots b why = h.0 in proper_open b r.col r.cut r.reasoned.0
   open_of d b (parted col cut why left right) s h = proper_open b col cut h.0.0
 
   -- a stuck node is less deep than the box is wide
-  stuck_depth : (D d : ℕ) (b : List (ℤ × ℤ)) (t : PlainOpen) → SomeOf (IsStuckAt D) (places_from d b t) → Each (λ p. HasReason m p.box p.node) (places_from d b t) → D + 1 ≤ d + width b
+  stuck_depth : (D d : ℕ) (b : List (ℤ × ℤ)) (t : PlainOpen) → SomeOf (IsStuckAt D) (places_from d b t) → Each (λ p. HasReason m pivots p.box p.node) (places_from d b t) → D + 1 ≤ d + width b
   stuck_depth D d b pending (inl s) h = absurd s.0
   stuck_depth D d b pending (inr s) h = absurd s
   stuck_depth D d b (ended c) (inl s) h = absurd s.0
   stuck_depth D d b (ended c) (inr s) h = absurd s
   stuck_depth D d b (stuck why) (inr s) h = absurd s
   stuck_depth D d b (stuck why) (inl s) h =
-      let r : IsStuckFor m b why = h.0 in
+      let r : IsStuckFor m pivots b why = h.0 in
       let is : d ≡ D = s.1 in
       let falls = below_narrower b r.col r.cut r.reasoned.0 in
       omega arith
@@ -106,17 +106,18 @@ module _ (m : Parts) where
       by (inl q) f g = let p = f q in let falls = below_narrower b col cut h.0.0 in omega arith
       by (inr q) f g = let p = g q in let falls = above_narrower b col cut h.0.0 in omega arith
 
+module _ (m : Parts) where
   no_stop : (l : Limits) (what : BudgetWhat) (t : PlainOpen) (best : Option (List ℤ)) → IsStopped m l what (places m t) best → AreAmple m l → ⊥
   no_stop l Nodes t best right ample =
-      let open' = open_of 0 (box_of m) t right.stuck right.reasons in
-      let small = ends_small 0 (box_of m) t open' right.reasons in
+      let open' = open_of m l.pivots 0 (box_of m) t right.stuck right.reasons in
+      let small = ends_small m l.pivots 0 (box_of m) t open' right.reasons in
       let many = stuck_counted 0 (box_of m) t right.stuck in
       let over : l.nodes < length (places_from 0 (box_of m) t) + 2 = right.cause.1 in
       let room = ample.nodes in
       omega arith
   no_stop l Depth t best right ample =
-      let open' = open_of 0 (box_of m) t right.stuck right.reasons in
-      let far = stuck_depth l.depth 0 (box_of m) t right.cause right.reasons in
+      let open' = open_of m l.pivots 0 (box_of m) t right.stuck right.reasons in
+      let far = stuck_depth m l.pivots l.depth 0 (box_of m) t right.cause right.reasons in
       let is = width_of m open' in
       let room = ample.depth in
       omega arith

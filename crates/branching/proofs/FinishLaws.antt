@@ -18,7 +18,8 @@ use Rattle.proof_tree.specs.Within.{AreNumbersWithin}
 use Rattle.branching.specs.OpenTrees.{PlainOpen, pending, stuck, ended, parted, OpenNode, pending_node, stuck_node, ended_node, parted_node, Place, places_from, IsDone, tree_of, whys_of}
 use Rattle.branching.specs.Outcomes.{Pairwise, HasReason, IsClosedBy, IsClosedNode}
 use Rattle.branching.specs.Search.{IsSmallNode}
-use Rattle.branching.specs.Splits.{splits_over, IsReasoned}
+use Rattle.branching.specs.Reasons.{IsReasoned}
+use Rattle.branching.specs.Splits.{splits_over}
 use Rattle.branching.proofs.OutcomeLaws.{pair_join}
 
 pub done_count : (d e : ℕ) (b : List (ℤ × ℤ)) (t : PlainOpen) → length (nodes_from e (tree_of t)) ≡ length (places_from d b t)
@@ -67,14 +68,14 @@ done_closed m x d b (parted col cut why left right) done h =
     let q = done_closed m x (suc d) (above b col cut) right done.1 (each_right _ (places_from (suc d) (below b col cut) left) (places_from (suc d) (above b col cut) right) h.1) in
     subst (IsClosedBy m x) (sym (bound_split m b col cut (tree_of left) (tree_of right))) (both_closed m x (bound_over m (tree_of left) (below b col cut)) (bound_over m (tree_of right) (above b col cut)) p q)
 
-pub done_reasons : (m : Parts) (d : ℕ) (b : List (ℤ × ℤ)) (t : PlainOpen) → IsDone t → Each (λ p. HasReason m p.box p.node) (places_from d b t) → Pairwise (IsReasoned m) (splits_over b (tree_of t)) (whys_of t)
-done_reasons m d b pending done h = absurd done
-done_reasons m d b (stuck why) done h = absurd done
-done_reasons m d b (ended c) done h = tt
-done_reasons m d b (parted col cut why left right) done h =
-    let p = done_reasons m (suc d) (below b col cut) left done.0 (each_left _ (places_from (suc d) (below b col cut) left) (places_from (suc d) (above b col cut) right) h.1) in
-    let q = done_reasons m (suc d) (above b col cut) right done.1 (each_right _ (places_from (suc d) (below b col cut) left) (places_from (suc d) (above b col cut) right) h.1) in
-    (h.0, pair_join (IsReasoned m) (splits_over (below b col cut) (tree_of left)) (splits_over (above b col cut) (tree_of right)) (whys_of left) (whys_of right) p q)
+pub done_reasons : (m : Parts) (pivots d : ℕ) (b : List (ℤ × ℤ)) (t : PlainOpen) → IsDone t → Each (λ p. HasReason m pivots p.box p.node) (places_from d b t) → Pairwise (IsReasoned m pivots) (splits_over b (tree_of t)) (whys_of t)
+done_reasons m pivots d b pending done h = absurd done
+done_reasons m pivots d b (stuck why) done h = absurd done
+done_reasons m pivots d b (ended c) done h = tt
+done_reasons m pivots d b (parted col cut why left right) done h =
+    let p = done_reasons m pivots (suc d) (below b col cut) left done.0 (each_left _ (places_from (suc d) (below b col cut) left) (places_from (suc d) (above b col cut) right) h.1) in
+    let q = done_reasons m pivots (suc d) (above b col cut) right done.1 (each_right _ (places_from (suc d) (below b col cut) left) (places_from (suc d) (above b col cut) right) h.1) in
+    (h.0, pair_join (IsReasoned m pivots) (splits_over (below b col cut) (tree_of left)) (splits_over (above b col cut) (tree_of right)) (whys_of left) (whys_of right) p q)
 
 -- ---- later points
 

@@ -9,7 +9,11 @@ use Rattle.ip_defs.specs.Limits.{IsArea}
 use Rattle.ip_defs.specs.Program.{low_at, high_at}
 use Rattle.ip_defs.proofs.BoxLaws.{below_open, above_open}
 use Rattle.branching.specs.Search.{IsSplit}
-use Rattle.branching.specs.Splits.{IsWidest, middle, width_at}
+use Rattle.branching.specs.declared.reasons.Why.{Why}
+use Rattle.branching.specs.declared.reasons.Why.TheVariants.{Fractional, Stopped, Wide}
+use Rattle.branching.specs.Reasons.{IsTrueReason}
+use Rattle.branching.specs.Relaxed.{IsUnanswered}
+use Rattle.branching.specs.Splits.{IsWidest, middle, split_at, width_at}
 
 -- among the columns below j this one is the first of the widest, where one has more than one number
 pub record IsWidestBelow (b : List (ℤ × ℤ)) (j widest : ℕ) (most : ℤ) : Type 0 where
@@ -51,9 +55,9 @@ middle_inside lo hi h = by (lo +ℤ hi) refl
     by (pos n) e = (omega (arith, ints), omega (arith, ints))
     by (negsuc n) e = (omega (arith, ints), omega (arith, ints))
 
--- the middle of the widest column splits a box, where that column has more than one number
-pub middle_splits : (m : Parts) (b : List (ℤ × ℤ)) (col : ℕ) → IsArea (length b) b → length b ≤ 4096 → IsOpen b → IsWidest b col → low_at b col <ℤ high_at b col → IsSplit m b col (middle (low_at b col) (high_at b col))
-middle_splits m b col area few open' widest wide =
+-- the middle of the widest column splits a box, where that column has more than one number, for a reason that is true of the box
+pub middle_splits : (m : Parts) (pivots : ℕ) (b : List (ℤ × ℤ)) (col : ℕ) (why : Why) → IsArea (length b) b → length b ≤ 4096 → IsOpen b → IsWidest b col → low_at b col <ℤ high_at b col → IsUnanswered m pivots b why → IsSplit m pivots b col (middle (low_at b col) (high_at b col)) why
+middle_splits m pivots b col why area few open' widest wide is =
     let z = middle (low_at b col) (high_at b col) in
     let within : col < length b = widest.within in
     let inside = middle_inside (low_at b col) (high_at b col) wide in
@@ -62,7 +66,12 @@ middle_splits m b col area few open' widest wide =
     let from = inside.0 in
     let to' = inside.1 in
     record {
-      reasoned = (record { col = within; left = below_open b col z within from to' open'; right = above_open b col z within from to' open' }, record { widest = widest; cut = refl });
+      reasoned = (record { col = within; left = below_open b col z within from to' open'; right = above_open b col z within from to' open' }, reason why is);
       col_small = omega (arith, within, few);
       cut_small = omega (arith, ints);
     }
+  where
+    reason : (why : Why) → IsUnanswered m pivots b why → IsTrueReason m pivots (split_at b col (middle (low_at b col) (high_at b col))) why
+    reason (Fractional x c) is = absurd is
+    reason Stopped is = (record { widest = widest; cut = refl }, is)
+    reason Wide is = (record { widest = widest; cut = refl }, is)

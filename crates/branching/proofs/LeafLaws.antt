@@ -42,12 +42,16 @@ not_less a b h = grind (arith, ints)
 less_is : (a b : ℤ) → a <ℤ b → lt_z a b ≡ true
 less_is a b h = grind (arith, ints)
 
-open_none : (b : List (ℤ × ℤ)) → IsOpen b → list_any is_empty_side b ≡ false
+pub open_none : (b : List (ℤ × ℤ)) → IsOpen b → list_any is_empty_side b ≡ false
 open_none b h = list_any_none is_empty_side b (All-from_get_or (λ s. is_empty_side s ≡ false) b (pos 0, pos 0) (λ j l. not_less (high_at b j) (low_at b j) (h j l)))
 
-ceiling_one : (g : ℤ) → ceiling g 1 ≡ g
+pub ceiling_one : (g : ℤ) → ceiling g 1 ≡ g
 ceiling_one (pos a) = omega (arith, ints)
 ceiling_one (negsuc a) = omega (arith, ints)
+
+-- of an open box the dual value bounds
+pub open_bound : (m : Parts) (b : List (ℤ × ℤ)) (c : Cert) → IsOpen b → leaf_bound m b c ≡ bound_by c.q (box_sum m b) (dual_value m b c.q c.y)
+open_bound m b c open' = ap (λ t. if t then Infinite else bound_by c.q (box_sum m b) (dual_value m b c.q c.y)) (open_none b open')
 
 -- the bound of the certificate without multipliers is the sum of the box
 pub plain_bound : (m : Parts) (b : List (ℤ × ℤ)) → list_any is_empty_side b ≡ false → leaf_bound m b plain_cert ≡ At (box_sum m b)
@@ -124,8 +128,7 @@ module _ (b : List (ℤ × ℤ)) (single : IsSingle b) (open' : IsOpen b) where
       let paid : pay m.rows y ≡ Some (k *ℤ side +ℤ pos 0) = rw (is, side_is) refl in
       let dual : dual_value m b (pos 0) y ≡ Some g = ap (option_map (λ p. p +ℤ (pos 0 *ℤ m.constant) +ℤ column_part m b (pos 0) y)) paid in
       let by_ray : bound_by (pos 0) (box_sum m b) (Some g) ≡ Infinite = ap (λ t. if t then Infinite else At (box_sum m b)) positive in
-      let found : leaf_bound m b (ray_on i k) ≡ bound_by (pos 0) (box_sum m b) (dual_value m b (pos 0) y) = ap (λ t. if t then Infinite else bound_by (pos 0) (box_sum m b) (dual_value m b (pos 0) y)) (open_none b open') in
-      found ∙ ap (bound_by (pos 0) (box_sum m b)) dual ∙ by_ray
+      open_bound m b (ray_on i k) open' ∙ ap (bound_by (pos 0) (box_sum m b)) dual ∙ by_ray
 
 -- the certificate without multipliers is within the limits
 plain_cert_ok : IsCert 1024 plain_cert
@@ -136,16 +139,29 @@ plain_cert_ok = record {
   multipliers = λ i p. absurd (omega arith);
 }
 
--- a box with a bound that the best point closes ends with the certificate without multipliers
-pub plain_end : (m : Parts) (b : List (ℤ × ℤ)) (found : Found) (c : Cert) (v : Bound) → IsSound m found → c ≡ plain_cert → v ≡ leaf_bound m b c → Closes found v → IsEnd m b found c
-plain_end m b found c v sound is bound closes = record {
-  cert = subst (IsCert 1024) (sym is) plain_cert_ok;
+-- and so is one for the rows of a program
+pub cert_within : (m : Parts) (c : Cert) → IsWithinLimits m → IsCert (length m.rows) c → IsCert 1024 c
+cert_within m c limits ok = record {
+  not_negative = ok.not_negative;
+  divisor = ok.divisor;
+  ordered = record { rising = ok.ordered.rising; within = λ i p. let row = ok.ordered.within i p in omega (arith, row, limits.row_count); present = ok.ordered.present };
+  multipliers = ok.multipliers;
+}
+
+-- a box with a bound that the best point closes ends with the certificate that bounds so
+pub closed_end : (m : Parts) (b : List (ℤ × ℤ)) (found : Found) (c : Cert) (v : Bound) → IsSound m found → IsCert 1024 c → v ≡ leaf_bound m b c → Closes found v → IsEnd m b found c
+closed_end m b found c v sound ok bound closes = record {
+  cert = ok;
   closed = subst (IsClosedBy m (point_of found)) bound (by found sound closes);
 }
   where
     by : (f : Found) → IsSound m f → Closes f v → IsClosedBy m (point_of f) v
     by None s h = h
     by (Some p) s h = subst (λ (w : ℤ). IsAtLeast v w) (sym s.1) h
+
+-- so does one with the certificate without multipliers
+pub plain_end : (m : Parts) (b : List (ℤ × ℤ)) (found : Found) (c : Cert) (v : Bound) → IsSound m found → c ≡ plain_cert → v ≡ leaf_bound m b c → Closes found v → IsEnd m b found c
+plain_end m b found c v sound is bound closes = closed_end m b found c v sound (subst (IsCert 1024) (sym is) plain_cert_ok) bound closes
 
 module _ (m : Parts) (b : List (ℤ × ℤ)) (p : List ℤ) (w : ℤ) (single : IsSingle b) (open' : IsOpen b) (is : p ≡ lowest b) where
   -- the one point of a box closes it, once it is kept

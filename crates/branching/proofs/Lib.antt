@@ -10,3 +10,8 @@ pub mod SearchLaws
 pub mod HalvingLaws
 pub mod LeafLaws
 pub mod RowLaws
+pub mod WholeLaws
+pub mod PointLaws
+pub mod BoundedLaws
+pub mod PriceLaws
+pub mod StepLaws

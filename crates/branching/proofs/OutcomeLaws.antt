@@ -19,7 +19,8 @@ use Rattle.branching.specs.declared.budgets.Limits.{Limits}
 use Rattle.branching.specs.declared.outcomes.Outcome.TheVariants.{Best, Empty, Budget}
 use Rattle.branching.specs.declared.reasons.Why.{Why}
 use Rattle.branching.specs.Outcomes.{SomeOf, Pairwise, ClaimsPoint, ClaimsLeast, IsFinished, OutcomesAreTrue}
-use Rattle.branching.specs.Splits.{splits_over, IsProper, IsReasoned}
+use Rattle.branching.specs.Reasons.{IsReasoned}
+use Rattle.branching.specs.Splits.{splits_over, IsProper}
 
 -- ---- lists in two parts
 
@@ -66,7 +67,7 @@ fits_of n b (split col cut left right) size h =
 
 finished : (m : Parts) (l : Limits) (p : Proof) (whys : List Why) → IsFinished m l p whys → IsTrueClaim m p.claim
 finished m l p whys h =
-    let proper = firsts (IsReasoned m) IsProper (splits_over (box_of m) (plain p.tree)) whys (λ a b r. r.0) h.reasons in
+    let proper = firsts (IsReasoned m l.pivots) IsProper (splits_over (box_of m) (plain p.tree)) whys (λ a b r. r.0) h.reasons in
     proofs_are_true m p (fits_of (length m.columns) (box_of m) (plain p.tree) (length-map m.columns (λ (c : Column). (c.lo, c.hi))) proper) h.proved
 
 best_is_least : (m : Parts) (c : Claim) → ClaimsPoint c → IsTrueClaim m c → ClaimsLeast m c

@@ -1,5 +1,6 @@
 -- Halves of a search make the whole, and the whole is a right outcome.
-use Rattle.std.specs.Prelude.{◌≡◌, ℕ, suc, ◌+◌, ◌≤◌, ◌<◌, ◌==◌, Bool, true, false, ℤ, pos, ◌+ℤ◌, ◌≤ℤ◌, List, [], ◌∷◌, length, Option, Some, None, IfSome, IsSome}
+use Rattle.std.specs.Prelude.{◌≡◌, ℕ, suc, ◌+◌, ◌*◌, ◌≤◌, ◌<◌, ◌==◌, Bool, true, false, ℤ, pos, ◌+ℤ◌, ◌≤ℤ◌, List, [], ◌∷◌, length, Option, Some, None, IfSome, IsSome}
+use Rattle.std.proofs.Math.Nat.{add-mul}
 use Rattle.std.specs.Int.{int_min, int_max}
 use Rattle.std.specs.Option.{is_some}
 use Rattle.std.proofs.Common.{refl, arith, inl, inr, subst, sym, ap, set, length-set}
@@ -30,7 +31,9 @@ use Rattle.branching.specs.declared.reasons.Why.TheVariants.{Stopped}
 use Rattle.branching.specs.OpenTrees.{PlainOpen, pending, stuck, ended, parted, Place, places, places_from, IsDone, tree_of, whys_of}
 use Rattle.branching.specs.Outcomes.{HasOneStuck, SomeOf, Pairwise, ClaimsPoint, IsFinished, IsRightOutcome, IsStopped, IsStuckNode, IsStuckAt}
 use Rattle.branching.specs.Search.{Found, point_of, IsSound, Improves, IsAnswerOf, IsPartOf, IsSearchArea, IsSplit, ArePlacesOf, EndsBy, IsGrown}
-use Rattle.branching.specs.Splits.{IsReasoned, splits_over}
+use Rattle.branching.specs.Counts.{IsCounted}
+use Rattle.branching.specs.Reasons.{IsReasoned}
+use Rattle.branching.specs.Splits.{splits_over}
 use Rattle.branching.proofs.BoxSizeLaws.{cut_low, cut_high}
 use Rattle.branching.proofs.OutcomeLaws.{some_left, some_right}
 use Rattle.branching.proofs.FinishLaws.{IsNoWorse, closed_stays, done_closed, done_count, done_depth, done_numbers, done_reasons}
@@ -49,8 +52,8 @@ improves_on (Some x) (Some y) (Some z) p q = omega (arith, ints)
 
 -- ---- the nodes of two halves
 
-pub halves_places : (m : Parts) (l : Limits) (d : ℕ) (b : List (ℤ × ℤ)) (col : ℕ) (cut : ℤ) (left right : PlainOpen) (before mid after : ℕ) (x y : Found) → d ≤ l.depth → IsSplit m b col cut → ArePlacesOf m l (places_from (suc d) (below b col cut) left) (before + 2) mid x → ArePlacesOf m l (places_from (suc d) (above b col cut) right) mid after y → IsNoWorse m (point_of x) (point_of y) → ArePlacesOf m l (places_from d b (parted col cut Stopped left right)) before after y
-halves_places m l d b col cut left right before mid after x y deep halved first second better =
+pub halves_places : (m : Parts) (l : Limits) (d : ℕ) (b : List (ℤ × ℤ)) (col : ℕ) (cut : ℤ) (why : Why) (left right : PlainOpen) (before mid after : ℕ) (x y : Found) → d ≤ l.depth → IsSplit m l.pivots b col cut why → ArePlacesOf m l (places_from (suc d) (below b col cut) left) (before + 2) mid x → ArePlacesOf m l (places_from (suc d) (above b col cut) right) mid after y → IsNoWorse m (point_of x) (point_of y) → ArePlacesOf m l (places_from d b (parted col cut why left right)) before after y
+halves_places m l d b col cut why left right before mid after x y deep halved first second better =
     let ps = places_from (suc d) (below b col cut) left in
     let qs = places_from (suc d) (above b col cut) right in
     let sum = length-append ps qs in
@@ -111,8 +114,8 @@ part_cut b whole_box j lo hi within from to' part = λ k l. by k (k == j) refl (
         let is = get_or-set_other b j k (lo, hi) (pos 0, pos 0) (eqb-false k j e) in
         rw (ap (λ (s : ℤ × ℤ). s.0) is, ap (λ (s : ℤ × ℤ). s.1) is) (part k l)
 
-pub below_search : (m : Parts) (b : List (ℤ × ℤ)) (j : ℕ) (z : ℤ) → IsSplit m b j z → IsSearchArea m b → IsSearchArea m (below b j z)
-below_search m b j z halved so =
+pub below_search : (m : Parts) (pivots : ℕ) (b : List (ℤ × ℤ)) (j : ℕ) (z : ℤ) (why : Why) → IsSplit m pivots b j z why → IsSearchArea m b → IsSearchArea m (below b j z)
+below_search m pivots b j z why halved so =
     let proper = halved.reasoned.0 in
     let from = cut_low b j z proper in
     let to' = cut_high b j z proper in
@@ -121,8 +124,8 @@ below_search m b j z halved so =
       part = part_cut b (box_of m) j (low_at b j) (int_min (high_at b j) z) proper.col (omega (arith, ints)) (omega (arith, ints, clamps)) so.part;
     }
 
-pub above_search : (m : Parts) (b : List (ℤ × ℤ)) (j : ℕ) (z : ℤ) → IsSplit m b j z → IsSearchArea m b → IsSearchArea m (above b j z)
-above_search m b j z halved so =
+pub above_search : (m : Parts) (pivots : ℕ) (b : List (ℤ × ℤ)) (j : ℕ) (z : ℤ) (why : Why) → IsSplit m pivots b j z why → IsSearchArea m b → IsSearchArea m (above b j z)
+above_search m pivots b j z why halved so =
     let proper = halved.reasoned.0 in
     let from = cut_low b j z proper in
     let to' = cut_high b j z proper in
@@ -134,14 +137,14 @@ above_search m b j z halved so =
 -- ---- subtrees
 
 -- both halves were grown
-pub halves_grown : (m : Parts) (l : Limits) (d : ℕ) (b : List (ℤ × ℤ)) (col : ℕ) (cut : ℤ) (before mid after : ℕ) (x y z : Found) (left right : PlainOpen) (stop : Option BudgetWhat) → d ≤ l.depth → IsSplit m b col cut → IsGrown m l (d + 1) (below b col cut) (before + 2) mid x y left None → IsGrown m l (d + 1) (above b col cut) mid after y z right stop → IsGrown m l d b before after x z (parted col cut Stopped left right) stop
-halves_grown m l d b col cut before mid after x y z left right stop deep halved first' second' =
+pub halves_grown : (m : Parts) (l : Limits) (d : ℕ) (b : List (ℤ × ℤ)) (col : ℕ) (cut : ℤ) (why : Why) (before mid after : ℕ) (x y z : Found) (left right : PlainOpen) (stop : Option BudgetWhat) → d ≤ l.depth → IsSplit m l.pivots b col cut why → IsGrown m l (d + 1) (below b col cut) (before + 2) mid x y left None → IsGrown m l (d + 1) (above b col cut) mid after y z right stop → IsGrown m l d b before after x z (parted col cut why left right) stop
+halves_grown m l d b col cut why before mid after x y z left right stop deep halved first' second' =
     let one : d + 1 ≡ suc d = omega arith in
     let first : IsGrown m l (suc d) (below b col cut) (before + 2) mid x y left None = subst (λ (k : ℕ). IsGrown m l k (below b col cut) (before + 2) mid x y left None) one first' in
     let second : IsGrown m l (suc d) (above b col cut) mid after y z right stop = subst (λ (k : ℕ). IsGrown m l k (above b col cut) mid after y z right stop) one second' in
     record {
-      places = halves_places m l d b col cut left right before mid after y z deep halved first.places second.places (no_worse m y z first.sound second.sound second.improves);
-      ends = halves_end l d b col cut Stopped left right after stop first.ends second.ends;
+      places = halves_places m l d b col cut why left right before mid after y z deep halved first.places second.places (no_worse m y z first.sound second.sound second.improves);
+      ends = halves_end l d b col cut why left right after stop first.ends second.ends;
       stuck = (let p = first.stuck in let q = second.stuck in omega arith);
       sound = second.sound;
       improves = improves_on x y z first.improves second.improves;
@@ -160,14 +163,14 @@ pub grown_from : (m : Parts) (l : Limits) (d : ℕ) (b : List (ℤ × ℤ)) (bef
 grown_from m l d b before after e x y t stop better g = record { places = g.places; ends = g.ends; stuck = g.stuck; sound = g.sound; improves = improves_on e x y better g.improves }
 
 -- the search stopped in the first half
-pub first_grown : (m : Parts) (l : Limits) (d : ℕ) (b : List (ℤ × ℤ)) (col : ℕ) (cut : ℤ) (before after : ℕ) (x y : Found) (left : PlainOpen) (stop : Option BudgetWhat) → d < l.depth → IsSome stop → IsSplit m b col cut → IsGrown m l (d + 1) (below b col cut) (before + 2) after x y left stop → IsGrown m l d b before after x y (parted col cut Stopped left pending) stop
-first_grown m l d b col cut before after x y left None deep some halved first' = absurd cc
-first_grown m l d b col cut before after x y left (Some what) deep some halved first' =
+pub first_grown : (m : Parts) (l : Limits) (d : ℕ) (b : List (ℤ × ℤ)) (col : ℕ) (cut : ℤ) (why : Why) (before after : ℕ) (x y : Found) (left : PlainOpen) (stop : Option BudgetWhat) → d < l.depth → IsSome stop → IsSplit m l.pivots b col cut why → IsGrown m l (d + 1) (below b col cut) (before + 2) after x y left stop → IsGrown m l d b before after x y (parted col cut why left pending) stop
+first_grown m l d b col cut why before after x y left None deep some halved first' = absurd cc
+first_grown m l d b col cut why before after x y left (Some what) deep some halved first' =
     let one : d + 1 ≡ suc d = omega arith in
     let first : IsGrown m l (suc d) (below b col cut) (before + 2) after x y left (Some what) = subst (λ (k : ℕ). IsGrown m l k (below b col cut) (before + 2) after x y left (Some what)) one first' in
     record {
-      places = halves_places m l d b col cut left pending before after after y y (omega arith) halved first.places (pending_places m l (suc d) (above b col cut) after y (omega arith) first.places.room) (no_worse_self m (point_of y));
-      ends = first_half_ends l d b col cut Stopped left after what first.ends;
+      places = halves_places m l d b col cut why left pending before after after y y (omega arith) halved first.places (pending_places m l (suc d) (above b col cut) after y (omega arith) first.places.room) (no_worse_self m (point_of y));
+      ends = first_half_ends l d b col cut why left after what first.ends;
       stuck = (let p = first.stuck in omega arith);
       sound = first.sound;
       improves = first.improves;
@@ -218,7 +221,7 @@ end_is_finished m l t after x p whys few shallow g tree_is whys_is proved' =
       nodes = subst (λ (s : PlainTree). node_count s ≤ l.nodes) back room;
       deep = subst (λ (s : PlainTree). depth s ≤ l.depth) back deep';
       limits = subst (λ (s : PlainTree). tree_limit s ≡ None) back ((limits_are_exact (tree_of t)).1 within);
-      reasons = subst (λ (s : PlainTree). Pairwise (IsReasoned m) (splits_over (box_of m) s) whys) back (subst (Pairwise (IsReasoned m) (splits_over (box_of m) (tree_of t))) (sym whys_is) (done_reasons m 0 (box_of m) t g.ends g.places.reasons));
+      reasons = subst (λ (s : PlainTree). Pairwise (IsReasoned m l.pivots) (splits_over (box_of m) s) whys) back (subst (Pairwise (IsReasoned m l.pivots) (splits_over (box_of m) (tree_of t))) (sym whys_is) (done_reasons m l.pivots 0 (box_of m) t g.ends g.places.reasons));
     }
 
 pub end_is_right : (m : Parts) (l : Limits) (t : PlainOpen) (after : ℕ) (x : Found) (o : Outcome) → l.nodes ≤ 1000000 → l.depth ≤ 800 → IsGrown m l 0 (box_of m) 1 after None x t None → IsAnswerOf t (point_of x) o → IsRightOutcome m l o
@@ -240,3 +243,21 @@ answer_has_none t best (Best p whys) made = tt
 answer_has_none t best (Empty p whys) made = tt
 answer_has_none t None (Budget what grown b) made = absurd made
 answer_has_none t (Some x) (Budget what grown b) made = absurd made
+
+-- ---- steps
+
+-- both halves were grown: the steps of the node and of its halves
+pub halves_counted : (l : Limits) (t left right nodes other before mid far after : ℕ) → before + t * l.pivots ≤ mid → mid ≤ before + l.pivots → IsCounted l left nodes mid far → IsCounted l right other far after → IsCounted l (t + (left + right)) (suc (nodes + other)) before after
+halves_counted l t left right nodes other before mid far after least most first second =
+    let p = first.least in
+    let q = second.least in
+    let r = first.most in
+    let s = second.most in
+    record { least = omega (arith, add-mul t (left + right) l.pivots, add-mul left right l.pivots); most = omega (arith, add-mul nodes other l.pivots) }
+
+-- the search stopped in the first half, and visited nothing of the second
+pub first_half_counted : (l : Limits) (t left nodes before mid after : ℕ) → before + t * l.pivots ≤ mid → mid ≤ before + l.pivots → IsCounted l left nodes mid after → IsCounted l (t + (left + 0)) (suc (nodes + 1)) before after
+first_half_counted l t left nodes before mid after least most first =
+    let p = first.least in
+    let r = first.most in
+    record { least = omega (arith, add-mul t left l.pivots); most = omega (arith, add-mul nodes 1 l.pivots) }

@@ -1,17 +1,25 @@
 -- How many nodes the tree of an outcome has, and how many of its splits were made without the answer of a linear program.
-use Rattle.std.specs.Prelude.{ℕ, suc, ◌+◌, ◌≤◌, Bool, true}
+use Rattle.std.specs.Prelude.{ℕ, suc, ◌+◌, ◌*◌, ◌≤◌, if◌then◌else◌, Bool, true, false}
 use Rattle.std.specs.List.{count_by}
 use Rattle.proof_tree.specs.Trees.{plain, node_count}
 use Rattle.branching.specs.declared.budgets.Limits.{Limits}
 use Rattle.branching.specs.declared.outcomes.Outcome.{Outcome}
 use Rattle.branching.specs.declared.outcomes.Outcome.TheVariants.{Best, Empty, Budget}
 use Rattle.branching.specs.declared.reasons.Why.{Why}
-use Rattle.branching.specs.declared.reasons.Why.TheVariants.{Stopped}
+use Rattle.branching.specs.declared.reasons.Why.TheVariants.{Fractional, Stopped, Wide}
 use Rattle.branching.specs.OpenTrees.{PlainOpen, pending, stuck, ended, parted, plain_open, whys_of}
 
 -- a split for this reason went without the answer of a linear program
 abbrev pub is_skipped : Why → Bool
+is_skipped (Fractional x c) = false
 is_skipped Stopped = true
+is_skipped Wide = true
+
+-- the linear program of the node was stopped
+abbrev pub is_stopped : Why → Bool
+is_stopped (Fractional x c) = false
+is_stopped Stopped = true
+is_stopped Wide = false
 
 -- how many nodes a tree has that is still being grown
 abbrev pub open_count : PlainOpen → ℕ
@@ -36,3 +44,23 @@ skipped_of (Budget what grown best) = count_by is_skipped (whys_of (plain_open g
 pub record AreCountsWithin (l : Limits) (o : Outcome) : Type 0 where
   pub nodes : nodes_of o ≤ l.nodes
   pub skipped : skipped_of o ≤ l.nodes
+
+-- how many nodes of a tree are split, or stuck, since their linear program was stopped
+abbrev pub stops : Why → ℕ
+stops why = if is_stopped why then 1 else 0
+
+abbrev pub stopped_in : PlainOpen → ℕ
+stopped_in pending = 0
+stopped_in (stuck why) = stops why
+stopped_in (ended c) = 0
+stopped_in (parted col cut why left right) = stops why + (stopped_in left + stopped_in right)
+
+abbrev pub stopped_of : Outcome → ℕ
+stopped_of (Best p whys) = count_by is_stopped whys
+stopped_of (Empty p whys) = count_by is_stopped whys
+stopped_of (Budget what grown best) = stopped_in (plain_open grown)
+
+-- the counter of steps rose by all that each stopped linear program may take, and by no more than so many for each node of the tree
+pub record IsCounted (l : Limits) (stopped nodes before after : ℕ) : Type 0 where
+  pub least : before + stopped * l.pivots ≤ after
+  pub most : after ≤ before + nodes * l.pivots

@@ -1,6 +1,8 @@
-pub mod OpenTrees
-pub mod Splits
-pub mod Outcomes
-pub mod Sizes
-pub mod Search
 pub mod Counts
+pub mod OpenTrees
+pub mod Outcomes
+pub mod Reasons
+pub mod Relaxed
+pub mod Search
+pub mod Sizes
+pub mod Splits

@@ -18,7 +18,8 @@ use Rattle.branching.specs.declared.outcomes.Outcome.{Outcome}
 use Rattle.branching.specs.declared.outcomes.Outcome.TheVariants.{Best, Empty, Budget}
 use Rattle.branching.specs.declared.reasons.Why.{Why}
 use Rattle.branching.specs.OpenTrees.{OpenNode, pending_node, stuck_node, ended_node, parted_node, Place, places, plain_open, stuck_count}
-use Rattle.branching.specs.Splits.{split_at, splits_over, IsReasoned, IsStuckFor}
+use Rattle.branching.specs.Reasons.{IsReasoned, IsStuckFor}
+use Rattle.branching.specs.Splits.{split_at, splits_over}
 
 -- some element of a list is so
 abbrev pub SomeOf : {A : Type 0} → (A → Type 0) → List A → Type 0
@@ -45,16 +46,16 @@ pub record IsFinished (m : Parts) (l : Limits) (p : Proof) (whys : List Why) : T
   pub nodes : node_count (plain p.tree) ≤ l.nodes
   pub deep : depth (plain p.tree) ≤ l.depth
   pub limits : tree_limit (plain p.tree) ≡ None
-  pub reasons : Pairwise (IsReasoned m) (splits_over (box_of m) (plain p.tree)) whys
+  pub reasons : Pairwise (IsReasoned m l.pivots) (splits_over (box_of m) (plain p.tree)) whys
 
 -- ---- stops
 
 -- the split of a node is proper with a true reason, and so is the one that a stuck node asks for
-abbrev pub HasReason : Parts → List (ℤ × ℤ) → OpenNode → Type 0
-HasReason m b pending_node = Unit {0}
-HasReason m b (stuck_node why) = IsStuckFor m b why
-HasReason m b (ended_node c) = Unit {0}
-HasReason m b (parted_node col cut why) = IsReasoned m (split_at b col cut) why
+abbrev pub HasReason : Parts → ℕ → List (ℤ × ℤ) → OpenNode → Type 0
+HasReason m pivots b pending_node = Unit {0}
+HasReason m pivots b (stuck_node why) = IsStuckFor m pivots b why
+HasReason m pivots b (ended_node c) = Unit {0}
+HasReason m pivots b (parted_node col cut why) = IsReasoned m pivots (split_at b col cut) why
 
 abbrev pub IsStuckNode : OpenNode → Type 0
 IsStuckNode pending_node = ⊥
@@ -85,7 +86,7 @@ IsClosedNode m best b (parted_node col cut why) = Unit {0}
 
 -- a search that stopped, by the nodes of its tree
 pub record IsStopped (m : Parts) (l : Limits) (what : BudgetWhat) (ps : List Place) (best : Option (List ℤ)) : Type 0 where
-  pub reasons : Each (λ p. HasReason m p.box p.node) ps
+  pub reasons : Each (λ p. HasReason m l.pivots p.box p.node) ps
   pub stuck : SomeOf (λ p. IsStuckNode p.node) ps
   pub nodes : length ps ≤ l.nodes
   pub deep : Each (λ p. p.depth ≤ l.depth) ps

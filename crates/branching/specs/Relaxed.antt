@@ -1,7 +1,7 @@
 -- What the linear program of a node says of its box.
-use Rattle.std.specs.Prelude.{◌≡◌, ℕ, ◌^◌, ◌≤◌, List, length, Some, option_map, ℤ, pos, ◌<ℤ◌, unsigned_abs}
+use Rattle.std.specs.Prelude.{◌≡◌, ℕ, ◌^◌, List, length, Some, option_map, ℤ, pos, neg_ℤ, ◌<ℤ◌}
 use Rattle.frac128.specs.Fractions.{Fraction}
-use Rattle.frac128.specs.Rationals.{Rational, of, mul}
+use Rattle.frac128.specs.Rationals.{Rational, of, mul, AtMost}
 use Rattle.ip_defs.specs.Certificates.{dual_value}
 use Rattle.ip_defs.specs.Limits.{IsCert}
 use Rattle.ip_defs.specs.declared.certificates.Cert.{Cert}
@@ -20,9 +20,10 @@ use Rattle.branching.specs.Search.{Found, IsEnd, IsSplit}
 abbrev pub IsWholeNumber : Rational → Type 0
 IsWholeNumber p = (z : ℤ) × (p ≡ of z)
 
--- it is at most 2^24 in size, and so fits a word
-abbrev pub IsSmallNumber : Rational → Type 0
-IsSmallNumber p = unsigned_abs p.top ≤ 2 ^ 24
+-- it lies between -2^24 and 2^24
+pub record IsSmallNumber (p : Rational) : Type 0 where
+  pub low : AtMost (of (neg_ℤ (pos (2 ^ 24)))) p
+  pub high : AtMost p (of (pos (2 ^ 24)))
 
 -- a point of a box's relaxation, and a certificate that bounds by just its cost
 pub record IsBounded (m : Parts) (b : List (ℤ × ℤ)) (x : List Fraction) (c : Cert) : Type 0 where

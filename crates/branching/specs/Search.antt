@@ -22,12 +22,13 @@ use Rattle.branching.specs.declared.budgets.BudgetWhat.TheVariants.{Nodes, Depth
 use Rattle.branching.specs.declared.outcomes.Outcome.{Outcome}
 use Rattle.branching.specs.declared.outcomes.Outcome.TheVariants.{Best, Empty}
 use Rattle.branching.specs.declared.reasons.Why.{Why}
-use Rattle.branching.specs.declared.reasons.Why.TheVariants.{Stopped}
 use Rattle.branching.specs.declared.nodes.Visit.{Visit}
 use Rattle.branching.specs.declared.nodes.Visit.TheVariants.{Closed, Blocked, Open}
 use Rattle.branching.specs.OpenTrees.{PlainOpen, OpenNode, pending_node, stuck_node, ended_node, parted_node, Place, places_from, IsDone, tree_of, whys_of, stuck_count}
 use Rattle.branching.specs.Outcomes.{SomeOf, HasReason, IsClosedBy, IsClosedNode, IsStuckAt, IsStuckNode}
-use Rattle.branching.specs.Splits.{split_at, IsReasoned, IsStuckFor}
+use Rattle.branching.specs.Counts.{stops}
+use Rattle.branching.specs.Reasons.{IsReasoned, IsStuckFor}
+use Rattle.branching.specs.Splits.{split_at}
 
 -- ---- the best point so far
 
@@ -94,9 +95,9 @@ pub record IsEnd (m : Parts) (b : List (ℤ × ℤ)) (found : Found) (c : Cert) 
   pub cert : IsCert 1024 c
   pub closed : IsClosedBy m (point_of found) (leaf_bound m b c)
 
--- a split of a box at a column and a number, halved without a linear program
-pub record IsSplit (m : Parts) (b : List (ℤ × ℤ)) (col : ℕ) (cut : ℤ) : Type 0 where
-  pub reasoned : IsReasoned m (split_at b col cut) Stopped
+-- a split of a box at a column and a number, for a reason
+pub record IsSplit (m : Parts) (pivots : ℕ) (b : List (ℤ × ℤ)) (col : ℕ) (cut : ℤ) (why : Why) : Type 0 where
+  pub reasoned : IsReasoned m pivots (split_at b col cut) why
   pub col_small : col ≤ 4095
   pub cut_small : unsigned_abs cut ≤ 2 ^ 24
 
@@ -108,8 +109,14 @@ MayNotSplit l d count Nodes = (d < l.depth) × (l.nodes < count + 2)
 -- what a visit of a node says of its box
 abbrev pub IsVisited : Parts → Limits → ℕ → List (ℤ × ℤ) → ℕ → Found → Visit → Type 0
 IsVisited m l d b count found (Closed c) = IsEnd m b found c
-IsVisited m l d b count found (Blocked what) = IsStuckFor m b Stopped × MayNotSplit l d count what
-IsVisited m l d b count found (Open col cut) = IsSplit m b col cut × (d < l.depth) × (count + 2 ≤ l.nodes)
+IsVisited m l d b count found (Blocked what why) = IsStuckFor m l.pivots b why × MayNotSplit l d count what
+IsVisited m l d b count found (Open col cut why) = IsSplit m l.pivots b col cut why × (d < l.depth) × (count + 2 ≤ l.nodes)
+
+-- how often the linear program of a visited node was stopped
+abbrev pub stops_at : Visit → ℕ
+stops_at (Closed c) = 0
+stops_at (Blocked what why) = stops why
+stops_at (Open col cut why) = stops why
 
 -- ---- subtrees
 
@@ -122,7 +129,7 @@ IsSmallNode (parted_node col cut why) = (col ≤ 4095) × (unsigned_abs cut ≤ 
 
 -- the nodes of a subtree: its own top node was counted before, those below it are counted on the way
 pub record ArePlacesOf (m : Parts) (l : Limits) (ps : List Place) (before after : ℕ) (found : Found) : Type 0 where
-  pub reasons : Each (λ p. HasReason m p.box p.node) ps
+  pub reasons : Each (λ p. HasReason m l.pivots p.box p.node) ps
   pub deep : Each (λ p. p.depth ≤ l.depth) ps
   pub closed : Each (λ p. IsClosedNode m (point_of found) p.box p.node) ps
   pub small : Each (λ p. IsSmallNode p.node) ps

@@ -1,12 +1,9 @@
--- Splits of boxes: proper ones, and the reasons for them.
+-- Splits of boxes: proper ones, and those at the middle of the widest column.
 use Rattle.std.specs.Prelude.{◌≡◌, ℕ, ◌<◌, List, [], ◌∷◌, ◌++◌, length, ℤ, pos, ◌+ℤ◌, ◌-ℤ◌, ◌≤ℤ◌, ◌<ℤ◌}
 use Rattle.std.specs.Int.{int_div_euclid}
 use Rattle.ip_defs.specs.Boxes.{IsOpen, below, above}
 use Rattle.ip_defs.specs.Program.{low_at, high_at}
-use Rattle.ip_defs.specs.declared.programs.Parts.{Parts}
 use Rattle.proof_tree.specs.Trees.{PlainTree, leaf, split}
-use Rattle.branching.specs.declared.reasons.Why.{Why}
-use Rattle.branching.specs.declared.reasons.Why.TheVariants.{Stopped}
 
 -- a split of a box: its left half has the numbers of a column up to the cut, its right half those after it
 pub record Split : Type 0 where
@@ -46,17 +43,3 @@ middle low high = int_div_euclid (low +ℤ high) (pos 2)
 pub record IsHalving (s : Split) : Type 0 where
   pub widest : IsWidest s.box s.col
   pub cut : s.cut ≡ middle (low_at s.box s.col) (high_at s.box s.col)
-
--- a reason for a split of a box of a program is true
-abbrev pub IsTrueReason : Parts → Split → Why → Type 0
-IsTrueReason m s Stopped = IsHalving s
-
--- a proper split with a true reason
-abbrev pub IsReasoned : Parts → Split → Why → Type 0
-IsReasoned m s why = IsProper s × IsTrueReason m s why
-
--- a reason is true of some proper split of a box
-pub record IsStuckFor (m : Parts) (b : List (ℤ × ℤ)) (why : Why) : Type 0 where
-  pub col : ℕ
-  pub cut : ℤ
-  pub reasoned : IsReasoned m (split_at b col cut) why

@@ -32,11 +32,12 @@ fn open_nodes(tree: &OpenTree) -> u32
 }
 
 /// Whether a split for a reason went without the answer of a linear program.
-fn is_skipped(why: Why) -> bool
-    ensures { result ≡ is_skipped_reason why }
+fn is_skipped(why: &Why) -> bool
+    ensures { result ≡ is_skipped_reason why.now }
 {
     match why {
-        Why::Stopped => true,
+        Why::Fractional { .. } => false,
+        Why::Stopped | Why::Wide => true,
     }
 }
 
@@ -44,7 +45,7 @@ fn is_skipped(why: Why) -> bool
 fn skips_among(reasons: &[Why]) -> usize
     ensures { result ≡ count_by is_skipped_reason reasons.now }
 {
-    reasons.iter().filter(|why| is_skipped(**why)).count()
+    reasons.iter().filter(|why| is_skipped(*why)).count()
 }
 
 /// How many splits of a tree that is still being grown were skipped.
@@ -62,7 +63,7 @@ fn open_skips(tree: &OpenTree) -> u32
             left,
             right,
             ..
-        } => u32::from(is_skipped(*why)) + (open_skips(left) + open_skips(right)),
+        } => u32::from(is_skipped(why)) + (open_skips(left) + open_skips(right)),
     }
 }
 

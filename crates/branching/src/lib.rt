@@ -11,6 +11,7 @@ mod nodes;
 mod open_trees;
 mod outcomes;
 mod reasons;
+mod relaxations;
 mod search;
 #[cfg(test)]
 mod tests;
@@ -23,3 +24,4 @@ pub use outcomes::Outcome;
 pub use proof_tree::{Cert, Claim, Point, Proof, Tree};
 pub use reasons::{Why, Whys};
 pub use search::solve;
+pub use simplex_exact::{Fracs, Steps};

@@ -1,31 +1,36 @@
-ghost use Rattle.std.specs.Prelude.{◌≡◌, ◌+◌, ◌<◌, ◌≤◌, IfNone, IfOk, IfSome, length};
+ghost use Rattle.std.specs.Prelude.{◌≡◌, ◌+◌, ◌*◌, ◌<◌, ◌≤◌, List, ℤ, None, IfNone, IfOk, IfSome};
 ghost use Rattle.ip_defs.specs.Boxes.{IsOpen};
-ghost use Rattle.ip_defs.specs.Limits.{IsArea, IsWithinLimits};
+ghost use Rattle.ip_defs.specs.Limits.{IsWithinLimits};
 ghost use Rattle.ip_defs.specs.Program.{high_at, low_at};
 ghost use Rattle.std.specs.Prelude.{◌<ℤ◌};
 ghost use Rattle.leaf_cert.specs.Room.{FitsScratch, room_of};
 ghost use Rattle.ip_defs.specs.declared.programs.Parts.{Parts};
-ghost use Rattle.branching.specs.Search.{Found as FoundPoint, Improves, IsSearchArea, IsSound, IsVisited, MayNotSplit};
+ghost use Rattle.ip_model.specs.Sizes.{first_crossed};
+ghost use Rattle.branching.specs.Counts.{stops};
+ghost use Rattle.branching.specs.Search.{Found as FoundPoint, Improves, IsSearchArea, IsSound, IsSplit, IsVisited, MayNotSplit, stops_at};
 ghost use Rattle.branching.specs.Splits.{IsWidest};
 
-use crate::BudgetWhat;
 use crate::boxes::{middle, widest_column};
 use crate::budgets::Limits;
 use crate::ends::{Found, end_at_point, is_closed, plain_cert};
+use crate::relaxations::{Relaxed, relax};
+use crate::{BudgetWhat, Why};
 use ip_defs::{Area, Cert, Memory};
 use ip_model::IntModel;
 use leaf_cert::{Scratch, leaf_bound};
+use simplex_exact::Steps;
 use std::alloc::Global;
+use std::sync::ledger::Ledger;
 
 /// What a search does with a node.
 #[derive(Debug, Drop)]
 pub enum Visit {
     /// It is a leaf.
     Closed(Cert),
-    /// It has to be split, and a limit forbids it.
-    Blocked(BudgetWhat),
-    /// It is split at a number of a column.
-    Open { col: u32, at: i64 },
+    /// It has to be split for a reason, and a limit forbids it.
+    Blocked { what: BudgetWhat, why: Why },
+    /// It is split at a number of a column, for a reason.
+    Open { col: u32, at: i64, why: Why },
 }
 
 /// What a search takes from node to node.
@@ -56,43 +61,80 @@ fn blocked_by(limits: Limits, depth: u32, nodes: u32) -> Option<BudgetWhat>
     }
 }
 
-/// Splits a box at the middle of a column, where the limits allow it.
-fn halve(limits: Limits, area: &[(i64, i64)], depth: u32, nodes: u32, col: u32) -> Visit
+/// Splits a box at a number of a column, where the limits allow it.
+fn split_at(limits: Limits, depth: u32, nodes: u32, col: u32, at: i64, why: Why) -> Visit
     requires depth { depth ≤ limits.depth }
     requires nodes { nodes ≤ limits.nodes }
-    requires area { IsArea (length area.now) area.now }
-    requires size { length area.now ≤ 4096 }
-    requires open { IsOpen area.now }
-    requires widest { IsWidest area.now col }
-    requires wide { low_at area.now col <ℤ high_at area.now col }
-    ensures { (m : Parts) (found : FoundPoint) → IsVisited m limits depth area.now nodes found result }
+    ensures { (m : Parts) (b : List (ℤ × ℤ)) (found : FoundPoint) → IsSplit m limits.pivots b col at why → IsVisited m limits depth b nodes found result × (stops_at result ≡ stops why) }
 {
-    let (low, high) = area[col as usize];
     match blocked_by(limits, depth, nodes) {
-        Some(what) => Visit::Blocked(what),
-        None => Visit::Open {
-            col,
-            at: middle(low, high),
-        },
+        Some(what) => Visit::Blocked { what, why },
+        None => Visit::Open { col, at, why },
     }
 }
 
-/// Visits a node: closes its box by the sum of its least costs or at its one point, or splits it at the middle of its widest column.
-pub fn visit_node(
+/// Visits a node of more than one point: closes its box by the sum of its least costs or by its linear program, or splits it, by the
+/// linear program at a column with a fraction, or without its answer at the middle of the widest column.
+fn visit_wide<L: Ledger>(
+    alloc: Global,
+    model: &IntModel,
+    limits: Limits,
+    area: &Area,
+    depth: u32,
+    widest: u32,
+    search: &mut Progress,
+    steps: &mut Steps<L>,
+) -> Result<Visit, Memory>
+    requires limits { IsWithinLimits model.now }
+    requires uncrossed { first_crossed model.now ≡ None }
+    requires area { IsSearchArea model.now area.now }
+    requires open { IsOpen area.now }
+    requires depth { depth ≤ limits.depth }
+    requires nodes { search.old.nodes ≤ limits.nodes }
+    requires widest { IsWidest area.now widest }
+    requires wide { low_at area.now widest <ℤ high_at area.now widest }
+    requires sound { IsSound model.now search.old.found }
+    requires room { FitsScratch model.now search.old.scratch }
+    ensures visited { IfOk result (IsVisited model.now limits depth area.now search.old.nodes search.new.found) }
+    ensures least { IfOk result (λ v. steps.old + stops_at v * limits.pivots ≤ steps.new) }
+    ensures most { steps.new ≤ steps.old + limits.pivots }
+    ensures sound { IsSound model.now search.new.found }
+    ensures improves { Improves search.old.found search.new.found }
+    ensures nodes { search.new.nodes ≡ search.old.nodes }
+    ensures room { room_of search.new.scratch ≡ room_of search.old.scratch }
+{
+    let nodes = search.nodes;
+    match relax(alloc, model, limits.pivots, area, search, steps)? {
+        Relaxed::Closed(cert) => Ok(Visit::Closed(cert)),
+        Relaxed::Between { col, at, why } => Ok(split_at(limits, depth, nodes, col, at, why)),
+        Relaxed::Unanswered(why) => {
+            let (low, high) = area.as_slice()[widest as usize];
+            let at = middle(low, high);
+            Ok(split_at(limits, depth, nodes, widest, at, why))
+        }
+    }
+}
+
+/// Visits a node: closes its box by the sum of its least costs, at its one point, or by its linear program, or splits it.
+pub fn visit_node<L: Ledger>(
     alloc: Global,
     model: &IntModel,
     limits: Limits,
     area: &Area,
     depth: u32,
     search: &mut Progress,
+    steps: &mut Steps<L>,
 ) -> Result<Visit, Memory>
     requires limits { IsWithinLimits model.now }
+    requires uncrossed { first_crossed model.now ≡ None }
     requires area { IsSearchArea model.now area.now }
     requires depth { depth ≤ limits.depth }
     requires nodes { search.old.nodes ≤ limits.nodes }
     requires sound { IsSound model.now search.old.found }
     requires room { FitsScratch model.now search.old.scratch }
     ensures visited { IfOk result (IsVisited model.now limits depth area.now search.old.nodes search.new.found) }
+    ensures least { IfOk result (λ v. steps.old + stops_at v * limits.pivots ≤ steps.new) }
+    ensures most { steps.new ≤ steps.old + limits.pivots }
     ensures sound { IsSound model.now search.new.found }
     ensures improves { Improves search.old.found search.new.found }
     ensures nodes { search.new.nodes ≡ search.old.nodes }
@@ -104,7 +146,7 @@ pub fn visit_node(
         return Ok(Visit::Closed(plain));
     }
     match widest_column(area.as_slice()) {
-        Some(col) => Ok(halve(limits, area.as_slice(), depth, search.nodes, col)),
+        Some(widest) => visit_wide(alloc, model, limits, area, depth, widest, search, steps),
         None => Ok(Visit::Closed(end_at_point(
             alloc,
             model,

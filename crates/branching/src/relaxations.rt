@@ -1,11 +1,12 @@
-ghost use Rattle.std.specs.Prelude.{◌≡◌, ◌≢◌, ◌<◌, ◌+◌, ◌*◌, ◌≤◌, ℕ, IfOk, IfNone, IfSome, OnOk, length, None, pos};
-ghost use Rattle.frac128.specs.Rationals.{of};
+ghost use Rattle.std.specs.Prelude.{◌≡◌, ◌<◌, ◌+◌, ◌*◌, ◌≤◌, ℕ, ◌+ℤ◌, IfOk, IfNone, IfSome, MatchBool, length, None, pos};
+ghost use Rattle.frac128.specs.Rationals.{of, AtMost};
+ghost use Rattle.frac128.specs.Values.{value_of};
 ghost use Rattle.ip_defs.specs.Boxes.{IsOpen};
+ghost use Rattle.ip_defs.specs.Limits.{IsWithinLimits};
 ghost use Rattle.ip_defs.specs.Program.{at as number_at};
 ghost use Rattle.ip_model.specs.Sizes.{first_crossed};
 ghost use Rattle.leaf_cert.specs.Room.{FitsScratch, room_of};
-ghost use Rattle.lp_duality.specs.Relaxations.{numbers_of, IsRelaxed};
-ghost use Rattle.simplex_exact.specs.Answers.{IsBest};
+ghost use Rattle.lp_duality.specs.Relaxations.{numbers_of};
 ghost use Rattle.branching.specs.Relaxed.{IsBounded, IsRelaxedNode, IsSmallNumber, IsWholeNumber, stops_by};
 ghost use Rattle.branching.specs.Search.{Improves, IsSearchArea, IsSound};
 
@@ -42,6 +43,33 @@ fn middle_distance(number: Frac) -> u64 {
     (part.wrapping_mul(1 << 32) / whole).abs_diff(1 << 31)
 }
 
+/// Whether a number is whole.
+fn is_whole(number: Frac) -> bool
+    ensures { MatchBool result (IsWholeNumber (value_of number)) (IsWholeNumber (value_of number) → ⊥) }
+{
+    number.den() == 1
+}
+
+/// The greatest whole number below a number that is small and not whole.
+fn floor_of(number: Frac) -> i64
+    requires broken { IsWholeNumber (value_of number) → ⊥ }
+    requires small { IsSmallNumber (value_of number) }
+    ensures least { AtMost (of result) (value_of number) }
+    ensures most { AtMost (value_of number) (of (result +ℤ pos 1)) }
+{
+    let floor = number.floor();
+    floor as i64
+}
+
+/// A small whole number.
+fn whole_number(number: Frac) -> i64
+    requires whole { IsWholeNumber (value_of number) }
+    requires small { IsSmallNumber (value_of number) }
+    ensures { value_of number ≡ of result }
+{
+    number.num() as i64
+}
+
 /// The column of a point with the number nearest to the middle of two whole ones, the first of those that are as near.
 fn fractional_column(point: &[Frac]) -> Option<u32>
     requires { length point.now ≤ 4096 }
@@ -51,7 +79,7 @@ fn fractional_column(point: &[Frac]) -> Option<u32>
     let mut nearest = None;
     let mut least = u64::MAX;
     for (j, number) in point.iter().enumerate() {
-        if number.den() != 1 {
+        if !is_whole(*number) {
             let distance = middle_distance(*number);
             if nearest.is_none() || distance < least {
                 nearest = Some(j as u32);
@@ -71,7 +99,7 @@ fn whole_point(alloc: Global, point: &[Frac]) -> Result<Point, AllocError>
 {
     let mut numbers = Vec::with_capacity(alloc, point.len())?;
     for number in point {
-        numbers.push(number.num() as i64)?;
+        numbers.push(whole_number(*number))?;
     }
     Ok(Point::from_vec(numbers))
 }
@@ -86,12 +114,14 @@ fn bounded(
     cert: Cert,
     search: &mut Progress,
 ) -> Result<Relaxed, Memory>
+    requires limits { IsWithinLimits model.now }
     requires area { IsSearchArea model.now area.now }
     requires open { IsOpen area.now }
     requires bounds { IsBounded model.now area.now point cert }
     requires sound { IsSound model.now search.old.found }
     requires room { FitsScratch model.now search.old.scratch }
     ensures relaxed { IfOk result (λ r. (pivots : ℕ) → IsRelaxedNode model.now pivots area.now search.new.found r) }
+    ensures answered { IfOk result (λ r. stops_by r ≡ 0) }
     ensures sound { IsSound model.now search.new.found }
     ensures improves { Improves search.old.found search.new.found }
     ensures nodes { search.new.nodes ≡ search.old.nodes }
@@ -103,7 +133,7 @@ fn bounded(
     }
     match fractional_column(point.as_slice()) {
         Some(col) => {
-            let at = point.as_slice()[col as usize].floor() as i64;
+            let at = floor_of(point.as_slice()[col as usize]);
             let why = Why::Fractional { point, cert };
             Ok(Relaxed::Between { col, at, why })
         }
@@ -139,6 +169,8 @@ pub fn relax<L: Ledger>(
     ensures nodes { search.new.nodes ≡ search.old.nodes }
     ensures room { room_of search.new.scratch ≡ room_of search.old.scratch }
 {
+    // The parts of a model are within the limits, and so are its rows' prices.
+    let _parts = model.parts();
     match solve_lp(alloc, model, area, pivots, steps)? {
         LpAnswer::Best { point, prices } => match cert_of_prices(alloc, &prices)? {
             Some(cert) => bounded(alloc, model, area, point, cert, search),

@@ -1,8 +1,8 @@
-ghost use Rattle.std.specs.Prelude.{◌≡◌, ◌≤◌, IfOk, OnOk};
+ghost use Rattle.std.specs.Prelude.{◌≡◌, ◌≤◌, None, IfOk, OnOk};
 ghost use Rattle.ip_defs.specs.Limits.{IsWithinLimits};
-ghost use Rattle.ip_model.specs.Sizes.{allowance};
+ghost use Rattle.ip_model.specs.Sizes.{allowance, first_crossed};
 ghost use Rattle.leaf_cert.specs.Room.{FitsScratch};
-ghost use Rattle.branching.specs.Counts.{AreCountsWithin};
+ghost use Rattle.branching.specs.Counts.{AreCountsWithin, IsCounted, nodes_of, open_count, stopped_in, stopped_of};
 ghost use Rattle.branching.specs.OpenTrees.{IsDone, parted, plain_open};
 ghost use Rattle.branching.specs.Outcomes.{HasOneStuck, IsRightOutcome, IsTrueOutcome};
 ghost use Rattle.branching.specs.Search.{IsAnswerOf, IsGrown, IsSearchArea, IsSound};
@@ -17,7 +17,9 @@ use ip_defs::{Area, Memory, Point};
 use ip_model::IntModel;
 use leaf_cert::scratch;
 use proof_tree::{Claim, Proof};
+use simplex_exact::Steps;
 use std::alloc::Global;
+use std::sync::ledger::Ledger;
 
 /// A subtree as far as it was grown, and the limit that stopped the search in it.
 #[derive(Debug, Drop)]
@@ -26,71 +28,75 @@ struct Grown {
     stop: Option<BudgetWhat>,
 }
 
-/// A halved node with its two sides.
+/// A split node with its two sides.
 fn split(
     alloc: Global,
     col: u32,
     at: i64,
+    why: Why,
     left: OpenTree,
     right: OpenTree,
 ) -> Result<OpenTree, Memory>
-    ensures { IfOk result (λ t. plain_open t ≡ parted col at Why.Stopped (plain_open left) (plain_open right)) }
+    ensures { IfOk result (λ t. plain_open t ≡ parted col at why (plain_open left) (plain_open right)) }
 {
     Ok(OpenTree::Split {
         col,
         at,
-        why: Why::Stopped,
+        why,
         left: Box::new(alloc, left)?,
         right: Box::new(alloc, right)?,
     })
 }
 
 /// Grows the subtree over a box, the left side first. The area is changed on the way and is as it was in the end.
-fn grow(
+fn grow<L: Ledger>(
     alloc: Global,
     model: &IntModel,
     limits: Limits,
     area: &mut Area,
     depth: u32,
     search: &mut Progress,
+    steps: &mut Steps<L>,
 ) -> Result<Grown, Memory>
     requires limits { IsWithinLimits model.now }
+    requires uncrossed { first_crossed model.now ≡ None }
     requires area { IsSearchArea model.now area.old }
     requires depth { depth ≤ limits.depth }
     requires nodes { search.old.nodes ≤ limits.nodes }
     requires sound { IsSound model.now search.old.found }
     requires room { FitsScratch model.now search.old.scratch }
     ensures grown { IfOk result (λ g. IsGrown model.now limits depth area.old search.old.nodes search.new.nodes search.old.found search.new.found (plain_open g.tree) g.stop) }
+    ensures counted { IfOk result (λ g. IsCounted limits (stopped_in (plain_open g.tree)) (open_count (plain_open g.tree)) steps.old steps.new) }
     ensures restored { OnOk result (area.new ≡ area.old) }
     ensures room { OnOk result (FitsScratch model.now search.new.scratch) }
 {
-    match visit_node(alloc, model, limits, area, depth, search)? {
+    match visit_node(alloc, model, limits, area, depth, search, steps)? {
         Visit::Closed(cert) => Ok(Grown {
             tree: OpenTree::Leaf(cert),
             stop: None,
         }),
-        Visit::Blocked(what) => Ok(Grown {
-            tree: OpenTree::Stuck(Why::Stopped),
+        Visit::Blocked { what, why } => Ok(Grown {
+            tree: OpenTree::Stuck(why),
             stop: Some(what),
         }),
-        Visit::Open { col, at } => {
+        Visit::Open { col, at, why } => {
             let j = col as usize;
             let side = area.as_slice()[j];
             search.nodes += 2;
             cut_below(area, j, at);
-            let left = grow(alloc, model, limits, area, depth + 1, search)?;
+            let left = grow(alloc, model, limits, area, depth + 1, search, steps)?;
             area.set(j, side);
             if left.stop.is_some() {
-                let tree = split(alloc, col, at, left.tree, OpenTree::Pending)?;
+                let tree = split(alloc, col, at, why, left.tree, OpenTree::Pending)?;
                 return Ok(Grown {
                     tree,
                     stop: left.stop,
                 });
             }
             cut_above(area, j, at);
-            let right = grow(alloc, model, limits, area, depth + 1, search)?;
+            let right = grow(alloc, model, limits, area, depth + 1, search, steps)?;
             area.set(j, side);
-            let tree = split(alloc, col, at, left.tree, right.tree)?;
+            let tree = split(alloc, col, at, why, left.tree, right.tree)?;
             Ok(Grown {
                 tree,
                 stop: right.stop,
@@ -125,12 +131,19 @@ fn answer(alloc: Global, tree: OpenTree, best: Option<Point>) -> Result<Outcome,
 }
 
 /// The right outcome of a search of the whole box.
-fn search_box(alloc: Global, model: &IntModel, limits: Limits) -> Result<Outcome, Memory>
+fn search_box<L: Ledger>(
+    alloc: Global,
+    model: &IntModel,
+    limits: Limits,
+    steps: &mut Steps<L>,
+) -> Result<Outcome, Memory>
+    requires uncrossed { first_crossed model.now ≡ None }
     requires nodes { 1 ≤ limits.nodes }
     requires most { limits.nodes ≤ 1000000 }
     requires depth { limits.depth ≤ 800 }
     ensures right { IfOk result (IsRightOutcome model.now limits) }
     ensures stuck { IfOk result HasOneStuck }
+    ensures counted { IfOk result (λ o. IsCounted limits (stopped_of o) (nodes_of o) steps.old steps.new) }
 {
     let mut area = box_of(alloc, model)?;
     let mut search = Progress {
@@ -138,7 +151,7 @@ fn search_box(alloc: Global, model: &IntModel, limits: Limits) -> Result<Outcome
         nodes: 1,
         scratch: scratch(alloc, model)?,
     };
-    let grown = grow(alloc, model, limits, &mut area, 0, &mut search)?;
+    let grown = grow(alloc, model, limits, &mut area, 0, &mut search, steps)?;
     let best = best_point(search.found);
     match grown.stop {
         None => answer(alloc, grown.tree, best),
@@ -150,24 +163,33 @@ fn search_box(alloc: Global, model: &IntModel, limits: Limits) -> Result<Outcome
     }
 }
 
-/// Solves a model by a search that makes the tree which proves its answer: a least point, or that no point is feasible. It goes depth
-/// first, left side first, and halves the widest column of a box at its middle. Without a linear program every split has the reason
-/// `Stopped`. After branch and bound, with the certificates of leaves in place of its bounds.
+/// Solves a model by branch and bound over exact linear programs: a least point, or that no point is feasible, with the tree that proves
+/// it. It goes depth first, left side first; the linear program of a node is solved once, in at most `limits.pivots` steps. The method is
+/// that of Land and Doig (An automatic method of solving discrete programming problems, 1960), with a certificate for each leaf.
 ///
-/// A box is closed where the sum of its least costs is not below the cost of the best point so far. A box of one point closes its own
-/// node: it is kept, where it is feasible; else a ray on the row that it breaks shows the box empty.
+/// A box is closed where the sum of its least costs, or its linear program, is not below the cost of the best point so far. A box of one
+/// point closes its own node: it is kept, where it is feasible; else a ray on the row that it breaks shows the box empty. A whole point
+/// of a linear program that is better is kept. Each split has a point in both halves, and its reason (see `Why`).
 ///
 /// The search stops with `Budget` at the first node that must be split and may not be; the depth is tested first. That node is `Stuck`,
-/// and every other open node is `Pending`. It never stops where the limits are as large as the box asks. Want of memory is the one error.
-pub fn solve(alloc: Global, model: &IntModel, limits: Limits) -> Result<Outcome, Memory>
+/// and every other open node is `Pending`. It never stops where the limits are as large as the box asks. The counter of steps rises by
+/// `limits.pivots` at least for each node whose linear program was stopped. Want of memory is the one error.
+pub fn solve<L: Ledger>(
+    alloc: Global,
+    model: &IntModel,
+    limits: Limits,
+    steps: &mut Steps<L>,
+) -> Result<Outcome, Memory>
     requires nodes { 1 ≤ limits.nodes }
     requires most { limits.nodes ≤ allowance model.now 1000000 }
     requires depth { limits.depth ≤ 800 }
+    requires uncrossed { first_crossed model.now ≡ None }
     ensures right { IfOk result (IsRightOutcome model.now limits) }
     ensures stuck { IfOk result HasOneStuck }
     ensures holds { IfOk result (IsTrueOutcome model.now) }
     ensures ends { IfOk result (λ o. AreAmple model.now limits → IsAnswer o) }
     ensures counts { IfOk result (AreCountsWithin limits) }
+    ensures counted { IfOk result (λ o. IsCounted limits (stopped_of o) (nodes_of o) steps.old steps.new) }
 {
-    search_box(alloc, model, limits)
+    search_box(alloc, model, limits, steps)
 }

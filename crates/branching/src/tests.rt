@@ -1,11 +1,19 @@
 //! The outcomes of small models, with ample limits and with limits that stop the search.
 
-use crate::{BudgetWhat, Claim, Limits, Outcome, Point, Proof, node_count, skipped_count, solve};
+ghost use Rattle.std.specs.Prelude.{◌≡◌, ◌<◌, ◌≤◌, IfOk, None};
+ghost use Rattle.ip_model.specs.Sizes.{allowance as allowance_of, first_crossed};
+ghost use Rattle.branching.specs.Counts.{AreCountsWithin};
+
+use crate::{
+    BudgetWhat, Claim, Limits, Outcome, Point, Proof, Steps, node_count, skipped_count, solve,
+};
 use ip_defs::{Bound, Coefs, Column, ColumnList, Memory, Name, Parts, Row, RowList};
-use ip_model::{IntModel, allowance, make, well_shaped};
+use ip_model::{IntModel, allowance, crossed, make, well_shaped};
 use leaf_cert::scratch;
 use proof_tree::{fits_model, tree_bound, tree_limits};
 use std::alloc::{Alloc, Global};
+use std::marker::Brand;
+use std::sync::ledger::{Blank, Ledger};
 use std::test::Fail;
 
 fn column(alloc: Global, cost: i64, lo: i64, hi: i64) -> Column {
@@ -97,12 +105,14 @@ fn negative_sum(alloc: Global) -> Result<IntModel, Fail> {
     model(alloc, columns, rows)
 }
 
-/// Columns without a cost from 0 to 2^24, each of which a search halves 25 times down to 0.
+/// Columns without a cost from 0 to 2^24, each of which a search without steps halves 25 times down to 0, and one from 0 to 1 that costs
+/// least at 1.
 fn wide(alloc: Global, count: u32) -> Result<IntModel, Fail> {
     let mut columns = Vec::new(alloc);
     for _ in 0..count {
         columns.push(column(alloc, 0, 0, 1 << 24))?;
     }
+    columns.push(column(alloc, -1, 0, 1))?;
     model(alloc, columns, Vec::new(alloc))
 }
 
@@ -115,15 +125,14 @@ struct Counted {
 }
 
 /// The outcome of a search, where the limits are allowed.
-fn search(alloc: Global, model: &IntModel, nodes: u32, depth: u32) -> Result<Counted, Fail> {
-    if nodes < 1 || nodes > allowance(model, 1_000_000) || depth > 800 {
+fn search(alloc: Global, model: &IntModel, limits: Limits) -> Result<Counted, Fail> {
+    if limits.nodes < 1 || limits.nodes > allowance(model, 1_000_000) || limits.depth > 800 {
         return Err("the limits are allowed".into());
     }
-    let outcome = solve(alloc, model, Limits {
-            nodes,
-            depth,
-            pivots: 0,
-        })?;
+    if crossed(model).is_some() {
+        return Err("no row is crossed".into());
+    }
+    let outcome = counted_search::<Brand>(alloc, model, limits, Blank::new(1))?;
     let nodes = node_count(&outcome);
     let skipped = skipped_count(&outcome);
     Ok(Counted {
@@ -131,6 +140,26 @@ fn search(alloc: Global, model: &IntModel, nodes: u32, depth: u32) -> Result<Cou
         nodes,
         skipped,
     })
+}
+
+/// The outcome of a search with a fresh counter of steps.
+fn counted_search<L: Ledger>(
+    alloc: Global,
+    model: &IntModel,
+    limits: Limits,
+    blank: Blank,
+) -> Result<Outcome, Memory>
+    requires nodes { 1 ≤ limits.nodes }
+    requires most { limits.nodes ≤ allowance_of model.now 1000000 }
+    requires depth { limits.depth ≤ 800 }
+    requires uncrossed { first_crossed model.now ≡ None }
+    requires name { blank.name ≡ L.name }
+    requires parts { blank.parts ≡ L.parts }
+    requires some { 0 < L.parts }
+    ensures counts { IfOk result (AreCountsWithin limits) }
+{
+    let mut steps = Steps::<L>::new(blank);
+    solve(alloc, model, limits, &mut steps)
 }
 
 /// The bound of the tree of a proof that is within the limits and fits.
@@ -157,12 +186,20 @@ struct Checked {
 }
 
 /// The proof of a search with ample limits, checked.
-fn check_search(alloc: Global, model: &IntModel) -> Result<Checked, Fail> {
+fn check_search(alloc: Global, model: &IntModel, pivots: u32) -> Result<Checked, Fail> {
     let Counted {
         outcome,
         nodes,
         skipped,
-    } = search(alloc, model, 100_000, 800)?;
+    } = search(
+        alloc,
+        model,
+        Limits {
+            nodes: 100_000,
+            depth: 800,
+            pivots,
+        },
+    )?;
     let (proof, reasons) = match outcome {
         Outcome::Best { proof, reasons } => (proof, reasons),
         Outcome::Empty { proof, reasons } => (proof, reasons),
@@ -182,17 +219,23 @@ fn check_search(alloc: Global, model: &IntModel) -> Result<Checked, Fail> {
 #[test]
 fn least_points(rt: HostRuntime) -> Result<(), Fail> {
     let alloc = rt.alloc();
-    let table: [(IntModel, &[i64], i128, u32, u32); 3] = [
-        (half(alloc)?, &[1], -1, 11, 5),
-        (no_rows(alloc)?, &[0, 4], -4, 21, 10),
-        (three_rows(alloc)?, &[2, 0, 1], -13, 2657, 1328),
+    let table: [(IntModel, u32, &[i64], i128, u32, u32); 5] = [
+        (half(alloc)?, 5_000, &[1], -1, 3, 0),
+        (half(alloc)?, 0, &[1], -1, 7, 3),
+        (no_rows(alloc)?, 5_000, &[0, 4], -4, 1, 0),
+        (no_rows(alloc)?, 0, &[0, 4], -4, 19, 9),
+        (three_rows(alloc)?, 5_000, &[2, 0, 1], -13, 1, 0),
     ];
-    for (model, point, value, nodes, skipped) in table {
-        let got = check_search(alloc, &model)?;
+    for (model, pivots, point, value, nodes, skipped) in table {
+        let got = check_search(alloc, &model, pivots)?;
         assert_eq!(rt; got.bound, Bound::At(value));
-        assert_eq!(rt; got.nodes, nodes, "at {value}");
-        assert_eq!(rt; got.skipped, skipped, "at {value}");
-        assert_eq!(rt; got.reasons, skipped as usize, "at {value}");
+        assert_eq!(rt; got.nodes, nodes, "at {value} with {pivots}");
+        assert_eq!(rt; got.skipped, skipped, "at {value} with {pivots}");
+        assert_eq!(rt;
+            got.reasons,
+            (nodes / 2) as usize,
+            "at {value} with {pivots}"
+        );
         match got.claim {
             Claim::Best(found) => assert_eq!(rt; found.as_slice(), point, "at {value}"),
             Claim::Empty => assert!(rt; false, "a point is claimed at {value}"),
@@ -204,23 +247,25 @@ fn least_points(rt: HostRuntime) -> Result<(), Fail> {
 #[test]
 fn no_points(rt: HostRuntime) -> Result<(), Fail> {
     let alloc = rt.alloc();
-    let table: [(IntModel, u32, u32); 3] = [
-        (odd(alloc, 1)?, 7, 3),
-        (empty_column(alloc)?, 1, 0),
-        (negative_sum(alloc)?, 7, 3),
+    let table: [(IntModel, u32, u32, u32); 4] = [
+        (odd(alloc, 1)?, 5_000, 5, 0),
+        (odd(alloc, 1)?, 0, 5, 2),
+        (empty_column(alloc)?, 5_000, 1, 0),
+        (negative_sum(alloc)?, 5_000, 1, 0),
     ];
-    for (model, nodes, skipped) in table {
-        let got = check_search(alloc, &model)?;
+    for (model, pivots, nodes, skipped) in table {
+        let got = check_search(alloc, &model, pivots)?;
         assert_eq!(rt; got.bound, Bound::Infinite);
-        assert_eq!(rt; got.nodes, nodes);
-        assert_eq!(rt; got.skipped, skipped);
-        assert_eq!(rt; got.reasons, skipped as usize);
+        assert_eq!(rt; got.nodes, nodes, "with {pivots}");
+        assert_eq!(rt; got.skipped, skipped, "with {pivots}");
+        assert_eq!(rt; got.reasons, (nodes / 2) as usize, "with {pivots}");
         assert!(rt; matches!(&got.claim, Claim::Empty), "no point is claimed");
     }
     Ok(())
 }
 
 /// The limit at which a search stopped, how many nodes and skipped splits it has grown, and the best point.
+#[derive(Drop)]
 struct Stop {
     what: BudgetWhat,
     nodes: u32,
@@ -229,12 +274,12 @@ struct Stop {
 }
 
 /// The stop of a search.
-fn stopped_search(alloc: Global, model: &IntModel, nodes: u32, depth: u32) -> Result<Stop, Fail> {
+fn stopped_search(alloc: Global, model: &IntModel, limits: Limits) -> Result<Stop, Fail> {
     let Counted {
         outcome,
         nodes,
         skipped,
-    } = search(alloc, model, nodes, depth)?;
+    } = search(alloc, model, limits)?;
     match outcome {
         Outcome::Budget {
             what,
@@ -261,24 +306,24 @@ fn stopped_search(alloc: Global, model: &IntModel, nodes: u32, depth: u32) -> Re
 fn stops_at_limits(rt: HostRuntime) -> Result<(), Fail> {
     let alloc = rt.alloc();
     let model = odd(alloc, 1000)?;
-    for (limit, depth, what, nodes, splits) in [
-        (50, 800, BudgetWhat::Nodes, 49, 24),
-        (1, 800, BudgetWhat::Nodes, 1, 0),
-        (50, 0, BudgetWhat::Depth, 1, 0),
-        (1, 0, BudgetWhat::Depth, 1, 0),
-        (50, 3, BudgetWhat::Depth, 7, 3),
-        (1_000_000, 800, BudgetWhat::Nodes, 999_999, 499_999),
+    for (nodes, depth, pivots, what, grown, splits) in [
+        (50, 800, 5_000, BudgetWhat::Nodes, 49, 0),
+        (1, 800, 5_000, BudgetWhat::Nodes, 1, 0),
+        (50, 0, 5_000, BudgetWhat::Depth, 1, 0),
+        (1, 0, 5_000, BudgetWhat::Depth, 1, 0),
+        (50, 800, 0, BudgetWhat::Nodes, 49, 24),
+        (50, 3, 0, BudgetWhat::Depth, 7, 3),
     ] {
-        let Stop {
-            what: stopped,
-            nodes: grown,
-            skipped,
-            best,
-        } = stopped_search(alloc, &model, limit, depth)?;
-        assert_eq!(rt; stopped, what, "at {limit} and {depth}");
-        assert_eq!(rt; grown, nodes, "at {limit} and {depth}");
-        assert_eq!(rt; skipped, splits, "at {limit} and {depth}");
-        assert!(rt; best.is_none(), "at {limit} and {depth}");
+        let limits = Limits {
+            nodes,
+            depth,
+            pivots,
+        };
+        let stop = stopped_search(alloc, &model, limits)?;
+        assert_eq!(rt; stop.what, what, "at {nodes}, {depth} and {pivots}");
+        assert_eq!(rt; stop.nodes, grown, "at {nodes}, {depth} and {pivots}");
+        assert_eq!(rt; stop.skipped, splits, "at {nodes}, {depth} and {pivots}");
+        assert!(rt; stop.best.is_none(), "at {nodes}, {depth} and {pivots}");
     }
     Ok(())
 }
@@ -287,39 +332,38 @@ fn stops_at_limits(rt: HostRuntime) -> Result<(), Fail> {
 #[test]
 fn best_of_a_stop(rt: HostRuntime) -> Result<(), Fail> {
     let alloc = rt.alloc();
-    let model = half(alloc)?;
-    let Stop {
-        what,
-        nodes,
-        skipped,
-        best,
-    } = stopped_search(alloc, &model, 10, 800)?;
-    assert_eq!(rt; what, BudgetWhat::Nodes);
-    assert_eq!(rt; nodes, 9);
-    assert_eq!(rt; skipped, 4);
-    match best {
-        Some(point) => assert_eq!(rt; point.as_slice(), [1].as_slice()),
+    let limits = Limits {
+        nodes: 30,
+        depth: 800,
+        pivots: 0,
+    };
+    let stop = stopped_search(alloc, &three_rows(alloc)?, limits)?;
+    assert_eq!(rt; stop.what, BudgetWhat::Nodes);
+    assert_eq!(rt; stop.nodes, 29);
+    assert_eq!(rt; stop.skipped, 14);
+    match stop.best {
+        Some(point) => assert_eq!(rt; point.as_slice(), [0, 1, 1].as_slice()),
         None => assert!(rt; false, "a point was found"),
     }
     Ok(())
 }
 
-/// Searches as deep as they may go: 750 splits down to the first point, and 800 down to a stop.
+/// Searches without steps as deep as they may go: 751 splits down to the first point, and 800 down to a stop.
 #[test]
 fn deep_searches(rt: HostRuntime) -> Result<(), Fail> {
     let alloc = rt.alloc();
-    let found = check_search(alloc, &wide(alloc, 30)?)?;
-    assert_eq!(rt; found.bound, Bound::At(0));
-    assert_eq!(rt; found.nodes, 1501);
-    let Stop {
-        what,
-        nodes,
-        skipped,
-        best,
-    } = stopped_search(alloc, &wide(alloc, 40)?, 100_000, 800)?;
-    assert_eq!(rt; what, BudgetWhat::Depth);
-    assert_eq!(rt; nodes, 1601);
-    assert_eq!(rt; skipped, 800);
-    assert!(rt; best.is_none());
+    let found = check_search(alloc, &wide(alloc, 30)?, 0)?;
+    assert_eq!(rt; found.bound, Bound::At(-1));
+    assert_eq!(rt; found.nodes, 1503);
+    let limits = Limits {
+        nodes: 100_000,
+        depth: 800,
+        pivots: 0,
+    };
+    let stop = stopped_search(alloc, &wide(alloc, 40)?, limits)?;
+    assert_eq!(rt; stop.what, BudgetWhat::Depth);
+    assert_eq!(rt; stop.nodes, 1601);
+    assert_eq!(rt; stop.skipped, 800);
+    assert!(rt; stop.best.is_none());
     Ok(())
 }

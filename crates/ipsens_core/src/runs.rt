@@ -1,6 +1,10 @@
-ghost use Rattle.std.specs.Prelude.{◌≡◌, ◌⊎◌, ◌≤◌, IfOk, None, length, map, string_bytes};
+ghost use Rattle.std.specs.Prelude.{◌≡◌, ◌⊎◌, ◌<◌, ◌≤◌, IfOk, None, length, map, string_bytes};
 ghost use Rattle.ip_defs.specs.Runs.{AnswersRequest, IsRunOf, RunMeets, how_of as how_of_request, says};
 ghost use Rattle.ip_defs.specs.Words.{request_of};
+ghost use Rattle.ip_model.specs.Sizes.{allowance as most_nodes_of, first_crossed};
+ghost use Rattle.branching.specs.Counts.{AreCountsWithin};
+ghost use Rattle.branching.specs.Outcomes.{IsRightOutcome, IsTrueOutcome};
+ghost use Rattle.branching.specs.Sizes.{AreAmple, IsAnswer};
 ghost use Rattle.ips_io.specs.Causes.{Rose};
 ghost use Rattle.ip_defs.specs.Files.{Takes};
 ghost use Rattle.ipsens_core.specs.Answers.{HasOutcome, IsAnswerTo, IsAnswerWith, IsShown, limits_for};
@@ -8,13 +12,15 @@ ghost use Rattle.ipsens_core.specs.Outcomes.{AreLimits, IsPlainRequest, Writes, 
 
 use crate::messages::{TOO_LONG, UNPRINTABLE, USAGE, outcome_text, refusal_line};
 use crate::words::{WordsError, request};
-use branching::{Limits, solve};
+use branching::{Limits, Outcome, Steps, solve};
 use ip_defs::{How, Memory, MpsError, Name, Request, Status};
 use ip_model::{IntModel, allowance};
 use ips_io::{ReadError, Shelf, Sink, read_all, write_all};
 use mps_printer::{print, printable};
 use mps_reader::read;
 use std::alloc::Global;
+use std::marker::Brand;
+use std::sync::ledger::{Blank, Ledger};
 
 /// The longest model file, in bytes: 16 MiB.
 const LONGEST_MODEL: u64 = 16_777_216;
@@ -43,6 +49,29 @@ fn how_of(request: &Request) -> How
     }
 }
 
+/// Searches a model for a least point, with a counter of steps that stands at 0.
+fn searched<L: Ledger>(
+    alloc: Global,
+    model: &IntModel,
+    limits: Limits,
+    blank: Blank,
+) -> Result<Outcome, Memory>
+    requires name { blank.name ≡ L.name }
+    requires parts { blank.parts ≡ L.parts }
+    requires some { 0 < L.parts }
+    requires nodes { 1 ≤ limits.nodes }
+    requires most { limits.nodes ≤ most_nodes_of model.now 1000000 }
+    requires depth { limits.depth ≤ 800 }
+    requires uncrossed { first_crossed model.now ≡ None }
+    ensures right { IfOk result (IsRightOutcome model.now limits) }
+    ensures holds { IfOk result (IsTrueOutcome model.now) }
+    ensures ends { IfOk result (λ o. AreAmple model.now limits → IsAnswer o) }
+    ensures counts { IfOk result (AreCountsWithin limits) }
+{
+    let mut steps = Steps::<L>::new(blank);
+    solve(alloc, model, limits, &mut steps)
+}
+
 /// Searches a model for a least point, and makes the text of the outcome.
 fn solved(
     alloc: Global,
@@ -51,7 +80,8 @@ fn solved(
     depth: u32,
     pivots: u32,
 ) -> Result<(Status, Vec<u8>), Memory>
-    requires { AreLimits nodes depth pivots }
+    requires limits { AreLimits nodes depth pivots }
+    requires uncrossed { first_crossed model.now ≡ None }
     ensures { IfOk result (λ r. HasOutcome model.now (limits_for model.now nodes depth pivots) (says r.0 r.1.items)) }
 {
     let parts = model.parts();
@@ -60,7 +90,7 @@ fn solved(
         depth,
         pivots,
     };
-    let outcome = solve(alloc, model, limits)?;
+    let outcome = searched::<Brand>(alloc, model, limits, Blank::new(1))?;
     let (status, text) = outcome_text(alloc, model, &outcome)?;
     Ok((status, text.into_bytes()))
 }
@@ -84,7 +114,8 @@ fn answer_with(
     request: &Request,
     model: &IntModel,
 ) -> Result<(Status, Vec<u8>), Memory>
-    requires { IsPlainRequest request.now }
+    requires plain { IsPlainRequest request.now }
+    requires uncrossed { first_crossed model.now ≡ None }
     ensures { IfOk result (λ r. IsAnswerWith request.now model.now (says r.0 r.1.items)) }
 {
     match request {

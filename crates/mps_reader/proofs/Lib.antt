@@ -23,5 +23,6 @@ pub mod StayLaws
 pub mod TableLaws
 pub mod TakingLaws
 pub mod TextLaws
+mod UncrossedLaws
 pub mod WholeLaws
 pub mod WrittenLaws

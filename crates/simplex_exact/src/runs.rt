@@ -64,6 +64,7 @@ fn solve<L: Ledger>(
     requires proper { list_any is_empty_side area.now ≡ false }
     requires uncrossed { first_crossed model.now ≡ None }
     ensures answer { IfOk result (λ r. IsLpAnswer model.now area.now pivots r.0) }
+    ensures rises { steps.old ≤ steps.new }
     ensures steps { steps.new ≤ steps.old + pivots }
     ensures stopped { IfOk result (λ r. r.0 ≡ Stopped → steps.new ≡ steps.old + pivots) }
 {
@@ -107,6 +108,7 @@ pub fn solve_lp<L: Ledger>(
     requires proper { list_any is_empty_side area.now ≡ false }
     requires uncrossed { first_crossed model.now ≡ None }
     ensures answer { IfOk result (IsLpAnswer model.now area.now pivots) }
+    ensures rises { steps.old ≤ steps.new }
     ensures steps { steps.new ≤ steps.old + pivots }
     ensures stopped { IfOk result (λ a. a ≡ Stopped → steps.new ≡ steps.old + pivots) }
 {

@@ -4,10 +4,7 @@ use Rattle.branching.proofs.LeafLaws.{not_closed}
 use Rattle.branching.proofs.nodes.visit_node.Goals as goal
 
 pub end_at_point-requires-clause-below : goal.end_at_point-requires-clause-below
-end_at_point-requires-clause-below c =
+end_at_point-requires-clause-below g c =
     let m = c.args.model.now in
     let b = c.args.area.now in
     (not_closed m b c.args.search.now.found c.leaf_bound-bound.result (c.leaf_bound-bound.ensures.bound ∙ ap (leaf_bound m b) c.plain_cert-plain.ensures) c.if-is_closed.ensures).1
-
-pub returns-in-Some-clause-visited : goal.returns-in-Some-clause-visited
-returns-in-Some-clause-visited c = rw c.as_slice-in-Some.ensures at (c.halve.ensures c.args.model.now c.args.search.now.found)

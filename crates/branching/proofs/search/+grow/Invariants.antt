@@ -2,4 +2,4 @@ use Rattle.std.specs.Prelude.{◌-◌}
 use Rattle.branching.proofs.search.+grow.Given as goal
 
 abbrev pub decreases-grow : goal.decreases-grow
-decreases-grow l = l.limits.depth - l.depth
+decreases-grow g l = l.limits.depth - l.depth

@@ -8,19 +8,19 @@ use Rattle.branching.proofs.OutcomeLaws.{outcomes_are_true}
 use Rattle.branching.proofs.search.solve.Goals as goal
 
 pub returns-clause-holds : goal.returns-clause-holds
-returns-clause-holds c =
+returns-clause-holds g c =
     let m = c.args.model.now in
     let l = c.args.limits in
     IfOk-weaker c.search_box.result (IsRightOutcome m l) (IsTrueOutcome m) (outcomes_are_true m l) c.search_box.ensures.right
 
 pub returns-clause-ends : goal.returns-clause-ends
-returns-clause-ends c =
+returns-clause-ends g c =
     let m = c.args.model.now in
     let l = c.args.limits in
     IfOk-weaker c.search_box.result (IsRightOutcome m l) (λ o. AreAmple m l → IsAnswer o) (searches_end m l) c.search_box.ensures.right
 
 pub returns-clause-counts : goal.returns-clause-counts
-returns-clause-counts c =
+returns-clause-counts g c =
     let m = c.args.model.now in
     let l = c.args.limits in
     IfOk-weaker c.search_box.result (IsRightOutcome m l) (AreCountsWithin l) (counts_within m l) c.search_box.ensures.right

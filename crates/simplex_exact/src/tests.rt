@@ -1,4 +1,6 @@
 ghost use Rattle.std.specs.Prelude.{◌≡◌, ◌<◌};
+ghost use Rattle.std.specs.List.{list_any};
+ghost use Rattle.ip_defs.specs.Certificates.{is_empty_side};
 
 use crate::{Fracs, LpAnswer, Steps, solve_lp};
 use ip_defs::{Area, Coefs, Column, ColumnList, Memory, Name, Parts, Row, RowList};
@@ -35,6 +37,13 @@ fn own_box(alloc: Global, columns: &[Column]) -> Result<Area, Memory> {
     Ok(Area::from_vec(sides))
 }
 
+/// Whether some column has no number between its sides.
+fn has_empty(area: &[(i64, i64)]) -> bool
+    ensures { result ≡ list_any is_empty_side area.now }
+{
+    area.iter().any(|side| side.1 < side.0)
+}
+
 /// The answer for a model over a box, where it may be asked.
 fn asked<L: Ledger>(
     alloc: Global,
@@ -43,9 +52,8 @@ fn asked<L: Ledger>(
     pivots: u32,
     steps: &mut Steps<L>,
 ) -> Result<Option<LpAnswer>, Memory> {
-    let empty = area.as_slice().iter().any(|side| side.1 < side.0);
     let size = model.parts().columns.as_slice().len();
-    if empty || crossed(model).is_some() || area.as_slice().len() != size {
+    if has_empty(area.as_slice()) || crossed(model).is_some() || area.as_slice().len() != size {
         return Ok(None);
     }
     Ok(Some(solve_lp(alloc, model, area, pivots, steps)?))

@@ -4,10 +4,13 @@ pub mod ChoiceLaws
 pub mod DualLaws
 pub mod EmptyLaws
 pub mod Examples
+pub mod PlaceLaws
 pub mod PointLaws
 pub mod PriceLaws
+pub mod ReadLaws
 pub mod RestLaws
 pub mod RunLaws
 pub mod SideLaws
 pub mod StepLaws
 pub mod StopLaws
+pub mod UncrossedLaws

@@ -1,7 +1,7 @@
 -- The point of a tableau: its basic variables have the values of their rows, the others rest, and each row of the tableau is 0 there.
-use Rattle.std.specs.Prelude.{◌≡◌, ◌≢◌, ℕ, zero, suc, ◌+◌, ◌<◌, ◌==◌, not, Bool, true, false, cond, List, [], ◌∷◌, length, Option, Some, None, option_map, option_and_then, ℤ, pos, nat_lt}
-use Rattle.std.specs.List.{position, prefix_len}
-use Rattle.std.proofs.Common.{arith, refl, ap, sym, ◌∙◌, subst, get_or, ◌⊎◌, inl, inr}
+use Rattle.std.specs.Prelude.{◌≡◌, ◌≢◌, ℕ, ◌+◌, ◌<◌, ◌==◌, Bool, List, length, Option, Some, None, option_map, option_and_then, ℤ, pos}
+use Rattle.std.specs.List.{position}
+use Rattle.std.proofs.Common.{arith, refl, ap, sym, ◌∙◌, subst, ◌⊎◌, inl, inr}
 use Rattle.ring_laws.proofs.Rings.{zero_mul}
 use Rattle.ring_laws.proofs.Sums.{sum}
 use Rattle.frac128.specs.Rationals.{Rational, of, mul, neg}
@@ -23,28 +23,11 @@ use Rattle.tableau.proofs.TableLaws.{system_of}
 use Rattle.simplex_laws.specs.Steps.{breach, outside}
 use Rattle.simplex_laws.specs.Finals.{number_by, point_of}
 use Rattle.simplex_laws.proofs.ChoiceLaws.{unmapped}
+use Rattle.simplex_laws.proofs.PlaceLaws.{found}
 use Rattle.simplex_laws.proofs.StepLaws.{basic_row}
 use Rattle.simplex_laws.proofs.PriceLaws.{basic_point}
 use Rattle.simplex_laws.proofs.SideLaws.{in_order}
 use Rattle.simplex_laws.proofs.RestLaws.{Sits, SignFits, rested_is, paid_rested, rested_between, outside_none}
-
--- ---- places in a list
-passes : (p : ℕ → Bool) (xs : List ℕ) (i d : ℕ) → i < length xs → p (get_or xs i d) ≡ true → prefix_len (λ x. not (p x)) xs < length xs
-passes p [] i d l e = absurd (omega arith)
-passes p (x ∷ xs) i d l e = by (p x) refl i l e (λ j m f. passes p xs j d m f)
-  where
-    by : (t : Bool) → p x ≡ t → (i : ℕ) → i < suc (length xs) → p (get_or (x ∷ xs) i d) ≡ true → ((j : ℕ) → j < length xs → p (get_or xs j d) ≡ true → prefix_len (λ x. not (p x)) xs < length xs) → cond (not t) (1 + prefix_len (λ x. not (p x)) xs) 0 < suc (length xs)
-    by true f i l e ih = omega arith
-    by false f zero l e ih = let q : false ≡ true = sym f ∙ e in absurd cc
-    by false f (suc j) l e ih = let r = ih j (omega arith) e in omega arith
-
--- what stands in a list has a place
-pub found : (p : ℕ → Bool) (xs : List ℕ) (i d : ℕ) → i < length xs → p (get_or xs i d) ≡ true → position p xs ≢ None
-found p xs i d l e h =
-    let n = prefix_len (λ x. not (p x)) xs in
-    let t : nat_lt n (length xs) ≡ true = (let r = passes p xs i d l e in grind arith) in
-    let q : position p xs ≡ Some n = ap (λ t. cond t (Some n) None) t in
-    absurd cc
 
 module _ (m : Parts) (b : List (ℤ × ℤ)) (T : Table) (table : IsTable T) (stands : StandsFor m b T) where
   -- ---- rows

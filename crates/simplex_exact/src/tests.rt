@@ -1,11 +1,12 @@
 ghost use Rattle.std.specs.Prelude.{◌≡◌, ◌<◌};
+ghost use Rattle.std.specs.List.{list_any};
+ghost use Rattle.ip_defs.specs.Certificates.{is_empty_side};
 
 use crate::{Fracs, LpAnswer, Steps, solve_lp};
 use ip_defs::{Area, Coefs, Column, ColumnList, Memory, Name, Parts, Row, RowList};
-use ip_model::{IntModel, make, well_shaped};
+use ip_model::{IntModel, crossed, make, well_shaped};
 use std::alloc::Global;
 use std::marker::Brand;
-use std::process::Abort;
 use std::sync::ledger::{Blank, Ledger};
 
 fn column(alloc: Global, cost: i64, lo: i64, hi: i64) -> Column {
@@ -27,8 +28,60 @@ fn row(alloc: Global, coefs: Vec<(u32, i64)>, low: Option<i64>, high: Option<i64
     }
 }
 
-/// A model of columns and rows, where it is well shaped and within the limits.
-fn model(alloc: Global, columns: Vec<Column>, rows: Vec<Row>) -> Option<IntModel> {
+/// The box of a program.
+fn own_box(alloc: Global, columns: &[Column]) -> Result<Area, Memory> {
+    let mut sides = Vec::new(alloc);
+    for column in columns {
+        sides.push((column.lo, column.hi))?;
+    }
+    Ok(Area::from_vec(sides))
+}
+
+/// Whether some column has no number between its sides.
+fn has_empty(area: &[(i64, i64)]) -> bool
+    ensures { result ≡ list_any is_empty_side area.now }
+{
+    area.iter().any(|side| side.1 < side.0)
+}
+
+/// The answer for a model over a box, where it may be asked.
+fn asked<L: Ledger>(
+    alloc: Global,
+    model: &IntModel,
+    area: &Area,
+    pivots: u32,
+    steps: &mut Steps<L>,
+) -> Result<Option<LpAnswer>, Memory> {
+    let size = model.parts().columns.as_slice().len();
+    if has_empty(area.as_slice()) || crossed(model).is_some() || area.as_slice().len() != size {
+        return Ok(None);
+    }
+    Ok(Some(solve_lp(alloc, model, area, pivots, steps)?))
+}
+
+/// A counter of its own for a program.
+fn counted<L: Ledger>(
+    alloc: Global,
+    model: &IntModel,
+    area: &Area,
+    pivots: u32,
+    blank: Blank,
+) -> Result<Option<LpAnswer>, Memory>
+    requires name { blank.name ≡ L.name }
+    requires parts { blank.parts ≡ L.parts }
+    requires some { 0 < L.parts }
+{
+    let mut steps = Steps::<L>::new(blank);
+    asked(alloc, model, area, pivots, &mut steps)
+}
+
+/// What a program of columns and rows is answered, as text.
+fn solved(
+    alloc: Global,
+    columns: Vec<Column>,
+    rows: Vec<Row>,
+    pivots: u32,
+) -> Result<String, Memory> {
     let parts = Parts {
         objective: Name::new(String::new(alloc)),
         cost_decimals: 0,
@@ -37,37 +90,21 @@ fn model(alloc: Global, columns: Vec<Column>, rows: Vec<Row>) -> Option<IntModel
         rows: RowList::from_vec(rows),
     };
     if !well_shaped(&parts) {
-        return None;
+        return told(alloc, &None);
     }
-    make(parts).ok()
-}
-
-/// The answer for a model over its own box, and the number of steps.
-fn solved(
-    alloc: Global,
-    columns: Vec<Column>,
-    rows: Vec<Row>,
-    pivots: u32,
-    blank: Blank,
-) -> Result<Option<LpAnswer>, Memory> {
-    let Some(model) = model(alloc, columns, rows) else {
-        return Ok(None);
+    let Ok(model) = make(parts) else {
+        return told(alloc, &None);
     };
-    let columns = model.parts().columns.as_slice();
-    let mut sides = Vec::new(alloc);
-    for column in columns {
-        sides.push((column.lo, column.hi))?;
-    }
-    let area = Area::from_vec(sides);
-    let mut steps = Steps::<Brand>::new(blank);
-    Ok(Some(solve_lp(alloc, &model, &area, pivots, &mut steps)?))
+    let area = own_box(alloc, model.parts().columns.as_slice())?;
+    let answer = counted::<Brand>(alloc, &model, &area, pivots, Blank::new(1))?;
+    told(alloc, &answer)
 }
 
-fn text(alloc: Global, xs: &Fracs) -> Result<String, Memory> {
+fn numbers(alloc: Global, xs: &Fracs) -> Result<String, Memory> {
     let mut all = String::new(alloc);
     for x in xs.as_slice() {
-        let one = format!(in alloc; " {}/{}", x.num(), x.den())?;
-        all.push_str(one.as_str())?;
+        let number = format!(in alloc; " {}/{}", x.num(), x.den())?;
+        all.push_str(number.as_str())?;
     }
     Ok(all)
 }
@@ -75,33 +112,177 @@ fn text(alloc: Global, xs: &Fracs) -> Result<String, Memory> {
 fn told(alloc: Global, answer: &Option<LpAnswer>) -> Result<String, Memory> {
     match answer {
         Some(LpAnswer::Best { point, prices }) => {
-            let point = text(alloc, point)?;
-            let prices = text(alloc, prices)?;
+            let point = numbers(alloc, point)?;
+            let prices = numbers(alloc, prices)?;
             Ok(format!(in alloc; "best{point} prices{prices}")?)
         }
         Some(LpAnswer::Empty { ray }) => {
-            let ray = text(alloc, ray)?;
+            let ray = numbers(alloc, ray)?;
             Ok(format!(in alloc; "empty{ray}")?)
         }
         Some(LpAnswer::Stopped) => Ok(format!(in alloc; "stopped")?),
         Some(LpAnswer::Wide) => Ok(format!(in alloc; "wide")?),
-        None => Ok(format!(in alloc; "no model")?),
+        None => Ok(format!(in alloc; "not asked")?),
     }
 }
 
+/// Least -x with 2x <= 3 and x from 0 to 2.
+fn one_row(alloc: Global, pivots: u32) -> Result<String, Memory> {
+    let columns = vec![in alloc; column(alloc, -1, 0, 2)]?;
+    let rows = vec![in alloc; row(alloc, vec![in alloc; (0, 2)]?, None, Some(3))]?;
+    solved(alloc, columns, rows, pivots)
+}
+
+/// Least -x with x from 0 to 1, and a row of x alone.
+fn one_column(alloc: Global, high: i64, side: Option<i64>, pivots: u32) -> Result<String, Memory> {
+    let columns = vec![in alloc; column(alloc, -1, 0, high)]?;
+    let rows = vec![in alloc; row(alloc, vec![in alloc; (0, 1)]?, None, side)]?;
+    solved(alloc, columns, rows, pivots)
+}
+
+/// x + y at least 3, with both from 0.
+fn sum_of_two(alloc: Global, high: i64, side: Option<i64>) -> Result<String, Memory> {
+    let columns = vec![in alloc; column(alloc, 1, 0, high), column(alloc, 1, 0, high)]?;
+    let rows = vec![in alloc;
+        row(alloc, vec![in alloc; (0, 1), (1, 1)]?, Some(3), None),
+        row(alloc, vec![in alloc; (0, 1), (1, 1)]?, None, side),
+    ]?;
+    solved(alloc, columns, rows, 9)
+}
+
+/// Least -x - y with 3x + 2y <= 11, x fixed and y from 0 to 5.
+fn fixed_column(alloc: Global) -> Result<String, Memory> {
+    let columns = vec![in alloc; column(alloc, -1, 2, 2), column(alloc, -1, 0, 5)]?;
+    let rows = vec![in alloc; row(alloc, vec![in alloc; (0, 3), (1, 2)]?, None, Some(11))]?;
+    solved(alloc, columns, rows, 9)
+}
+
+/// Least 2x + 3y with x + y = 4 and x - y <= 7, x from 0 to 10 and y from -5 to 5.
+fn equation(alloc: Global) -> Result<String, Memory> {
+    let columns = vec![in alloc; column(alloc, 2, 0, 10), column(alloc, 3, -5, 5)]?;
+    let rows = vec![in alloc;
+        row(alloc, vec![in alloc; (0, 1), (1, 1)]?, Some(4), Some(4)),
+        row(alloc, vec![in alloc; (0, 1), (1, -1)]?, None, Some(7)),
+    ]?;
+    solved(alloc, columns, rows, 9)
+}
+
+/// The program on which the simplex cycles by the most negative reduced cost (Beale, 1955), in whole numbers.
+fn cycling(alloc: Global) -> Result<String, Memory> {
+    let columns = vec![in alloc;
+        column(alloc, -75, 0, 10),
+        column(alloc, 15000, 0, 10),
+        column(alloc, -2, 0, 10),
+        column(alloc, 600, 0, 10),
+    ]?;
+    let first = vec![in alloc; (0, 25), (1, -6000), (2, -4), (3, 900)]?;
+    let second = vec![in alloc; (0, 25), (1, -4500), (2, -1), (3, 150)]?;
+    let rows = vec![in alloc;
+        row(alloc, first, None, Some(0)),
+        row(alloc, second, None, Some(0)),
+        row(alloc, vec![in alloc; (2, 1)]?, None, Some(1)),
+    ]?;
+    solved(alloc, columns, rows, 100)
+}
+
+/// Four equations with coefficients of 40 bits: after three pivots the numbers of the tableau have 160 bits.
+fn long_equations(alloc: Global, pivots: u32) -> Result<String, Memory> {
+    let side = 16_777_216;
+    let columns = vec![in alloc;
+        column(alloc, 848_841, -side, side),
+        column(alloc, 904_501, -side, side),
+        column(alloc, 846_546, -side, side),
+        column(alloc, -252_070, -side, side),
+    ]?;
+    let first = vec![in alloc;
+        (0, 994_336_076_226),
+        (1, -280_062_031_789),
+        (2, 863_692_683_667),
+        (3, -475_438_271_359),
+    ]?;
+    let second = vec![in alloc;
+        (0, 644_168_615_732),
+        (1, 893_201_833_400),
+        (2, -822_364_340_554),
+        (3, -944_637_035_053),
+    ]?;
+    let third = vec![in alloc;
+        (0, 337_000_032_430),
+        (1, -236_899_971_603),
+        (2, -70_784_822_944),
+        (3, 196_023_560_269),
+    ]?;
+    let fourth = vec![in alloc;
+        (0, -1_080_185_249_239),
+        (1, -723_004_273_937),
+        (2, 688_389_467_932),
+        (3, -730_830_709_286),
+    ]?;
+    let rows = vec![in alloc;
+        row(alloc, first, Some(1), Some(1)),
+        row(alloc, second, Some(1), Some(1)),
+        row(alloc, third, Some(1), Some(1)),
+        row(alloc, fourth, Some(1), Some(1)),
+    ]?;
+    solved(alloc, columns, rows, pivots)
+}
+
 #[test]
-fn one_row(rt: HostRuntime) -> Result<(), Memory> {
+fn one_row_within_pivots(rt: HostRuntime) -> Result<(), Memory> {
     let alloc = rt.alloc();
-    for (pivots, want) in [
-        (0, "stopped"),
-        (1, "best 3/2 prices -1/2"),
-        (9, "best 3/2 prices -1/2"),
-    ] {
-        let columns = vec![in alloc; column(alloc, -1, 0, 2)]?;
-        let rows = vec![in alloc; row(alloc, vec![in alloc; (0, 2)]?, None, Some(3))]?;
-        let answer = solved(alloc, columns, rows, pivots, Blank::new(1))?;
-        let told = told(alloc, &answer)?;
-        assert_eq!(&rt; told.as_str(), want);
-    }
+    assert_eq!(&rt; one_row(alloc, 0)?.as_str(), "stopped");
+    assert_eq!(&rt; one_row(alloc, 1)?.as_str(), "best 3/2 prices -1/2");
+    assert_eq!(&rt; one_row(alloc, 9)?.as_str(), "best 3/2 prices -1/2");
+    Ok(())
+}
+
+#[test]
+fn a_flip_is_a_step(rt: HostRuntime) -> Result<(), Memory> {
+    let alloc = rt.alloc();
+    assert_eq!(&rt; one_column(alloc, 1, Some(5), 0)?.as_str(), "stopped");
+    assert_eq!(&rt;
+        one_column(alloc, 1, Some(5), 1)?.as_str(),
+        "best 1/1 prices 0/1"
+    );
+    assert_eq!(&rt;
+        one_column(alloc, 4, None, 1)?.as_str(),
+        "best 4/1 prices 0/1"
+    );
+    assert_eq!(&rt; one_column(alloc, -1, None, 1)?.as_str(), "not asked");
+    Ok(())
+}
+
+#[test]
+fn no_point(rt: HostRuntime) -> Result<(), Memory> {
+    let alloc = rt.alloc();
+    assert_eq!(&rt; sum_of_two(alloc, 1, None)?.as_str(), "empty 1/1 0/1");
+    assert_eq!(&rt; sum_of_two(alloc, 4, Some(2))?.as_str(), "empty 1/1 -1/1");
+    assert_eq!(&rt;
+        sum_of_two(alloc, 2, Some(3))?.as_str(),
+        "best 2/1 1/1 prices 1/1 0/1"
+    );
+    Ok(())
+}
+
+#[test]
+fn sides_of_columns_and_rows(rt: HostRuntime) -> Result<(), Memory> {
+    let alloc = rt.alloc();
+    assert_eq!(&rt; fixed_column(alloc)?.as_str(), "best 2/1 5/2 prices -1/2");
+    assert_eq!(&rt; equation(alloc)?.as_str(), "best 11/2 -3/2 prices 5/2 -1/2");
+    Ok(())
+}
+
+#[test]
+fn no_cycle(rt: HostRuntime) -> Result<(), Memory> {
+    let want = "best 1/25 0/1 1/1 0/1 prices 0/1 -3/1 -5/1";
+    assert_eq!(&rt; cycling(rt.alloc())?.as_str(), want);
+    Ok(())
+}
+
+#[test]
+fn a_wide_tableau(rt: HostRuntime) -> Result<(), Memory> {
+    let alloc = rt.alloc();
+    assert_eq!(&rt; long_equations(alloc, 1)?.as_str(), "stopped");
+    assert_eq!(&rt; long_equations(alloc, 9)?.as_str(), "wide");
     Ok(())
 }

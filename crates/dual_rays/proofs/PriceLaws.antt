@@ -1,5 +1,5 @@
 -- What the certificate of prices is.
-use Rattle.std.specs.Prelude.{◌≡◌, ◌≢◌, ℕ, zero, suc, ◌*◌, ◌/◌, ◌^◌, ◌<◌, ◌≤◌, nat_lt, Bool, true, false, if◌then◌else◌, List, [], ◌∷◌, length, map, slice_index_or, Option, None, Some, option_map, ℤ, pos, negsuc, ◌*ℤ◌, ◌≤ℤ◌, ◌<ℤ◌, unsigned_abs}
+use Rattle.std.specs.Prelude.{◌≡◌, ℕ, zero, suc, ◌*◌, ◌/◌, ◌^◌, ◌<◌, ◌≤◌, nat_lt, Bool, true, false, if◌then◌else◌, List, [], ◌∷◌, length, map, None, Some, option_map, ℤ, pos, negsuc, ◌*ℤ◌, ◌≤ℤ◌, ◌<ℤ◌, unsigned_abs}
 use Rattle.std.specs.Int.{◌∣◌}
 use Rattle.std.specs.List.{list_any}
 use Rattle.std.proofs.Common.{arith, refl, ap, sym, ◌∙◌, subst}
@@ -11,17 +11,16 @@ use Rattle.ring_laws.proofs.Rings.{whole}
 use Rattle.ring_laws.proofs.Normal.{num, var, ◌⊗◌, minus, combine}
 use Rattle.ip_defs.specs.Program.{at, coefficient}
 use Rattle.ip_defs.specs.Limits.{above, IsCert, AreOrdered, AreSmall}
-use Rattle.ip_defs.specs.declared.programs.Parts.{Parts}
 use Rattle.ip_defs.specs.declared.certificates.Cert.{Cert}
 use Rattle.frac128.specs.Fractions.{Fraction}
 use Rattle.frac128.specs.Values.{value_of}
 use Rattle.frac128.proofs.Rationals.{Rational, S, over, over_parts, same, mul-over, both, both-is, of, mul}
-use Rattle.frac128.proofs.GcdLaws.{euclid, gcd_comm}
+use Rattle.frac128.proofs.GcdLaws.{euclid}
 use Rattle.lp_duality.specs.Relaxations.{numbers_of}
 use Rattle.lp_duality.specs.CertificateDuals.{multiplier, AreMultiples}
 use Rattle.lp_duality.proofs.BoundLaws.{whole_multiple_cross, prices_bound}
 use Rattle.dual_rays.specs.Multiples.{common_denominator, multiple, multiples}
-use Rattle.dual_rays.specs.Certificates.{values, present, multipliers_of, certificate_of, certificate_of_prices}
+use Rattle.dual_rays.specs.Certificates.{values, present, certificate_of, certificate_of_prices}
 use Rattle.dual_rays.specs.Meanings.{IsWhole, MakesWhole, IsOfPrices, BoundsByPrices}
 use Rattle.dual_rays.specs.Quotients.{number_at}
 use Rattle.dual_rays.proofs.DenominatorLaws.{denominator-positive, denominator-divides, denominator-least}

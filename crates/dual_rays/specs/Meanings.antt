@@ -1,5 +1,5 @@
 -- What the certificates of prices and of rays are, in terms of the multipliers that they are made of.
-use Rattle.std.specs.Prelude.{◌≡◌, ◌≢◌, ℕ, ◌<◌, List, length, Option, None, Some, ℤ, pos, ◌≤ℤ◌, ◌<ℤ◌, unsigned_abs}
+use Rattle.std.specs.Prelude.{◌≡◌, ◌≢◌, ℕ, ◌<◌, List, length, Some, ℤ, pos, ◌≤ℤ◌, ◌<ℤ◌, unsigned_abs}
 use Rattle.std.specs.Int.{◌∣◌}
 use Rattle.ip_defs.specs.Boxes.{IsOpen}
 use Rattle.ip_defs.specs.Program.{coefficient}

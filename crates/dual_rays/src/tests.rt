@@ -87,7 +87,10 @@ fn certificates_of_rays(rt: HostRuntime) -> Result<(), Memory> {
         (&[(0, 1)], Some((0, &[]))),
         (&[(-3, 4), (5, 6)], Some((0, &[(0, -9), (1, 10)]))),
         // the greatest multiplier, and one more
-        (&[(1, GREATEST), (1, 1)], Some((0, &[(0, 1), (1, GREATEST)]))),
+        (
+            &[(1, GREATEST), (1, 1)],
+            Some((0, &[(0, 1), (1, GREATEST)])),
+        ),
         (&[(1, GREATEST + 1), (1, 1)], None),
         (&[(GREATEST + 1, 1), (1, 1)], None),
     ];

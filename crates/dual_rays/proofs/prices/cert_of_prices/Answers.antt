@@ -1,5 +1,3 @@
-use Rattle.std.proofs.Common.{sym, ap, subst, ◌≡◌}
-use Rattle.std.specs.Prelude.{IfOk}
 use Rattle.dual_rays.specs.Certificates.{certificate_of_prices}
 use Rattle.dual_rays.specs.Meanings.{IsOfPrices, BoundsByPrices}
 use Rattle.dual_rays.proofs.AnswerLaws.{of-answer}

@@ -90,6 +90,12 @@ whole-divides n p positive (z, e) =
     let sizes : unsigned_abs z * suc p.less ≡ unsigned_abs p.top * n = sym (unsigned_abs-mul z (pos (suc p.less))) ∙ ap unsigned_abs cross ∙ unsigned_abs-mul p.top (pos n) in
     euclid (suc p.less) (unsigned_abs p.top) n positive p.lowest (subst (λ m. suc p.less ∣ m) sizes (dvd-mul_left (suc p.less) (unsigned_abs z)))
 
+-- what makes all numbers whole is a multiple of their least common denominator
+pub makes-whole : (xs : List Fraction) (n : ℕ) → 0 < n → MakesWhole xs (pos n) → common_denominator (values xs) ∣ n
+makes-whole xs n positive w = denominator-least (values xs) n (λ k l.
+    let inside : k < length xs = subst (λ n. k < n) (length-map xs value_of) l in
+    subst (λ (p : Rational). suc p.less ∣ n) (sym (value-at xs k inside)) (whole-divides n (numbers_of xs k) positive (w k inside)))
+
 module _ (xs : List Fraction) (c : Cert) (e : certificate_of_prices xs ≡ Some c) where
   abbrev q : ℕ
   q = common_denominator (values xs)
@@ -109,10 +115,7 @@ module _ (xs : List Fraction) (c : Cert) (e : certificate_of_prices xs ≡ Some 
   least (pos zero) positive w = absurd (omega (arith, ints))
   least (negsuc n) positive w = absurd (omega (arith, ints))
   least (pos (suc n)) positive w =
-      let divides : q ∣ suc n = denominator-least (values xs) (suc n) (λ k l.
-      let inside : k < length xs = subst (λ n. k < n) (length-map xs value_of) l in
-      subst (λ (p : Rational). suc p.less ∣ suc n) (sym (value-at xs k inside)) (whole-divides (suc n) (numbers_of xs k) (omega arith) (w k inside))) in
-      let small : q ≤ suc n = le_of_dvd (omega arith) divides in
+      let small : q ≤ suc n = le_of_dvd (omega arith) (makes-whole xs (suc n) (omega arith) w) in
       let d = made.divisor in
       omega (arith, ints)
 

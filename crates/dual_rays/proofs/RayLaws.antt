@@ -64,13 +64,13 @@ module _ (xs : List Fraction) where
   size : length (primitive ws) ≡ length xs
   size = length-map ws (λ z. int_div z (pos (common_divisor ws))) ∙ length-multiples q xs
 
-  inside : (k : ℕ) → k < length xs → k < length ws
+  pub inside : (k : ℕ) → k < length xs → k < length ws
   inside k l = subst (λ n. k < n) (sym (length-multiples q xs)) l
 
-  multiple-is : (k : ℕ) → k < length xs → of (at ws k) ≡ mul (of (pos q)) (numbers_of xs k)
+  pub multiple-is : (k : ℕ) → k < length xs → of (at ws k) ≡ mul (of (pos q)) (numbers_of xs k)
   multiple-is k l = ap of (multiple-at q xs k (record { num = pos 0; den = pos 1 }) (pos 0) l) ∙ multiple-value q (numbers_of xs k) (denominator-at xs k l)
 
-  ratio : (g : ℕ) → common_divisor ws ≡ g → (a : Rational) × (pos 0 <ℤ a.top) × ((k : ℕ) → k < length xs → of (at (primitive ws) k) ≡ mul a (numbers_of xs k))
+  pub ratio : (g : ℕ) → common_divisor ws ≡ g → (a : Rational) × (pos 0 <ℤ a.top) × ((k : ℕ) → k < length xs → of (at (primitive ws) k) ≡ mul a (numbers_of xs k))
   ratio zero e = (
     of (pos q),
     of_positive (pos q) (let p = denominator-positive (values xs) in omega (arith, ints)),

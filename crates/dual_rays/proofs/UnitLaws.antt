@@ -22,7 +22,7 @@ use Rattle.dual_rays.proofs.DenominatorLaws.{denominator-positive, denominator-d
 use Rattle.dual_rays.proofs.DivisorLaws.{divisor-divides, primitive-same}
 use Rattle.dual_rays.proofs.PriceLaws.{multiple-value}
 
-of-injective : (x y : ℤ) → of x ≡ of y → x ≡ y
+pub of-injective : (x y : ℤ) → of x ≡ of y → x ≡ y
 unfolding of S
 of-injective x y e = let c = crosswise x 0 y 0 e in omega (arith, ints)
 
@@ -111,7 +111,7 @@ pub positive_right : (b e q : ℕ) → b * e ≡ q → 0 < q → 0 < e
 positive_right b zero q p l = absurd (omega arith)
 positive_right b (suc e) q p l = omega arith
 
-positive_both : (a b : ℕ) → 0 < a → 0 < b → 0 < a * b
+pub positive_both : (a b : ℕ) → 0 < a → 0 < b → 0 < a * b
 positive_both zero b p q = absurd (omega arith)
 positive_both (suc a) zero p q = absurd (omega arith)
 positive_both (suc a) (suc b) p q = omega arith

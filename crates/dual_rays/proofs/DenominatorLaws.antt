@@ -2,12 +2,12 @@
 use Rattle.std.specs.Prelude.{◌≡◌, ℕ, zero, suc, ◌+◌, ◌*◌, ◌/◌, ◌<◌, ◌≤◌, List, [], ◌∷◌, ◌++◌, length, take, drop, slice_index_or}
 use Rattle.std.specs.Int.{◌∣◌}
 use Rattle.std.proofs.Common.{arith, refl, ap, sym, ◌∙◌, subst}
-use Rattle.std.proofs.Math.Nat.{dvd-mul_left, dvd-mul_right, dvd-mul_left_of_dvd, dvd-mul_right_of_dvd, mul-dvd-mul_left, mul-div_cancel', le_of_dvd, one-dvd, pos_of_dvd_of_pos, dvd_of_mul-dvd-mul_left}
+use Rattle.std.proofs.Math.Nat.{dvd-mul_left, dvd-mul_right, mul-dvd-mul_left, mul-div_cancel', le_of_dvd, one-dvd, pos_of_dvd_of_pos, dvd_of_mul-dvd-mul_left}
 use Rattle.std.proofs.lemmas.List.{take_more, map-append, take-append-drop}
-use Rattle.std.proofs.lemmas.Nat.Gcd.{dvd_refl, dvd_trans, dvd_antisymm, dvd-zero}
+use Rattle.std.proofs.lemmas.Nat.Gcd.{dvd_trans, dvd_antisymm, dvd-zero}
 use Rattle.frac128.specs.Gcd.{gcd}
 use Rattle.frac128.specs.LowestTerms.{quotients, gcd-is, gcd-positive}
-use Rattle.frac128.proofs.GcdLaws.{euclid, gcd_comm}
+use Rattle.frac128.proofs.GcdLaws.{euclid}
 use Rattle.frac128.specs.Rationals.{Rational}
 use Rattle.frac128.specs.Fractions.{Fraction}
 use Rattle.frac128.specs.Values.{value_of}

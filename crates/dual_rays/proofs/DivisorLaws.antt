@@ -1,13 +1,13 @@
 -- Greatest common divisors of lists of whole numbers, and lists without one.
-use Rattle.std.specs.Prelude.{◌≡◌, ◌≢◌, ℕ, zero, suc, ◌*◌, ◌/◌, ◌<◌, ◌≤◌, List, [], ◌∷◌, length, map, ℤ, pos, negsuc, ◌*ℤ◌, int_div, unsigned_abs}
+use Rattle.std.specs.Prelude.{◌≡◌, ◌≢◌, ℕ, zero, suc, ◌*◌, ◌/◌, ◌<◌, List, [], ◌∷◌, length, map, ℤ, pos, negsuc, ◌*ℤ◌, int_div, unsigned_abs}
 use Rattle.std.specs.Int.{◌∣◌}
 use Rattle.std.proofs.Common.{arith, refl, ap, sym, ◌∙◌, subst}
 use Rattle.std.proofs.lemmas.Int.{ints, unsigned_abs-mul}
 use Rattle.std.proofs.Math.Nat.{dvd-mul_right, eq-zero_of_zero-dvd, mul-div_cancel_left, pos_of_dvd_of_pos}
-use Rattle.std.proofs.lemmas.Nat.Gcd.{dvd_refl, dvd_trans, dvd-zero}
+use Rattle.std.proofs.lemmas.Nat.Gcd.{dvd_trans, dvd-zero}
 use Rattle.frac128.specs.Gcd.{gcd}
-use Rattle.frac128.specs.LowestTerms.{gcd-is, divided-size}
-use Rattle.frac128.proofs.GcdLaws.{gcd-mul, gcd-zero}
+use Rattle.frac128.specs.LowestTerms.{gcd-is}
+use Rattle.frac128.proofs.GcdLaws.{gcd-mul}
 use Rattle.frac128.proofs.Rationals.{S, cancel, divided-is}
 use Rattle.ring_laws.proofs.Products.{mul_assoc}
 use Rattle.ip_defs.specs.Program.{at}

@@ -5,6 +5,7 @@ pub mod Examples
 pub mod FirstLaws
 pub mod KeptLaws
 pub mod LimitLaws
+pub mod NoneLaws
 pub mod PartLaws
 pub mod PresentLaws
 pub mod PriceLaws

@@ -1,5 +1,5 @@
 -- Numbers within the limit of certificates and beyond it.
-use Rattle.std.specs.Prelude.{◌≡◌, ℕ, ◌^◌, ◌<◌, ◌≤◌, if◌then◌else◌, Option, None, Some, ℤ, nat_lt, Bool, true, false, unsigned_abs}
+use Rattle.std.specs.Prelude.{◌≡◌, ℕ, ◌^◌, ◌<◌, ◌≤◌, if◌then◌else◌, None, Some, ℤ, nat_lt, Bool, true, false, unsigned_abs}
 use Rattle.std.proofs.Common.{arith, refl, ap, sym}
 use Rattle.std.proofs.lemmas.Bool.{lt-ltb, le-ltb, ltb-true}
 use borrow.Author.Tests.{ltb-false}

@@ -1,5 +1,5 @@
 -- The parts of a fraction are those of its rational number.
-use Rattle.std.specs.Prelude.{◌≡◌, ℕ, suc, ℤ, pos, unsigned_abs}
+use Rattle.std.specs.Prelude.{◌≡◌, ℕ, suc, unsigned_abs}
 use Rattle.std.proofs.Common.{refl, ap, sym, ◌∙◌}
 use Rattle.frac128.specs.Fractions.{Fraction, IsFraction}
 use Rattle.frac128.specs.Rationals.{S}

@@ -1,5 +1,5 @@
 -- What the certificate of prices is.
-use Rattle.std.specs.Prelude.{◌≡◌, ◌≢◌, ℕ, zero, suc, ◌*◌, ◌/◌, ◌^◌, ◌<◌, ◌≤◌, nat_lt, Bool, true, false, if◌then◌else◌, List, [], ◌∷◌, length, map, slice_index_or, Option, None, Some, option_map, ℤ, pos, negsuc, ◌*ℤ◌, ◌≤ℤ◌, ◌<ℤ◌, unsigned_abs}
+use Rattle.std.specs.Prelude.{◌≡◌, ℕ, zero, suc, ◌*◌, ◌/◌, ◌^◌, ◌<◌, ◌≤◌, nat_lt, Bool, true, false, if◌then◌else◌, List, [], ◌∷◌, length, map, None, Some, option_map, ℤ, pos, negsuc, ◌*ℤ◌, ◌≤ℤ◌, ◌<ℤ◌, unsigned_abs}
 use Rattle.std.specs.Int.{◌∣◌}
 use Rattle.std.specs.List.{list_any}
 use Rattle.std.proofs.Common.{arith, refl, ap, sym, ◌∙◌, subst}
@@ -11,17 +11,16 @@ use Rattle.ring_laws.proofs.Rings.{whole}
 use Rattle.ring_laws.proofs.Normal.{num, var, ◌⊗◌, minus, combine}
 use Rattle.ip_defs.specs.Program.{at, coefficient}
 use Rattle.ip_defs.specs.Limits.{above, IsCert, AreOrdered, AreSmall}
-use Rattle.ip_defs.specs.declared.programs.Parts.{Parts}
 use Rattle.ip_defs.specs.declared.certificates.Cert.{Cert}
 use Rattle.frac128.specs.Fractions.{Fraction}
 use Rattle.frac128.specs.Values.{value_of}
 use Rattle.frac128.proofs.Rationals.{Rational, S, over, over_parts, same, mul-over, both, both-is, of, mul}
-use Rattle.frac128.proofs.GcdLaws.{euclid, gcd_comm}
+use Rattle.frac128.proofs.GcdLaws.{euclid}
 use Rattle.lp_duality.specs.Relaxations.{numbers_of}
 use Rattle.lp_duality.specs.CertificateDuals.{multiplier, AreMultiples}
 use Rattle.lp_duality.proofs.BoundLaws.{whole_multiple_cross, prices_bound}
 use Rattle.dual_rays.specs.Multiples.{common_denominator, multiple, multiples}
-use Rattle.dual_rays.specs.Certificates.{values, present, multipliers_of, certificate_of, certificate_of_prices}
+use Rattle.dual_rays.specs.Certificates.{values, present, certificate_of, certificate_of_prices}
 use Rattle.dual_rays.specs.Meanings.{IsWhole, MakesWhole, IsOfPrices, BoundsByPrices}
 use Rattle.dual_rays.specs.Quotients.{number_at}
 use Rattle.dual_rays.proofs.DenominatorLaws.{denominator-positive, denominator-divides, denominator-least}
@@ -91,6 +90,12 @@ whole-divides n p positive (z, e) =
     let sizes : unsigned_abs z * suc p.less ≡ unsigned_abs p.top * n = sym (unsigned_abs-mul z (pos (suc p.less))) ∙ ap unsigned_abs cross ∙ unsigned_abs-mul p.top (pos n) in
     euclid (suc p.less) (unsigned_abs p.top) n positive p.lowest (subst (λ m. suc p.less ∣ m) sizes (dvd-mul_left (suc p.less) (unsigned_abs z)))
 
+-- what makes all numbers whole is a multiple of their least common denominator
+pub makes-whole : (xs : List Fraction) (n : ℕ) → 0 < n → MakesWhole xs (pos n) → common_denominator (values xs) ∣ n
+makes-whole xs n positive w = denominator-least (values xs) n (λ k l.
+    let inside : k < length xs = subst (λ n. k < n) (length-map xs value_of) l in
+    subst (λ (p : Rational). suc p.less ∣ n) (sym (value-at xs k inside)) (whole-divides n (numbers_of xs k) positive (w k inside)))
+
 module _ (xs : List Fraction) (c : Cert) (e : certificate_of_prices xs ≡ Some c) where
   abbrev q : ℕ
   q = common_denominator (values xs)
@@ -110,10 +115,7 @@ module _ (xs : List Fraction) (c : Cert) (e : certificate_of_prices xs ≡ Some 
   least (pos zero) positive w = absurd (omega (arith, ints))
   least (negsuc n) positive w = absurd (omega (arith, ints))
   least (pos (suc n)) positive w =
-      let divides : q ∣ suc n = denominator-least (values xs) (suc n) (λ k l.
-      let inside : k < length xs = subst (λ n. k < n) (length-map xs value_of) l in
-      subst (λ (p : Rational). suc p.less ∣ suc n) (sym (value-at xs k inside)) (whole-divides (suc n) (numbers_of xs k) (omega arith) (w k inside))) in
-      let small : q ≤ suc n = le_of_dvd (omega arith) divides in
+      let small : q ≤ suc n = le_of_dvd (omega arith) (makes-whole xs (suc n) (omega arith) w) in
       let d = made.divisor in
       omega (arith, ints)
 

@@ -1,5 +1,5 @@
 -- Sizes and quotients of fractions as those of their rational numbers.
-use Rattle.std.specs.Prelude.{◌≡◌, ◌≢◌, ℕ, zero, suc, ◌^◌, ◌<◌, ◌≤◌, Bool, true, false, if◌then◌else◌, Option, Some, None, Result, Ok, Err, ℤ, pos, negsuc, neg_ℤ, ◌*ℤ◌, ◌<ℤ◌, ◌≤ℤ◌, int_div, int_lt, unsigned_abs}
+use Rattle.std.specs.Prelude.{◌≡◌, ◌≢◌, zero, suc, ◌^◌, ◌≤◌, Bool, true, false, if◌then◌else◌, Option, Some, None, Err, ℤ, pos, negsuc, neg_ℤ, ◌*ℤ◌, ◌<ℤ◌, ◌≤ℤ◌, int_div, int_lt, unsigned_abs}
 use Rattle.std.proofs.Common.{arith, refl, ap, sym, ◌∙◌, subst, inl, inr}
 use Rattle.std.proofs.lemmas.Int.{ints}
 use borrow.Author.Tests.{ltb-false}

@@ -1,25 +1,24 @@
 -- What the certificate of a ray is.
-use Rattle.std.specs.Prelude.{◌≡◌, ◌≢◌, ℕ, zero, suc, ◌+◌, ◌*◌, ◌/◌, ◌<◌, ◌≤◌, List, [], ◌∷◌, length, map, slice_index_or, Some, ℤ, pos, ◌*ℤ◌, ◌<ℤ◌, int_div, unsigned_abs}
+use Rattle.std.specs.Prelude.{◌≡◌, ◌≢◌, ℕ, zero, suc, ◌<◌, List, [], ◌∷◌, length, Some, ℤ, pos, ◌*ℤ◌, ◌<ℤ◌, int_div, unsigned_abs}
 use Rattle.std.specs.Int.{◌∣◌}
 use Rattle.std.proofs.Common.{arith, refl, ap, sym, ◌∙◌, subst}
 use Rattle.std.proofs.lemmas.Int.{ints}
 use Rattle.std.proofs.lemmas.List.{length-map, get_or-map}
-use Rattle.std.proofs.Math.Nat.{mul-div_cancel', dvd-one}
+use Rattle.std.proofs.Math.Nat.{dvd-one}
 use Rattle.ring_laws.proofs.Rings.{whole, one_mul}
 use Rattle.ring_laws.proofs.Normal.{num, var, ◌⊗◌, minus, combine}
 use Rattle.ip_defs.specs.Program.{at, coefficient}
 use Rattle.ip_defs.specs.Limits.{AreOrdered}
 use Rattle.ip_defs.specs.declared.certificates.Cert.{Cert}
 use Rattle.frac128.specs.Fractions.{Fraction}
-use Rattle.frac128.specs.Values.{value_of}
 use Rattle.frac128.proofs.Rationals.{Rational, S, over, over_parts, same, mul-over, both, both-is, of, mul, divided-is, rationals}
 use Rattle.frac128.proofs.Fractions.{crosswise}
 use Rattle.lp_duality.specs.Relaxations.{numbers_of}
-use Rattle.lp_duality.specs.CertificateDuals.{multiplier, AreMultiples}
+use Rattle.lp_duality.specs.CertificateDuals.{AreMultiples}
 use Rattle.lp_duality.proofs.SignLaws.{over_positive, of_positive}
 use Rattle.lp_duality.proofs.BoundLaws.{rays_bound}
-use Rattle.dual_rays.specs.Multiples.{common_denominator, common_divisor, multiple, multiples, primitive}
-use Rattle.dual_rays.specs.Certificates.{values, present, certificate_of, certificate_of_ray}
+use Rattle.dual_rays.specs.Multiples.{common_denominator, common_divisor, multiples, primitive}
+use Rattle.dual_rays.specs.Certificates.{values, certificate_of_ray}
 use Rattle.dual_rays.specs.Meanings.{IsPresent, IsOfRay, BoundsByRay}
 use Rattle.dual_rays.proofs.DenominatorLaws.{denominator-positive}
 use Rattle.dual_rays.proofs.DivisorLaws.{divisor-divides, divisor-greatest, divisor-positive, divisor-none, primitive-divisor}
@@ -65,13 +64,13 @@ module _ (xs : List Fraction) where
   size : length (primitive ws) ≡ length xs
   size = length-map ws (λ z. int_div z (pos (common_divisor ws))) ∙ length-multiples q xs
 
-  inside : (k : ℕ) → k < length xs → k < length ws
+  pub inside : (k : ℕ) → k < length xs → k < length ws
   inside k l = subst (λ n. k < n) (sym (length-multiples q xs)) l
 
-  multiple-is : (k : ℕ) → k < length xs → of (at ws k) ≡ mul (of (pos q)) (numbers_of xs k)
+  pub multiple-is : (k : ℕ) → k < length xs → of (at ws k) ≡ mul (of (pos q)) (numbers_of xs k)
   multiple-is k l = ap of (multiple-at q xs k (record { num = pos 0; den = pos 1 }) (pos 0) l) ∙ multiple-value q (numbers_of xs k) (denominator-at xs k l)
 
-  ratio : (g : ℕ) → common_divisor ws ≡ g → (a : Rational) × (pos 0 <ℤ a.top) × ((k : ℕ) → k < length xs → of (at (primitive ws) k) ≡ mul a (numbers_of xs k))
+  pub ratio : (g : ℕ) → common_divisor ws ≡ g → (a : Rational) × (pos 0 <ℤ a.top) × ((k : ℕ) → k < length xs → of (at (primitive ws) k) ≡ mul a (numbers_of xs k))
   ratio zero e = (
     of (pos q),
     of_positive (pos q) (let p = denominator-positive (values xs) in omega (arith, ints)),

@@ -1,5 +1,5 @@
 -- A ray over the size of one of its numbers: the multiples by the least common denominator have no common divisor.
-use Rattle.std.specs.Prelude.{◌≡◌, ◌≢◌, ℕ, zero, suc, ◌+◌, ◌*◌, ◌/◌, ◌<◌, ◌≤◌, Bool, true, false, cond, List, [], ◌∷◌, length, map, slice_index_or, ℤ, pos, negsuc, neg_ℤ, ◌*ℤ◌, ◌<ℤ◌, ◌≤ℤ◌, unsigned_abs}
+use Rattle.std.specs.Prelude.{◌≡◌, ◌≢◌, ℕ, zero, suc, ◌*◌, ◌/◌, ◌<◌, ◌≤◌, Bool, true, false, cond, List, [], ◌∷◌, length, map, ℤ, pos, negsuc, neg_ℤ, ◌*ℤ◌, ◌<ℤ◌, ◌≤ℤ◌, unsigned_abs}
 use Rattle.std.specs.Int.{◌∣◌}
 use Rattle.std.specs.Int.Signed.{lt_z}
 use Rattle.std.proofs.Common.{arith, refl, ap, sym, ◌∙◌, subst}
@@ -13,16 +13,16 @@ use Rattle.frac128.specs.Gcd.{gcd}
 use Rattle.frac128.specs.LowestTerms.{gcd-is, gcd-mul}
 use Rattle.frac128.specs.Rationals.{quotient}
 use Rattle.frac128.proofs.Rationals.{Rational, S, over, of, of_mul, mul, neg, rationals}
-use Rattle.frac128.proofs.Order.{inverse, inverse-is, nonzero, of_neg, zero_top}
+use Rattle.frac128.proofs.Order.{inverse, inverse-is, nonzero, of_neg}
 use Rattle.frac128.proofs.Fractions.{crosswise}
-use Rattle.lp_duality.proofs.SignLaws.{Sign, up, down, none, sign_of, lt_true, lt_false, top_zero}
+use Rattle.lp_duality.proofs.SignLaws.{Sign, up, down, none, sign_of, lt_true, lt_false}
 use Rattle.dual_rays.specs.Multiples.{common_denominator, common_divisor, multiple, multiples, primitive}
 use Rattle.dual_rays.specs.Quotients.{size_of, number_at}
 use Rattle.dual_rays.proofs.DenominatorLaws.{denominator-positive, denominator-divides, denominator-least}
 use Rattle.dual_rays.proofs.DivisorLaws.{divisor-divides, primitive-same}
 use Rattle.dual_rays.proofs.PriceLaws.{multiple-value}
 
-of-injective : (x y : ℤ) → of x ≡ of y → x ≡ y
+pub of-injective : (x y : ℤ) → of x ≡ of y → x ≡ y
 unfolding of S
 of-injective x y e = let c = crosswise x 0 y 0 e in omega (arith, ints)
 
@@ -111,7 +111,7 @@ pub positive_right : (b e q : ℕ) → b * e ≡ q → 0 < q → 0 < e
 positive_right b zero q p l = absurd (omega arith)
 positive_right b (suc e) q p l = omega arith
 
-positive_both : (a b : ℕ) → 0 < a → 0 < b → 0 < a * b
+pub positive_both : (a b : ℕ) → 0 < a → 0 < b → 0 < a * b
 positive_both zero b p q = absurd (omega arith)
 positive_both (suc a) zero p q = absurd (omega arith)
 positive_both (suc a) (suc b) p q = omega arith

@@ -1,5 +1,5 @@
 -- What the certificates of prices and of rays are, in terms of the multipliers that they are made of.
-use Rattle.std.specs.Prelude.{◌≡◌, ◌≢◌, ℕ, ◌<◌, List, length, Option, None, Some, ℤ, pos, ◌≤ℤ◌, ◌<ℤ◌, unsigned_abs}
+use Rattle.std.specs.Prelude.{◌≡◌, ◌≢◌, ℕ, ◌<◌, List, length, Some, ℤ, pos, ◌≤ℤ◌, ◌<ℤ◌, unsigned_abs}
 use Rattle.std.specs.Int.{◌∣◌}
 use Rattle.ip_defs.specs.Boxes.{IsOpen}
 use Rattle.ip_defs.specs.Program.{coefficient}
@@ -47,3 +47,11 @@ BoundsByPrices xs c = (m : Parts) (b : List (ℤ × ℤ)) (g : Rational) → len
 -- a certificate leaves no point where the dual value of the ray is positive
 abbrev pub BoundsByRay : List Fraction → Cert → Type 0
 BoundsByRay xs c = (m : Parts) (b : List (ℤ × ℤ)) (g : Rational) → length m.rows ≡ length xs → length b ≡ length m.columns → dual m b (of (pos 0)) (numbers_of xs) ≡ Some g → pos 0 <ℤ g.top → leaf_bound m b c ≡ Infinite
+
+-- no certificate within the limits has multipliers that are its positive q times the prices
+abbrev pub HasNoCertificate : List Fraction → Type 0
+HasNoCertificate xs = (c : Cert) → IsCert (length xs) c → pos 0 <ℤ c.q → ¬ AreMultiples c (length xs) (of c.q) (numbers_of xs)
+
+-- no certificate within the limits has multipliers that are a positive multiple of the ray
+abbrev pub HasNoRay : List Fraction → Type 0
+HasNoRay xs = (c : Cert) (a : Rational) → IsCert (length xs) c → pos 0 <ℤ a.top → ¬ AreMultiples c (length xs) a (numbers_of xs)

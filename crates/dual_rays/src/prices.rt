@@ -1,6 +1,6 @@
-ghost use Rattle.std.specs.Prelude.{◌≡◌, ◌≤◌, length, IfOk, IfSome};
+ghost use Rattle.std.specs.Prelude.{◌≡◌, ◌≤◌, length, IfOk, IfNone, IfSome};
 ghost use Rattle.dual_rays.specs.Certificates.{certificate_of_prices};
-ghost use Rattle.dual_rays.specs.Meanings.{IsOfPrices, BoundsByPrices};
+ghost use Rattle.dual_rays.specs.Meanings.{IsOfPrices, BoundsByPrices, HasNoCertificate};
 
 use crate::denominators::least_denominator;
 use crate::multipliers::multipliers;
@@ -32,6 +32,7 @@ pub fn cert_of_prices(alloc: Global, prices: &Fracs) -> Result<Option<Cert>, Mem
     requires { length prices.now ≤ 1024 }
     ensures exact { IfOk result (λ c. c ≡ certificate_of_prices prices.now) }
     ensures meaning { IfOk result (λ c. IfSome c (IsOfPrices prices.now)) }
+    ensures none { IfOk result (λ c. IfNone c (HasNoCertificate prices.now)) }
     ensures bound { IfOk result (λ c. IfSome c (BoundsByPrices prices.now)) }
 {
     certificate(alloc, prices.as_slice())

@@ -1,8 +1,8 @@
-ghost use Rattle.std.specs.Prelude.{◌≡◌, ◌≢◌, ◌≤◌, length, pos, IfOk, IfSome, MatchOption, option_map};
+ghost use Rattle.std.specs.Prelude.{◌≡◌, ◌≢◌, ◌≤◌, length, pos, IfOk, IfNone, IfSome, MatchOption, option_map};
 ghost use Rattle.frac128.specs.Values.{value_of};
 ghost use Rattle.frac128.specs.Rationals.{quotient};
 ghost use Rattle.dual_rays.specs.Certificates.{certificate_of_ray, values};
-ghost use Rattle.dual_rays.specs.Meanings.{IsOfRay, BoundsByRay};
+ghost use Rattle.dual_rays.specs.Meanings.{IsOfRay, BoundsByRay, HasNoRay};
 ghost use Rattle.dual_rays.specs.Quotients.{AreQuotients, IsWide, first_size as first_size_of, size_of};
 
 use crate::prices::certificate;
@@ -96,6 +96,7 @@ pub fn cert_of_ray(alloc: Global, ray: &Fracs) -> Result<Option<Cert>, Memory>
     requires { length ray.now ≤ 1024 }
     ensures exact { IfOk result (λ c. c ≡ certificate_of_ray ray.now) }
     ensures meaning { IfOk result (λ c. IfSome c (IsOfRay ray.now)) }
+    ensures none { IfOk result (λ c. IfNone c (HasNoRay ray.now)) }
     ensures bound { IfOk result (λ c. IfSome c (BoundsByRay ray.now)) }
 {
     ray_certificate(alloc, ray.as_slice())

@@ -13,7 +13,7 @@ use Rattle.ip_defs.specs.declared.certificates.Cert.{Cert}
 use Rattle.ring_laws.proofs.Normal.{◌⊕◌, ◌⊖◌}
 use Rattle.ring_laws.proofs.Named.{ring2}
 use Rattle.ring_laws.proofs.Sums.{sum, sum_same}
-use Rattle.frac128.proofs.Rationals.{Rational, of, of_add, of_mul, add, sub, mul, rationals}
+use Rattle.frac128.proofs.Rationals.{of, of_add, of_mul, add, sub, mul, rationals}
 use Rattle.frac128.proofs.Order.{zero_top}
 use Rattle.lp_duality.specs.Relaxations.{row_low, row_high, cost_of}
 use Rattle.lp_duality.specs.Duals.{paid, sum_of_all, lesser, left_of, dual}

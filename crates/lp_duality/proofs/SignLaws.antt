@@ -7,7 +7,7 @@ use Rattle.ring_laws.proofs.Rings.{whole, zero_mul}
 use Rattle.ring_laws.proofs.Normal.{num, ◌⊕◌, ◌⊖◌, ◌⊗◌, minus}
 use Rattle.ring_laws.proofs.Named.{ring2, ring3}
 use Rattle.frac128.proofs.Rationals.{Rational, S, bottom, over, over-is, over_parts, same, both, of, sub, mul, neg, of_add, rationals}
-use Rattle.frac128.proofs.Order.{NotNegative, AtMost, over_up, cross_at_most, at_most_antisym, mul_at_most, zero_top}
+use Rattle.frac128.proofs.Order.{NotNegative, AtMost, over_up, cross_at_most, at_most_antisym, mul_at_most}
 use Rattle.lp_duality.specs.Duals.{is_below, lesser, paid}
 
 -- ---- tests of whole numbers

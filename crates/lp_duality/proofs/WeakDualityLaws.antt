@@ -1,5 +1,5 @@
 -- Weak duality over relaxations, and feasible points as points of relaxations.
-use Rattle.std.specs.Prelude.{◌≡◌, ℕ, zero, suc, ◌<◌, List, [], ◌∷◌, length, All, Option, Some, None, IfSome, slice_get, option_map, option_and_then, ℤ, pos, ◌+ℤ◌, ◌*ℤ◌, ◌≤ℤ◌, ◌<ℤ◌}
+use Rattle.std.specs.Prelude.{◌≡◌, ℕ, zero, suc, ◌<◌, List, [], ◌∷◌, length, All, Option, Some, None, IfSome, slice_get, option_map, option_and_then, ℤ, pos, ◌*ℤ◌, ◌≤ℤ◌, ◌<ℤ◌}
 use Rattle.std.proofs.Common.{arith, refl, ap, sym, ◌∙◌, subst, ◌⊎◌, inl, inr}
 use Rattle.std.proofs.lemmas.Int.{ints}
 use Rattle.std.proofs.lemmas.Option.{get_or_from_slice_get, slice_get_within}
@@ -9,9 +9,9 @@ use Rattle.ip_defs.specs.Program.{at, coefficient, costs_of, low_at, high_at, ro
 use Rattle.ip_defs.specs.Certificates.{coefs_of, entry as coefficient_of}
 use Rattle.ip_defs.specs.declared.programs.Parts.{Parts}
 use Rattle.ip_defs.specs.declared.programs.Row.{Row}
-use Rattle.ring_laws.proofs.Rings.{mul_zero, zero_mul}
+use Rattle.ring_laws.proofs.Rings.{zero_mul}
 use Rattle.ring_laws.proofs.Normal.{num, var, ◌⊕◌, ◌⊖◌, ◌⊗◌, identity}
-use Rattle.ring_laws.proofs.Named.{ring3, ring4}
+use Rattle.ring_laws.proofs.Named.{ring4}
 use Rattle.ring_laws.proofs.Sums.{sum, sum_same, sum_scale, exchange}
 use Rattle.frac128.proofs.Rationals.{Rational, of, of_add, of_mul, add, sub, mul, rationals}
 use Rattle.frac128.proofs.Order.{AtMost, NotNegative, at_most_total, at_most_trans, add_at_most, mul_at_most, not_negative_add}

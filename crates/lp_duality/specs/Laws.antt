@@ -1,5 +1,5 @@
 -- Laws of dual values: multiples, certificates, and weak duality over relaxations.
-use Rattle.std.specs.Prelude.{◌≡◌, ℕ, ◌<◌, List, length, Some, option_map, ℤ, pos, ◌<ℤ◌}
+use Rattle.std.specs.Prelude.{◌≡◌, ℕ, List, length, Some, option_map, ℤ, pos, ◌<ℤ◌}
 use Rattle.ip_defs.specs.Boxes.{IsOpen}
 use Rattle.ip_defs.specs.Program.{at, IsIn, IsFeasible, cost}
 use Rattle.ip_defs.specs.Certificates.{dual_value, leaf_bound}

@@ -1,4 +1,4 @@
-use Rattle.std.proofs.Common.{rules, arith, ◌<◌, ◌^◌, ◌∙◌, sym, subst, ap, Some, None}
+use Rattle.std.proofs.Common.{arith, ◌<◌, ◌^◌, ◌∙◌, sym, subst, ap}
 use Rattle.dual_rays.specs.Multiples.{lcm}
 use Rattle.dual_rays.specs.Certificates.{divisor_of}
 use Rattle.frac128.specs.LowestTerms.{gcd-positive}

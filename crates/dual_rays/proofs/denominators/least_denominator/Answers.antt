@@ -1,8 +1,6 @@
-use Rattle.std.proofs.Common.{rules, arith, ◌+◌, ◌≡◌, ◌<◌, ◌^◌, ◌∙◌, ap, sym, subst, Some, None, ℕ}
-use Rattle.std.specs.Prelude.{suc, Option}
-use Rattle.frac128.specs.Values.{value_of}
+use Rattle.std.proofs.Common.{arith, ◌+◌, ◌<◌, ◌∙◌, sym, subst}
 use Rattle.dual_rays.specs.Multiples.{lcm, common_denominator}
-use Rattle.dual_rays.specs.Certificates.{divisor_of, values}
+use Rattle.dual_rays.specs.Certificates.{values}
 use Rattle.dual_rays.proofs.DenominatorLaws.{denominator-next, denominator-prefix, lcm-positive}
 use Rattle.dual_rays.proofs.LimitLaws.{divisor_none, divisor_past, divisor_within}
 use Rattle.dual_rays.proofs.denominators.least_denominator.Goals as goal

@@ -1,11 +1,11 @@
-use Rattle.std.proofs.Common.{rules, arith, ◌+◌, ◌≡◌, ◌∙◌, ap, sym, subst, Some, None, false, refl, to_z, of_z}
+use Rattle.std.proofs.Common.{rules, ◌≡◌, ◌∙◌, ap, sym, refl, to_z, of_z}
 use Rattle.std.specs.Int.{w64}
-use Rattle.std.specs.Prelude.{map, take, ◌++◌, ◌∷◌, [], filter, ◌^◌}
+use Rattle.std.specs.Prelude.{map, take, ◌^◌}
 use Rattle.std.specs.List.{list_any}
 use Rattle.ip_defs.specs.Limits.{above}
 use Rattle.frac128.specs.Values.{value_of}
 use Rattle.dual_rays.specs.Multiples.{multiple}
-use Rattle.dual_rays.specs.Certificates.{is_present, present, values}
+use Rattle.dual_rays.specs.Certificates.{values}
 use Rattle.dual_rays.proofs.LimitLaws.{multiplier_past, multiplier_within}
 use Rattle.dual_rays.proofs.PresentLaws.{multiples-past, multiples-next, present-next, above-none}
 use Rattle.dual_rays.proofs.multipliers.multipliers.Goals as goal

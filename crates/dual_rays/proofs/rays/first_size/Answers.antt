@@ -1,4 +1,4 @@
-use Rattle.std.proofs.Common.{rules, ◌≡◌, ◌≢◌, ◌∙◌, ap, sym, to_z, of_z, pos, Some, None}
+use Rattle.std.proofs.Common.{rules, ◌≡◌, ◌≢◌, ◌∙◌, ap, sym, to_z, of_z, pos, Some}
 use Rattle.std.specs.Int.{w128}
 use Rattle.frac128.specs.Values.{value_of}
 use Rattle.dual_rays.proofs.FirstLaws.{first-found, first-next}

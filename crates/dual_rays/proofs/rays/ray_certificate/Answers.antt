@@ -1,4 +1,4 @@
-use Rattle.std.proofs.Common.{◌≡◌, ◌∙◌, ap, sym, subst, Some, None}
+use Rattle.std.proofs.Common.{◌∙◌, ap, sym, subst, Some}
 use Rattle.frac128.specs.Values.{value_of}
 use Rattle.dual_rays.specs.Certificates.{values, certificate_of_prices}
 use Rattle.dual_rays.specs.Quotients.{AreQuotients}

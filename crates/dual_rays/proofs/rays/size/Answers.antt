@@ -1,7 +1,6 @@
-use Rattle.std.proofs.Common.{rules, arith, ◌≡◌, ◌∙◌, ap, sym, to_z, of_z, ◌-ℤ◌, ℤ, pos, ◌<ℤ◌, ◌≤ℤ◌}
-use Rattle.std.specs.Prelude.{neg_ℤ}
+use Rattle.std.proofs.Common.{rules, arith, ◌≡◌, ◌∙◌, ap, to_z, of_z, ◌-ℤ◌, pos}
 use Rattle.std.specs.Int.{w128}
-use Rattle.std.proofs.lemmas.Int.{ints, to_z-of_z}
+use Rattle.std.proofs.lemmas.Int.{ints}
 use Rattle.frac128.specs.Fractions.{reduced_of}
 use Rattle.lp_duality.proofs.SignLaws.{lt_true, lt_false}
 use Rattle.dual_rays.proofs.QuotientLaws.{size-negative, size-other, size-present}

@@ -66,22 +66,34 @@ fn models_are_solved(rt: HostRuntime) -> Result<(), Fail> {
         (
             THREE_ROWS,
             Status::Answered,
-            "optimum -13\nvalue a 2\nvalue b 0\nvalue c 1\n",
+            "optimum -13\nvalue a 2\nvalue b 0\nvalue c 1\nnodes 1\nskipped 0\n",
         ),
-        (HALF, Status::Answered, "optimum -1\nvalue x 1\n"),
-        (ODD, Status::Answered, "empty\n"),
+        (
+            HALF,
+            Status::Answered,
+            "optimum -1\nvalue x 1\nnodes 3\nskipped 0\n",
+        ),
+        (ODD, Status::Answered, "empty\nnodes 5\nskipped 0\n"),
         (
             NO_ROWS,
             Status::Answered,
-            "optimum -4\nvalue x 0\nvalue y 4\n",
+            "optimum -4\nvalue x 0\nvalue y 4\nnodes 1\nskipped 0\n",
         ),
-        (EMPTY_COLUMN, Status::Answered, "empty\n"),
-        (NEGATIVE_SUM, Status::Answered, "empty\n"),
+        (
+            EMPTY_COLUMN,
+            Status::Answered,
+            "empty\nnodes 1\nskipped 0\n",
+        ),
+        (
+            NEGATIVE_SUM,
+            Status::Answered,
+            "empty\nnodes 1\nskipped 0\n",
+        ),
         (NO_NUMBER, Status::Refused, "refused model M10 line 11\n"),
         (
             DECIMALS,
             Status::Answered,
-            "optimum -13\nvalue a 2\nvalue b 0\nvalue c 1\n",
+            "optimum -13\nvalue a 2\nvalue b 0\nvalue c 1\nnodes 1\nskipped 0\n",
         ),
         (
             NO_UPPER,
@@ -89,7 +101,6 @@ fn models_are_solved(rt: HostRuntime) -> Result<(), Fail> {
             "refused model M15 column x upper\n",
         ),
         ("", Status::Refused, "refused model M19\n"),
-        (WIDE_ODD, Status::Budget, "budget nodes\nbest none\n"),
     ] {
         for piece in [1, 7, 100_000] {
             let mut shelf = shelf_with(alloc, text.as_bytes(), piece)?.ok_or("no room")?;
@@ -99,6 +110,40 @@ fn models_are_solved(rt: HostRuntime) -> Result<(), Fail> {
             assert_eq!(rt; answer, status, "at {wanted}");
             assert_eq!(rt; sink.bytes(), wanted.as_bytes(), "at {wanted}");
         }
+    }
+    Ok(())
+}
+
+/// Searches that stop at a limit, and a search without steps.
+#[test]
+fn limits_are_options(rt: HostRuntime) -> Result<(), Fail> {
+    let alloc = rt.alloc();
+    for (text, options, status, wanted) in [
+        (
+            WIDE_ODD,
+            ["--nodes", "50"],
+            Status::Budget,
+            "budget nodes\nnodes 49\nskipped 0\nbest none\n",
+        ),
+        (
+            WIDE_ODD,
+            ["--depth", "0"],
+            Status::Budget,
+            "budget depth\nnodes 1\nskipped 0\nbest none\n",
+        ),
+        (
+            HALF,
+            ["--pivots", "0"],
+            Status::Answered,
+            "optimum -1\nvalue x 1\nnodes 7\nskipped 3\n",
+        ),
+    ] {
+        let mut shelf = shelf_with(alloc, text.as_bytes(), 100)?.ok_or("no room")?;
+        let mut sink = mem_sink(alloc, 10_000, 100)?;
+        let words = owned(alloc, &["solve", "m", options[0], options[1]])?;
+        let answer = run(alloc, words.as_slice(), &mut shelf, &mut sink);
+        assert_eq!(rt; answer, status, "at {wanted}");
+        assert_eq!(rt; sink.bytes(), wanted.as_bytes(), "at {wanted}");
     }
     Ok(())
 }
@@ -141,13 +186,13 @@ fn models_are_shown(rt: HostRuntime) -> Result<(), Fail> {
             SPLIT_NAME,
             &["solve", "m"],
             Status::Answered,
-            "optimum 0\nvalue x\ry 0\n",
+            "optimum 0\nvalue x\ry 0\nnodes 1\nskipped 0\n",
         ),
         (
             NO_UPPER,
             &["solve", "m", "--digits", "0", "--box", "2"],
             Status::Answered,
-            "optimum -2\nvalue x 2\n",
+            "optimum -2\nvalue x 2\nnodes 1\nskipped 0\n",
         ),
     ] {
         let mut shelf = shelf_with(alloc, text.as_bytes(), 100)?.ok_or("no room")?;
@@ -170,6 +215,7 @@ fn other_words_are_usage(rt: HostRuntime) -> Result<(), Fail> {
         &["solve", ""],
         &["solve", "-m"],
         &["solve", "m", "--nodes", "0"],
+        &["show", "m", "--nodes", "5"],
         &["solve", "m", "--nodes=5"],
         &["Solve", "m"],
         &["show"],

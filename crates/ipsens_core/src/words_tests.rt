@@ -47,6 +47,46 @@ fn options_come_in_any_order(rt: HostRuntime) -> Result<(), Fail> {
     Ok(())
 }
 
+/// The limits of a search that a request asks for.
+fn limits(request: &Request) -> Option<(u32, u32, u32)> {
+    match request {
+        Request::Solve {
+            nodes,
+            depth,
+            pivots,
+            ..
+        } => Some((*nodes, *depth, *pivots)),
+        Request::Show { .. } => None,
+    }
+}
+
+#[test]
+fn limits_have_defaults(rt: HostRuntime) -> Result<(), Fail> {
+    let alloc = rt.alloc();
+    let none: &[&str] = &[];
+    for (options, wanted) in [
+        (none, (100_000, 800, 5_000)),
+        (&["--nodes", "1"], (1, 800, 5_000)),
+        (&["--nodes", "1000000"], (1_000_000, 800, 5_000)),
+        (&["--depth", "0", "--digits", "2"], (100_000, 0, 5_000)),
+        (
+            &[
+                "--pivots", "0", "--box", "5", "--depth", "7", "--nodes", "3",
+            ],
+            (3, 7, 0),
+        ),
+        (&["--pivots", "100000"], (100_000, 800, 100_000)),
+    ] {
+        let mut words = owned(alloc, &["solve", "m"])?;
+        for option in options {
+            words.push(String::from_str(alloc, option)?)?;
+        }
+        let request = request(alloc, words.as_slice())?;
+        assert_eq!(rt; limits(&request), Some(wanted));
+    }
+    Ok(())
+}
+
 #[test]
 fn other_words_are_no_request(rt: HostRuntime) -> Result<(), Fail> {
     let alloc = rt.alloc();
@@ -60,7 +100,12 @@ fn other_words_are_no_request(rt: HostRuntime) -> Result<(), Fail> {
         &["show", ""],
         &["Solve", "m"],
         &["sweep", "m"],
-        &["solve", "m", "--nodes", "5"],
+        &["show", "m", "--nodes", "5"],
+        &["solve", "m", "--nodes", "0"],
+        &["solve", "m", "--nodes", "1000001"],
+        &["solve", "m", "--depth", "801"],
+        &["solve", "m", "--pivots", "100001"],
+        &["solve", "m", "--pivots", "5", "--pivots", "5"],
         &["solve", "m", "--digits"],
         &["show", "m", "--digits", "3", "--box"],
         &["solve", "m", "--digits", "10"],

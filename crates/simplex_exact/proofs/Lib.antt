@@ -1,4 +1,3 @@
 pub mod AnswerLaws
-pub mod NodeLaws
 pub mod ScanLaws
 pub mod SignLaws

@@ -13,7 +13,7 @@ use Rattle.simplex_laws.specs.Wides.{wide_step, wide_number}
 use Rattle.simplex_laws.proofs.RunLaws.{runs_stand, after_one_more}
 use Rattle.simplex_laws.proofs.StepLaws.{steps_can_be_made}
 use Rattle.simplex_exact.proofs.AnswerLaws.{read_is}
-use Rattle.simplex_exact.proofs.NodeLaws.{uncrossed}
+use Rattle.simplex_laws.proofs.UncrossedLaws.{uncrossed}
 use Rattle.simplex_exact.proofs.runs.solve.Goals as goal
 
 pub loop-next-init : goal.loop-next-init

@@ -58,9 +58,6 @@ lcm-positive (suc a) (suc b) p q =
 lcm-positive zero b p q = absurd (omega arith)
 lcm-positive (suc a) zero p q = absurd (omega arith)
 
-pub lcm-second_small : (a b : ℕ) → 0 < a → 0 < b → b ≤ lcm a b
-lcm-second_small a b p q = le_of_dvd (lcm-positive a b p q) (lcm-second a b)
-
 pub lcm-first_small : (a b : ℕ) → 0 < a → 0 < b → a ≤ lcm a b
 lcm-first_small a b p q = le_of_dvd (lcm-positive a b p q) (lcm-first a b)
 

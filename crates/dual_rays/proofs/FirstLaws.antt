@@ -20,10 +20,10 @@ is_nonzero z n = by (unsigned_abs z == 0) refl
     by true f = absurd (n (let size = eqb-true (unsigned_abs z) 0 f in omega (arith, ints)))
     by false f = refl
 
-zero_is : (z : ℤ) → (unsigned_abs z == 0) ≡ true → z ≡ pos 0
+pub zero_is : (z : ℤ) → (unsigned_abs z == 0) ≡ true → z ≡ pos 0
 zero_is z e = let size = eqb-true (unsigned_abs z) 0 e in omega (arith, ints)
 
-nonzero_is : (z : ℤ) → (unsigned_abs z == 0) ≡ false → z ≢ pos 0
+pub nonzero_is : (z : ℤ) → (unsigned_abs z == 0) ≡ false → z ≢ pos 0
 nonzero_is z e f = eqb-false (unsigned_abs z) 0 e (ap unsigned_abs f)
 
 -- ---- zeros first

@@ -3,11 +3,11 @@ use Rattle.std.specs.Prelude.{◌≡◌, ◌≢◌, ℕ, zero, suc, ◌+◌, ◌
 use Rattle.std.specs.List.{enumerate_from, list_any}
 use Rattle.std.proofs.Common.{arith, refl, ap, sym, ◌∙◌}
 use Rattle.std.proofs.lemmas.Int.{ints}
-use Rattle.std.proofs.lemmas.Bool.{eqb-true, eqb-false}
 use borrow.Author.Tests.{ltb-false}
 use Rattle.ip_defs.specs.Program.{at, coefficient}
 use Rattle.ip_defs.specs.Limits.{above, number_at, value_at, AreOrdered, AreSmall}
 use Rattle.dual_rays.specs.Certificates.{is_present, present}
+use Rattle.dual_rays.proofs.FirstLaws.{zero_is, nonzero_is}
 use Rattle.lp_duality.proofs.SparseLaws.{coefficient_absent, coefficient_same, coefficient_other}
 
 abbrev kept : ℕ → List ℤ → List (ℕ × ℤ)
@@ -44,12 +44,6 @@ from_cons n rows z ps l present' f = record {
     nonzero zero m = present'
     nonzero (suc i) m = f.ordered.present i (omega arith)
 
-size_zero : (z : ℤ) → (unsigned_abs z == 0) ≡ true → z ≡ pos 0
-size_zero z e = let size = eqb-true (unsigned_abs z) 0 e in omega (arith, ints)
-
-size_nonzero : (z : ℤ) → (unsigned_abs z == 0) ≡ false → z ≢ pos 0
-size_nonzero z e f = eqb-false (unsigned_abs z) 0 e (ap unsigned_abs f)
-
 kept_from : (n rows : ℕ) (zs : List ℤ) → n + length zs ≤ rows → AreFrom n rows (kept n zs)
 kept_from n rows [] l = record {
   least = λ i m. absurd (omega arith);
@@ -59,7 +53,7 @@ kept_from n rows (z ∷ zs) l = by (unsigned_abs z == 0) refl (kept_from (n + 1)
   where
     by : (t : Bool) → (unsigned_abs z == 0) ≡ t → AreFrom (n + 1) rows (kept (n + 1) zs) → AreFrom n rows (cond (not t) ((n, z) ∷ kept (n + 1) zs) (kept (n + 1) zs))
     by true e f = from_more n rows (kept (n + 1) zs) f
-    by false e f = from_cons n rows z (kept (n + 1) zs) (omega arith) (size_nonzero z e) f
+    by false e f = from_cons n rows z (kept (n + 1) zs) (omega arith) (nonzero_is z e) f
 
 pub present-ordered : (zs : List ℤ) → AreOrdered (length zs) (present zs)
 present-ordered zs = (kept_from 0 (length zs) zs (omega arith)).ordered
@@ -95,7 +89,7 @@ kept_at n k j [] e l = absurd (omega arith)
 kept_at n zero j (z ∷ zs) e l = let is : j ≡ n = omega arith in ap (coefficient (kept n (z ∷ zs))) is ∙ by (unsigned_abs z == 0) refl
   where
     by : (t : Bool) → (unsigned_abs z == 0) ≡ t → coefficient (cond (not t) ((n, z) ∷ kept (n + 1) zs) (kept (n + 1) zs)) n ≡ z
-    by true f = kept_before n zs ∙ sym (size_zero z f)
+    by true f = kept_before n zs ∙ sym (zero_is z f)
     by false f = let same = coefficient_same (n, z) (kept (n + 1) zs) in let rest = kept_before n zs in omega (arith, ints)
 kept_at n (suc k) j (z ∷ zs) e l = by (unsigned_abs z == 0) (kept_at (n + 1) k j zs (omega arith) (omega arith))
   where

@@ -18,12 +18,6 @@ divisor_none q l = sym (ap (λ t. if t then None else Some q) (lt-ltb (2 ^ 36) q
 pub divisor_some : (q : ℕ) → q ≤ 2 ^ 36 → Some q ≡ divisor_of q
 divisor_some q l = sym (ap (λ t. if t then None else Some q) (le-ltb (2 ^ 36) q l))
 
-pub multiplier_none : (z : ℤ) → 2 ^ 36 < unsigned_abs z → None ≡ multiplier_of z
-multiplier_none z l = sym (ap (λ t. if t then None else Some z) (above_is z l))
-
-pub multiplier_some : (z : ℤ) → unsigned_abs z ≤ 2 ^ 36 → Some z ≡ multiplier_of z
-multiplier_some z l = sym (ap (λ t. if t then None else Some z) (not_above_is z l))
-
 -- ---- what the answers say
 pub divisor_past : (q : ℕ) → divisor_of q ≡ None → 2 ^ 36 < q
 divisor_past q e = by (nat_lt (2 ^ 36) q) refl e

@@ -1,9 +1,7 @@
 -- The multipliers of a certificate by row: one more at a time, in order, and read by row.
-use Rattle.std.specs.Prelude.{◌≡◌, ◌≢◌, ℕ, ◌+◌, ◌^◌, ◌<◌, ◌==◌, ◌||◌, not, Bool, true, false, if◌then◌else◌, List, [], ◌∷◌, ◌++◌, length, map, filter, take, slice_index_or, None, Some, ℤ, pos, unsigned_abs}
+use Rattle.std.specs.Prelude.{◌≡◌, ℕ, ◌+◌, ◌^◌, ◌<◌, ◌||◌, true, false, if◌then◌else◌, List, [], ◌∷◌, ◌++◌, length, map, filter, take, slice_index_or, None, Some, ℤ, pos}
 use Rattle.std.specs.List.{enumerate_from, list_any}
-use Rattle.std.proofs.Common.{arith, refl, ap, sym, ◌∙◌, subst}
-use Rattle.std.proofs.lemmas.Int.{ints}
-use Rattle.std.proofs.lemmas.Bool.{eqb-true}
+use Rattle.std.proofs.Common.{arith, ap, sym, ◌∙◌, subst}
 use Rattle.std.proofs.lemmas.List.{take_more, map-append, length-map, get_or-map, length-take-le}
 use Rattle.std.proofs.lemmas.List.Elements.{filter-append}
 use Rattle.std.proofs.lemmas.List.Folds.{list_any-append, list_any_at}
@@ -22,16 +20,6 @@ pub present-more : (zs : List ℤ) (z : ℤ) (k : ℕ) → k ≡ length zs → p
 present-more zs z k e =
     ap (filter is_present) (enumerate-append 0 zs (z ∷ []) ∙ ap (λ k. enumerate_from 0 zs ++ enumerate_from k (z ∷ [])) (omega arith))
     ∙ filter-append is_present (enumerate_from 0 zs) ((length zs, z) ∷ []) ∙ ap (λ (k : ℕ). present zs ++ filter is_present ((k, z) ∷ [])) (sym e)
-
-pub present-zero : (k : ℕ) (z : ℤ) → z ≡ pos 0 → filter is_present ((k, z) ∷ []) ≡ []
-present-zero k z e = ap (λ t. if not t then (k, z) ∷ [] else []) (ap (λ w. unsigned_abs w == 0) e)
-
-pub present-nonzero : (k : ℕ) (z : ℤ) → z ≢ pos 0 → filter is_present ((k, z) ∷ []) ≡ (k, z) ∷ []
-present-nonzero k z n = ap (λ t. if not t then (k, z) ∷ [] else []) (some (unsigned_abs z == 0) refl)
-  where
-    some : (t : Bool) → (unsigned_abs z == 0) ≡ t → t ≡ false
-    some true f = absurd (n (let size = eqb-true (unsigned_abs z) 0 f in omega (arith, ints)))
-    some false f = refl
 
 -- the multiples of fractions, one more at a time
 pub multiples-next : (q : ℕ) (xs : List Fraction) (i : ℕ) (x : Fraction) → i < length xs → x ≡ slice_index_or xs i x → map (multiple q) (values (take (i + 1) xs)) ≡ map (multiple q) (values (take i xs)) ++ multiple q (value_of x) ∷ []

@@ -1,5 +1,5 @@
 -- What a run answers to a model file: the text of a right outcome of a search, or the canonical text, or the first refusal.
-use Rattle.std.specs.Prelude.{◌≡◌, ◌⊎◌, ℕ, List, Option, None, Some, codes, ℤ}
+use Rattle.std.specs.Prelude.{◌≡◌, ℕ, List, Option, None, Some, codes, ℤ}
 use Rattle.std.specs.Option.{MatchOption}
 use Rattle.std.specs.Bool.{MatchBool}
 use Rattle.ip_defs.specs.Faults.{mps_fault, model_of}
@@ -8,7 +8,6 @@ use Rattle.ip_defs.specs.Texts.{answer_lines, budget_lines, canonical_text, is_p
 use Rattle.ip_defs.specs.declared.programs.Parts.{Parts}
 use Rattle.ip_defs.specs.declared.runs.Request.{Request}
 use Rattle.ip_defs.specs.declared.runs.Request.TheVariants.{Solve, Show}
-use Rattle.ip_defs.specs.declared.runs.Status.{Status}
 use Rattle.ip_defs.specs.declared.runs.Status.TheVariants as Ends
 use Rattle.ip_model.specs.Sizes.{allowance}
 use Rattle.proof_tree.specs.declared.claims.Claim.{Claim}

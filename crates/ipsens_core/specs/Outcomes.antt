@@ -1,5 +1,5 @@
 -- What the commands share: the request of a plain `solve`, the written text of an answer, and what the outside shows.
-use Rattle.std.specs.Prelude.{◌≡◌, ◌⊎◌, ◌≤◌, ℕ, List, Option, None, take}
+use Rattle.std.specs.Prelude.{◌≡◌, ◌⊎◌, ◌≤◌, ℕ, List, Option, take}
 use Rattle.ip_defs.specs.Files.{Files, Takes}
 use Rattle.ip_defs.specs.Runs.{Outside}
 use Rattle.ip_defs.specs.TextModels.{IsHow}

@@ -1,4 +1,4 @@
-use Rattle.std.proofs.Common.{ℕ, subst, ◌≡◌, ◌∙◌, ap, sym, Err, length, vec_len}
+use Rattle.std.proofs.Common.{subst, ◌≡◌, ◌∙◌, ap, sym, Err, length, vec_len}
 use Rattle.ip_defs.specs.Runs.{says}
 use Rattle.ipsens_core.specs.Answers.{IsAnswerTo}
 use Rattle.ipsens_core.proofs.RunLaws.{read_meets, told_of, too_long_meets}

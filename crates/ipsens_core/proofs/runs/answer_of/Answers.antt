@@ -1,7 +1,6 @@
 use Rattle.std.proofs.Common.{rules, sym, ap, ◌∙◌, ◌≡◌}
 use Rattle.ip_defs.specs.Faults.{mps_fault}
-use Rattle.ip_defs.specs.Runs.{says, refuses_model, how_of}
-use Rattle.ip_defs.specs.Texts.{refusal_text}
+use Rattle.ip_defs.specs.Runs.{says}
 use Rattle.ip_defs.specs.declared.runs.Status.TheVariants.{Refused}
 use Rattle.ip_defs.specs.declared.texts.MpsError.TheVariants as Out
 use Rattle.ipsens_core.proofs.RunLaws.{refused_with, told_first}

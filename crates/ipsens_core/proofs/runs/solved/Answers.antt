@@ -1,5 +1,3 @@
-use Rattle.std.proofs.Common.{◌≡◌, ◌≤◌, sym, ap, ◌∙◌, subst}
-use Rattle.ip_defs.specs.Limits.{IsWithinLimits}
 use Rattle.branching.proofs.AllowanceLaws.{allowance_fits}
 use Rattle.ipsens_core.proofs.runs.solved.Goals as goal
 

@@ -1,6 +1,7 @@
 #!/usr/bin/env bash
-# Tries the built program on real models that others wrote, which are no part of the repository: each is shown, and glpsol must find the
-# known optimum of the shown text; each refused one must be refused with its line. Skipped where glpsol or the folder is missing.
+# Tries the built program on real models that others wrote, which are no part of the repository: each is solved to its known optimum; each
+# is shown, and glpsol must find that optimum of the shown text; each refused one must be refused with its line. Skipped where glpsol or
+# the folder is missing.
 #     tools/models.sh FOLDER
 top=$(cd "$(dirname "${BASH_SOURCE[0]}")/.." && pwd) || exit 1
 folder=$1
@@ -25,6 +26,18 @@ while read -r name wanted options; do
     echo "right: $name $wanted"
   else
     echo "wrong: $name $wanted, not $found"
+    failed=1
+  fi
+  case $wanted in
+    empty) line=empty ;;
+    *) line="optimum $wanted" ;;
+  esac
+  # shellcheck disable=SC2086
+  solved=$("$top/ipsens" solve "$folder/$name.mps" $options | head -n 1)
+  if [ "$solved" = "$line" ]; then
+    echo "solved: $name $line"
+  else
+    echo "wrong: $name $line, not $solved"
     failed=1
   fi
 done << 'TABLE'

@@ -6,7 +6,7 @@ use Rattle.ip_defs.specs.TextModels.{IsHow}
 use Rattle.ip_defs.specs.declared.runs.Request.{Request}
 use Rattle.ip_defs.specs.declared.runs.Request.TheVariants.{Solve, Show}
 use Rattle.ip_defs.specs.declared.runs.Status.{Status}
-use Rattle.ip_defs.specs.declared.runs.Status.TheVariants.{WriteFault}
+use Rattle.ip_defs.specs.declared.runs.Status.TheVariants.{Answered, NotProved, Usage, Refused, Budget, Wide, ReadFault, WriteFault, Memory}
 use Rattle.ips_io.specs.Causes.{Rose}
 
 -- the limits of a search, and how the model file is asked for, are within the numbers that their options take
@@ -31,3 +31,15 @@ Writes before after faults faults_after status text result =
 -- the outside of a call, by what is told of it
 abbrev pub shows : Option Files → Option Files → Option (List ℕ) → Option (List ℕ) → Outside
 shows files files_after taken taken_after = record { files = files; files_after = files_after; taken = taken; taken_after = taken_after }
+
+-- the number that the program ends with
+abbrev pub code_of : Status → ℕ
+code_of Answered = 0
+code_of NotProved = 1
+code_of Usage = 2
+code_of Refused = 3
+code_of Budget = 4
+code_of Wide = 5
+code_of ReadFault = 6
+code_of WriteFault = 7
+code_of Memory = 8

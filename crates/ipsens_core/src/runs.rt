@@ -8,7 +8,7 @@ ghost use Rattle.branching.specs.Sizes.{AreAmple, IsAnswer};
 ghost use Rattle.ips_io.specs.Causes.{Rose};
 ghost use Rattle.ip_defs.specs.Files.{Takes};
 ghost use Rattle.ipsens_core.specs.Answers.{HasOutcome, IsAnswerTo, IsAnswerWith, IsShown, limits_for};
-ghost use Rattle.ipsens_core.specs.Outcomes.{AreLimits, IsPlainRequest, Writes, model_of_request, shows};
+ghost use Rattle.ipsens_core.specs.Outcomes.{AreLimits, IsPlainRequest, Writes, code_of, model_of_request, shows};
 
 use crate::messages::{TOO_LONG, UNPRINTABLE, USAGE, outcome_text, refusal_line};
 use crate::words::{WordsError, request};
@@ -209,7 +209,9 @@ pub fn run<S: Shelf, K: Sink>(alloc: Global, words: &[String], shelf: &mut S, ou
 }
 
 /// The number that the program ends with.
-pub fn code(status: Status) -> u8 {
+pub fn code(status: Status) -> u8
+    ensures { result ≡ code_of status }
+{
     match status {
         Status::Answered => 0,
         Status::NotProved => 1,

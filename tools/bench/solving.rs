@@ -140,6 +140,7 @@ struct Tableau {
     variables: Vec<Variable>,
 }
 
+#[allow(dead_code)]
 enum Next {
     Pivot(usize, usize, Rest),
     Flip(usize),
@@ -147,6 +148,7 @@ enum Next {
     Point,
 }
 
+#[allow(dead_code)]
 enum Answer {
     Best(Vec<Frac>, Vec<Frac>),
     Empty,

@@ -7,7 +7,8 @@ use Rattle.ip_defs.specs.Limits.{IsWithinLimits}
 use Rattle.ip_model.specs.Sizes.{allowance}
 
 -- where at least one node is asked for, and not more than a tree may have
-pub allowance_fits : (m : Parts) (nodes : ℕ) → IsWithinLimits m → 1 ≤ nodes → nodes ≤ 1000000 → (1 ≤ allowance m nodes) × (allowance m nodes ≤ allowance m 1000000)
+pub allowance_fits : (m : Parts) (nodes : ℕ) → IsWithinLimits m → 1 ≤ nodes → nodes ≤ 1000000 → (1 ≤ allowance m nodes)
+    × (allowance m nodes ≤ allowance m 1000000)
 allowance_fits m nodes limits some few =
     let size : ℕ = length m.columns + length m.rows + 1 in
     let columns = limits.column_count in

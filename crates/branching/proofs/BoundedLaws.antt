@@ -19,10 +19,11 @@ use Rattle.lp_duality.specs.Relaxations.{numbers_of}
 use Rattle.lp_duality.proofs.CeilingLaws.{ceiling_same}
 use Rattle.proof_tree.specs.Verdicts.{IsAtLeast}
 use Rattle.branching.specs.declared.reasons.Why.TheVariants.{Fractional}
-use Rattle.branching.specs.Relaxed.{IsBounded, IsSmallNumber, IsWholeNumber}
-use Rattle.branching.specs.Search.{Found, Improves, IsBelow, IsEnd, IsSearchArea, IsSplit}
+use Rattle.branching.specs.Internal.Relaxed.{IsBounded, IsSmallNumber, IsWholeNumber}
+use Rattle.branching.specs.Internal.Search.{Found, Improves, IsBelow, IsEnd, IsSearchArea, IsSplit}
 use Rattle.branching.proofs.LeafLaws.{cert_within, ceiling_one, open_bound}
-use Rattle.branching.proofs.PointLaws.{whole_cost, whole_feasible}
+use Rattle.branching.proofs.PointLaws.{whole_feasible}
+use Rattle.lp_duality.proofs.PointLaws.{whole_cost}
 use Rattle.branching.proofs.WholeLaws.{below_next, floor_below, floor_from, floor_to, of_injective, small_between, small_floor}
 
 -- the dual value q times w bounds by w
@@ -40,10 +41,13 @@ module _ (m : Parts) (b : List (ℤ × ℤ)) (xs : List Fraction) (c : Cert) (h 
   pub number_small : (j : ℕ) → j < length xs → IsSmallNumber (numbers_of xs j)
   number_small j l =
       let l' : j < length m.columns = omega (arith, l, h.size) in
-      small_between (numbers_of xs j) (low_at b j) (high_at b j) (within.area.low j l') (within.area.high j l') (h.relaxed.low j l') (h.relaxed.high j l')
+      small_between (numbers_of xs j) (low_at b j) (high_at b j) (within.area.low j l') (within.area.high j l') (h.relaxed.low j l')
+      (h.relaxed.high j l')
 
   -- ---- a number that is not whole
-  pub fraction_splits : (pivots : ℕ) (col : ℕ) (cut : ℤ) → IsWithinLimits m → IsOpen b → col < length xs → (IsWholeNumber (numbers_of xs col) → ⊥) → AtMost (of cut) (numbers_of xs col) → AtMost (numbers_of xs col) (of (cut +ℤ pos 1)) → IsSplit m pivots b col cut (Fractional xs c)
+  pub fraction_splits : (pivots : ℕ) (col : ℕ) (cut : ℤ) → IsWithinLimits m → IsOpen b → col < length xs
+      → (IsWholeNumber (numbers_of xs col) → ⊥) → AtMost (of cut) (numbers_of xs col) → AtMost (numbers_of xs col) (of (cut +ℤ pos 1))
+      → IsSplit m pivots b col cut (Fractional xs c)
   fraction_splits pivots col cut limits open' l broken least most =
       let l' : col < length m.columns = omega (arith, l, h.size) in
       let inside : col < length b = omega (arith, l', within.area.size) in
@@ -53,7 +57,14 @@ module _ (m : Parts) (b : List (ℤ × ℤ)) (xs : List Fraction) (c : Cert) (h 
       record {
         reasoned = (
           record { col = inside; left = below_open b col cut inside from to' open'; right = above_open b col cut inside from to' open' },
-          record { size = h.size; relaxed = h.relaxed; positive = h.positive; dual = h.dual; above = floor_below p cut least most broken; below = below_next p cut least most broken },
+          record {
+            size = h.size;
+            relaxed = h.relaxed;
+            positive = h.positive;
+            dual = h.dual;
+            above = floor_below p cut least most broken;
+            below = below_next p cut least most broken;
+          },
         );
         col_small = omega (arith, l', limits.column_count);
         cut_small = small_floor p cut least most broken (number_small col l);
@@ -71,16 +82,19 @@ module _ (m : Parts) (b : List (ℤ × ℤ)) (xs : List Fraction) (c : Cert) (h 
     point_bound : IsOpen b → leaf_bound m b c ≡ At (cost m x)
     point_bound open' =
         let costs = whole_cost m (numbers_of xs) x (size ∙ h.size) column_same in
-        open_bound m b c open' ∙ bound_whole c.q (box_sum m b) (cost m x) (dual_value m b c.q c.y) h.positive (h.dual ∙ ap (λ w. Some (mul (of c.q) w)) costs)
+        open_bound m b c open' ∙ bound_whole c.q (box_sum m b) (cost m x) (dual_value m b c.q c.y) h.positive
+        (h.dual ∙ ap (λ w. Some (mul (of c.q) w)) costs)
 
     pub point_closes : (w : ℤ) → IsWithinLimits m → IsOpen b → IsEnd m b (Some (x, w)) c
     point_closes w limits open' = record {
       cert = cert_within m c limits h.certificate;
-      closed = let least : IsAtLeast (At (cost m x)) (cost m x) = omega (arith, ints) in subst (λ (v : Bound). IsAtLeast v (cost m x)) (sym (point_bound open')) least;
+      closed = let least : IsAtLeast (At (cost m x)) (cost m x) = omega (arith, ints) in
+          subst (λ (v : Bound). IsAtLeast v (cost m x)) (sym (point_bound open')) least;
     }
 
     -- it costs less than what was found, where that does not close the box
-    pub point_better : (found : Found) (v : Bound) (w : ℤ) → IsOpen b → v ≡ leaf_bound m b c → IsBelow v found → cost m x ≡ w → Improves found (Some (x, w))
+    pub point_better : (found : Found) (v : Bound) (w : ℤ) → IsOpen b → v ≡ leaf_bound m b c → IsBelow v found → cost m x ≡ w
+        → Improves found (Some (x, w))
     point_better None v w open' bound below is = tt
     point_better (Some q) v w open' bound below is =
         let less = subst (λ (u : Bound). IsBelow u (Some q)) (bound ∙ point_bound open') below in

@@ -1,7 +1,6 @@
 -- The points and the width of a box and of its halves.
 use Rattle.std.specs.Prelude.{◌≡◌, ℕ, zero, suc, ◌+◌, ◌*◌, ◌<◌, ◌≤◌, ◌==◌, Bool, true, false, List, [], ◌∷◌, length, ℤ, pos, negsuc, ◌+ℤ◌, ◌-ℤ◌, ◌≤ℤ◌, ◌<ℤ◌}
 use Rattle.std.specs.Int.{int_min, int_max}
-use Rattle.std.specs.Int.Signed.{lt_z}
 use Rattle.std.proofs.Common.{arith, refl, ap, sym, ◌∙◌, get_or, set, length-set, subst}
 use Rattle.std.proofs.Math.Nat.{add-mul, mul-add}
 use Rattle.std.proofs.lemmas.Bool.{eqb-true, eqb-false}
@@ -17,7 +16,9 @@ use Rattle.ip_defs.specs.Program.{box_of, low_at, high_at}
 use Rattle.ip_defs.proofs.BoxLaws as Boxes
 use Rattle.ip_model.specs.Sizes.{width_sum}
 use Rattle.branching.specs.Sizes.{count, side_points, point_count}
-use Rattle.branching.specs.Splits.{IsProper, split_at}
+use Rattle.proof_tree.specs.LabelledTrees.{split_at}
+use Rattle.branching.specs.Splits.{IsProper}
+use Rattle.ip_defs.proofs.OrderLaws.{less_false}
 
 count_is : (z : ℤ) → pos 0 ≤ℤ z → pos (count z) ≡ z
 count_is (pos n) h = refl
@@ -57,10 +58,13 @@ module _ (b : List (ℤ × ℤ)) (j : ℕ) (z : ℤ) (p : IsProper (split_at b j
     where
       by : (t : Bool) → (k == j) ≡ t → low_at b k ≤ℤ high_at b k
       by true e = let same = eqb-true k j e in let low = cut_low in let high = cut_high in rw same (omega (arith, ints))
-      by false e = let is = get_or-set_other b j k lower (pos 0, pos 0) (eqb-false k j e) in let h' : k < length (set b j lower) = omega (arith, h, length-set b j lower) in subst (λ (q : ℤ × ℤ). q.0 ≤ℤ q.1) is (p.left k h')
+      by false e = let is = get_or-set_other b j k lower (pos 0, pos 0) (eqb-false k j e) in let h' : k < length (set b j lower) =
+          omega (arith, h, length-set b j lower) in subst (λ (q : ℤ × ℤ). q.0 ≤ℤ q.1) is (p.left k h')
 
 -- ---- points
-points_cut : (b : List (ℤ × ℤ)) (j : ℕ) (s t : ℤ × ℤ) → j < length b → side_points s + side_points t ≡ side_points (get_or b j (pos 0, pos 0)) → point_count (set b j s) + point_count (set b j t) ≡ point_count b
+points_cut : (b : List (ℤ × ℤ)) (j : ℕ) (s t : ℤ × ℤ) → j < length b
+    → side_points s + side_points t ≡ side_points (get_or b j (pos 0, pos 0))
+    → point_count (set b j s) + point_count (set b j t) ≡ point_count b
 points_cut [] j s t l h = absurd (omega arith)
 points_cut (x ∷ b) zero s t l h =
     let out = add-mul (side_points s) (side_points t) (point_count b) in
@@ -71,7 +75,8 @@ points_cut (x ∷ b) (suc j) s t l h =
     let out = mul-add (side_points x) (point_count (set b j s)) (point_count (set b j t)) in
     sym out ∙ ap (λ n. side_points x * n) rest
 
-side_cut : (lo hi z : ℤ) → lo ≤ℤ z → z <ℤ hi → side_points (lo, int_min hi z) + side_points (int_max lo (z +ℤ pos 1), hi) ≡ side_points (lo, hi)
+side_cut : (lo hi z : ℤ) → lo ≤ℤ z → z <ℤ hi
+    → side_points (lo, int_min hi z) + side_points (int_max lo (z +ℤ pos 1), hi) ≡ side_points (lo, hi)
 side_cut lo hi z p q =
     let a = count_is (int_min hi z +ℤ pos 1 -ℤ lo) (omega (arith, ints, clamps)) in
     let b = count_is (hi +ℤ pos 1 -ℤ int_max lo (z +ℤ pos 1)) (omega (arith, ints, clamps)) in
@@ -79,8 +84,10 @@ side_cut lo hi z p q =
     omega (arith, ints, clamps)
 
 -- the points of a box are those of its halves
-pub points_split : (b : List (ℤ × ℤ)) (j : ℕ) (z : ℤ) → IsProper (split_at b j z) → point_count (below b j z) + point_count (above b j z) ≡ point_count b
-points_split b j z p = points_cut b j (low_at b j, int_min (high_at b j) z) (int_max (low_at b j) (z +ℤ pos 1), high_at b j) p.col (side_cut (low_at b j) (high_at b j) z (cut_low b j z p) (cut_high b j z p))
+pub points_split : (b : List (ℤ × ℤ)) (j : ℕ) (z : ℤ) → IsProper (split_at b j z)
+    → point_count (below b j z) + point_count (above b j z) ≡ point_count b
+points_split b j z p = points_cut b j (low_at b j, int_min (high_at b j) z) (int_max (low_at b j) (z +ℤ pos 1), high_at b j) p.col
+    (side_cut (low_at b j) (high_at b j) z (cut_low b j z p) (cut_high b j z p))
 
 positive_mul : (a b : ℕ) → 1 ≤ a → 1 ≤ b → 1 ≤ a * b
 positive_mul zero b p q = absurd (omega arith)
@@ -102,8 +109,7 @@ below_narrower b j z p = Boxes.below_narrower b j z p.col (cut_low b j z p) (cut
 pub above_narrower : (b : List (ℤ × ℤ)) (j : ℕ) (z : ℤ) → IsProper (split_at b j z) → width (above b j z) < width b
 above_narrower b j z p = Boxes.above_narrower b j z p.col (cut_low b j z p) (cut_high b j z p)
 
-not_below : (a b : ℤ) → b ≤ℤ a → lt_z a b ≡ false
-not_below a b h = grind (arith, ints)
-
 pub width_of : (m : Parts) → IsOpen (box_of m) → width_sum m ≡ width (box_of m)
-width_of m h = rw (list_any_none is_empty_side (box_of m) (All-from_get_or (λ s. is_empty_side s ≡ false) (box_of m) (pos 0, pos 0) (λ j l. not_below (high_at (box_of m) j) (low_at (box_of m) j) (h j l)))) refl
+width_of m h = rw (list_any_none is_empty_side (box_of m)
+    (All-from_get_or (λ s. is_empty_side s ≡ false) (box_of m) (pos 0, pos 0)
+    (λ j l. less_false (high_at (box_of m) j) (low_at (box_of m) j) (h j l)))) refl

@@ -1,57 +1,41 @@
 -- A grown tree without open nodes is a proof, and what is closed stays closed.
-use Rattle.std.specs.Prelude.{◌≡◌, ℕ, suc, ◌+◌, ◌≤◌, ℤ, ◌≤ℤ◌, List, [], ◌∷◌, length, Option, Some, None}
-use Rattle.std.proofs.Common.{refl, arith, ap, sym, ◌∙◌, subst}
+use Rattle.std.specs.Prelude.{ℕ, ◌+◌, ◌≤◌, ℤ, ◌≤ℤ◌, List, [], ◌∷◌, Option, Some, None}
+use Rattle.std.proofs.Common.{arith, ap, sym, ◌∙◌, subst}
 use Rattle.std.proofs.lemmas.Int.{ints, clamps}
-use Rattle.std.proofs.lemmas.List.{length-append}
 use Rattle.ip_defs.specs.declared.certificates.Bound.{Bound}
 use Rattle.ip_defs.specs.declared.certificates.Bound.TheVariants.{At, Infinite}
 use Rattle.ip_defs.specs.declared.programs.Parts.{Parts}
 use Rattle.ip_defs.specs.Boxes.{below, above}
 use Rattle.ip_defs.specs.Certificates.{leaf_bound}
 use Rattle.ip_defs.specs.Program.{cost}
-use Rattle.proof_tree.specs.Lists.{Each}
-use Rattle.proof_tree.proofs.EachLaws.{each_left, each_right}
 use Rattle.proof_tree.proofs.TreeLaws.{bound_split, bound_min-infinite}
-use Rattle.proof_tree.specs.Trees.{nodes_from, depth, bound_min, bound_over}
+use Rattle.proof_tree.proofs.LabelledTreeLaws.{deepest_place, relabelled_depth}
+use Rattle.proof_tree.specs.LabelledTrees.{leaf, split, leaf_node, split_node, depth, places_from, splits_over, split_labels, no_label}
+use Rattle.proof_tree.specs.Trees.{bound_min, bound_over}
 use Rattle.proof_tree.specs.Verdicts.{IsAtLeast}
 use Rattle.proof_tree.specs.Within.{AreNumbersWithin}
-use Rattle.branching.specs.OpenTrees.{PlainOpen, pending, stuck, ended, parted, OpenNode, pending_node, stuck_node, ended_node, parted_node, Place, places_from, IsDone, tree_of, whys_of}
+use Rattle.branching.specs.OpenTrees.{PlainOpen, pending, stuck, ended, OpenNode, OpenPlace, cert_of, IsDone, tree_of}
 use Rattle.branching.specs.Outcomes.{Pairwise, HasReason, IsClosedBy, IsClosedNode}
-use Rattle.branching.specs.Search.{IsSmallNode}
+use Rattle.branching.specs.Internal.Search.{IsSmallNode}
 use Rattle.branching.specs.Reasons.{IsReasoned}
-use Rattle.branching.specs.Splits.{splits_over}
 use Rattle.branching.proofs.OutcomeLaws.{pair_join}
-
-pub done_count : (d e : ℕ) (b : List (ℤ × ℤ)) (t : PlainOpen) → length (nodes_from e (tree_of t)) ≡ length (places_from d b t)
-done_count d e b pending = refl
-done_count d e b (stuck why) = refl
-done_count d e b (ended c) = refl
-done_count d e b (parted col cut why left right) =
-    let p = done_count (suc d) (suc e) (below b col cut) left in
-    let q = done_count (suc d) (suc e) (above b col cut) right in
-    let one = length-append (nodes_from (suc e) (tree_of left)) (nodes_from (suc e) (tree_of right)) in
-    let two = length-append (places_from (suc d) (below b col cut) left) (places_from (suc d) (above b col cut) right) in
-    omega arith
+use Rattle.ip_defs.proofs.ListLaws.{each_left, each_right}
+use Rattle.ip_defs.specs.Lists.{Each}
 
 pub done_depth : (k d : ℕ) (b : List (ℤ × ℤ)) (t : PlainOpen) → Each (λ p. p.depth ≤ k) (places_from d b t) → d + depth (tree_of t) ≤ k
-done_depth k d b pending h = let l = h.0 in omega arith
-done_depth k d b (stuck why) h = let l = h.0 in omega arith
-done_depth k d b (ended c) h = let l = h.0 in omega arith
-done_depth k d b (parted col cut why left right) h =
-    let p = done_depth k (suc d) (below b col cut) left (each_left _ (places_from (suc d) (below b col cut) left) (places_from (suc d) (above b col cut) right) h.1) in
-    let q = done_depth k (suc d) (above b col cut) right (each_right _ (places_from (suc d) (below b col cut) left) (places_from (suc d) (above b col cut) right) h.1) in
-    omega arith
+done_depth k d b t h = let deep = deepest_place k d b t h in omega (arith, relabelled_depth cert_of no_label t)
 
-pub done_numbers : (d : ℕ) (b : List (ℤ × ℤ)) (t : PlainOpen) → IsDone t → Each (λ p. IsSmallNode p.node) (places_from d b t) → AreNumbersWithin (tree_of t)
-done_numbers d b pending done h = absurd done
-done_numbers d b (stuck why) done h = absurd done
-done_numbers d b (ended c) done h = h.0
-done_numbers d b (parted col cut why left right) done h = (
-  h.0.0,
-  h.0.1,
-  done_numbers (suc d) (below b col cut) left done.0 (each_left _ (places_from (suc d) (below b col cut) left) (places_from (suc d) (above b col cut) right) h.1),
-  done_numbers (suc d) (above b col cut) right done.1 (each_right _ (places_from (suc d) (below b col cut) left) (places_from (suc d) (above b col cut) right) h.1),
-)
+pub done_numbers : (d : ℕ) (b : List (ℤ × ℤ)) (t : PlainOpen) → IsDone t → Each (λ p. IsSmallNode p.node) (places_from d b t)
+    → AreNumbersWithin (tree_of t)
+done_numbers d b (leaf pending) done h = absurd done
+done_numbers d b (leaf (stuck why)) done h = absurd done
+done_numbers d b (leaf (ended c)) done h = h.0
+done_numbers d b (split col cut why left right) done h =
+    let ps = places_from (d + 1) (below b col cut) left in
+    let qs = places_from (d + 1) (above b col cut) right in
+    let first = done_numbers (d + 1) (below b col cut) left done.0 (each_left _ ps qs h.1) in
+    let second = done_numbers (d + 1) (above b col cut) right done.1 (each_right _ ps qs h.1) in
+    (h.0.0, h.0.1, first, second)
 
 both_closed : (m : Parts) (x : Option (List ℤ)) (u v : Bound) → IsClosedBy m x u → IsClosedBy m x v → IsClosedBy m x (bound_min u v)
 both_closed m None u v p q = ap (λ w. bound_min w v) p ∙ q
@@ -59,23 +43,34 @@ both_closed m (Some x) (At u) (At v) p q = omega (arith, ints, clamps)
 both_closed m (Some x) (At u) Infinite p q = p
 both_closed m (Some x) Infinite v p q = q
 
-pub done_closed : (m : Parts) (x : Option (List ℤ)) (d : ℕ) (b : List (ℤ × ℤ)) (t : PlainOpen) → IsDone t → Each (λ p. IsClosedNode m x p.box p.node) (places_from d b t) → IsClosedBy m x (bound_over m (tree_of t) b)
-done_closed m x d b pending done h = absurd done
-done_closed m x d b (stuck why) done h = absurd done
-done_closed m x d b (ended c) done h = subst (IsClosedBy m x) (sym (bound_min-infinite (leaf_bound m b c))) h.0
-done_closed m x d b (parted col cut why left right) done h =
-    let p = done_closed m x (suc d) (below b col cut) left done.0 (each_left _ (places_from (suc d) (below b col cut) left) (places_from (suc d) (above b col cut) right) h.1) in
-    let q = done_closed m x (suc d) (above b col cut) right done.1 (each_right _ (places_from (suc d) (below b col cut) left) (places_from (suc d) (above b col cut) right) h.1) in
-    subst (IsClosedBy m x) (sym (bound_split m b col cut (tree_of left) (tree_of right))) (both_closed m x (bound_over m (tree_of left) (below b col cut)) (bound_over m (tree_of right) (above b col cut)) p q)
+pub done_closed : (m : Parts) (x : Option (List ℤ)) (d : ℕ) (b : List (ℤ × ℤ)) (t : PlainOpen) → IsDone t
+    → Each (λ p. IsClosedNode m x p.box p.node) (places_from d b t) → IsClosedBy m x (bound_over m (tree_of t) b)
+done_closed m x d b (leaf pending) done h = absurd done
+done_closed m x d b (leaf (stuck why)) done h = absurd done
+done_closed m x d b (leaf (ended c)) done h = subst (IsClosedBy m x) (sym (bound_min-infinite (leaf_bound m b c))) h.0
+done_closed m x d b (split col cut why left right) done h =
+    let ps = places_from (d + 1) (below b col cut) left in
+    let qs = places_from (d + 1) (above b col cut) right in
+    let first = done_closed m x (d + 1) (below b col cut) left done.0 (each_left _ ps qs h.1) in
+    let second = done_closed m x (d + 1) (above b col cut) right done.1 (each_right _ ps qs h.1) in
+    let both = both_closed m x (bound_over m (tree_of left) (below b col cut)) (bound_over m (tree_of right) (above b col cut)) first
+    second in
+    subst (IsClosedBy m x) (sym (bound_split m b col cut (tree_of left) (tree_of right))) both
 
-pub done_reasons : (m : Parts) (pivots d : ℕ) (b : List (ℤ × ℤ)) (t : PlainOpen) → IsDone t → Each (λ p. HasReason m pivots p.box p.node) (places_from d b t) → Pairwise (IsReasoned m pivots) (splits_over b (tree_of t)) (whys_of t)
-done_reasons m pivots d b pending done h = absurd done
-done_reasons m pivots d b (stuck why) done h = absurd done
-done_reasons m pivots d b (ended c) done h = tt
-done_reasons m pivots d b (parted col cut why left right) done h =
-    let p = done_reasons m pivots (suc d) (below b col cut) left done.0 (each_left _ (places_from (suc d) (below b col cut) left) (places_from (suc d) (above b col cut) right) h.1) in
-    let q = done_reasons m pivots (suc d) (above b col cut) right done.1 (each_right _ (places_from (suc d) (below b col cut) left) (places_from (suc d) (above b col cut) right) h.1) in
-    (h.0, pair_join (IsReasoned m pivots) (splits_over (below b col cut) (tree_of left)) (splits_over (above b col cut) (tree_of right)) (whys_of left) (whys_of right) p q)
+pub done_reasons : (m : Parts) (pivots d : ℕ) (b : List (ℤ × ℤ)) (t : PlainOpen) → IsDone t
+    → Each (λ p. HasReason m pivots p.box p.node) (places_from d b t)
+    → Pairwise (IsReasoned m pivots) (splits_over b (tree_of t)) (split_labels t)
+done_reasons m pivots d b (leaf pending) done h = absurd done
+done_reasons m pivots d b (leaf (stuck why)) done h = absurd done
+done_reasons m pivots d b (leaf (ended c)) done h = tt
+done_reasons m pivots d b (split col cut why left right) done h =
+    let ps = places_from (d + 1) (below b col cut) left in
+    let qs = places_from (d + 1) (above b col cut) right in
+    let first = done_reasons m pivots (d + 1) (below b col cut) left done.0 (each_left _ ps qs h.1) in
+    let second = done_reasons m pivots (d + 1) (above b col cut) right done.1 (each_right _ ps qs h.1) in
+    let xs = splits_over (below b col cut) (tree_of left) in
+    let ys = splits_over (above b col cut) (tree_of right) in
+    (h.0, pair_join (IsReasoned m pivots) xs ys (split_labels left) (split_labels right) first second)
 
 -- ---- later points
 
@@ -92,13 +87,15 @@ closed_by_later m (Some x) None v w h = absurd w
 closed_by_later m (Some x) (Some y) Infinite w h = tt
 closed_by_later m (Some x) (Some y) (At v) w h = omega (arith, ints)
 
-node_later : (m : Parts) (x y : Option (List ℤ)) (b : List (ℤ × ℤ)) (n : OpenNode) → IsNoWorse m x y → IsClosedNode m x b n → IsClosedNode m y b n
-node_later m x y b pending_node w h = tt
-node_later m x y b (stuck_node why) w h = tt
-node_later m x y b (ended_node c) w h = closed_by_later m x y (leaf_bound m b c) w h
-node_later m x y b (parted_node col cut why) w h = tt
+node_later : (m : Parts) (x y : Option (List ℤ)) (b : List (ℤ × ℤ)) (n : OpenNode) → IsNoWorse m x y → IsClosedNode m x b n
+    → IsClosedNode m y b n
+node_later m x y b (leaf_node pending) w h = tt
+node_later m x y b (leaf_node (stuck why)) w h = tt
+node_later m x y b (leaf_node (ended c)) w h = closed_by_later m x y (leaf_bound m b c) w h
+node_later m x y b (split_node col cut why) w h = tt
 
 -- what is closed stays closed, when a better point is found
-pub closed_stays : (m : Parts) (x y : Option (List ℤ)) (ps : List Place) → IsNoWorse m x y → Each (λ p. IsClosedNode m x p.box p.node) ps → Each (λ p. IsClosedNode m y p.box p.node) ps
+pub closed_stays : (m : Parts) (x y : Option (List ℤ)) (ps : List OpenPlace) → IsNoWorse m x y
+    → Each (λ p. IsClosedNode m x p.box p.node) ps → Each (λ p. IsClosedNode m y p.box p.node) ps
 closed_stays m x y [] w h = tt
 closed_stays m x y (p ∷ ps) w h = (node_later m x y p.box p.node w h.0, closed_stays m x y ps w h.1)

@@ -8,12 +8,13 @@ use Rattle.ip_defs.specs.Boxes.{IsOpen}
 use Rattle.ip_defs.specs.Limits.{IsArea}
 use Rattle.ip_defs.specs.Program.{low_at, high_at}
 use Rattle.ip_defs.proofs.BoxLaws.{below_open, above_open}
-use Rattle.branching.specs.Search.{IsSplit}
+use Rattle.branching.specs.Internal.Search.{IsSplit}
 use Rattle.branching.specs.declared.reasons.Why.{Why}
 use Rattle.branching.specs.declared.reasons.Why.TheVariants.{Fractional, Stopped, Wide}
 use Rattle.branching.specs.Reasons.{IsTrueReason}
-use Rattle.branching.specs.Relaxed.{IsUnanswered}
-use Rattle.branching.specs.Splits.{IsWidest, middle, split_at, width_at}
+use Rattle.branching.specs.Internal.Relaxed.{IsUnanswered}
+use Rattle.proof_tree.specs.LabelledTrees.{split_at}
+use Rattle.branching.specs.Splits.{IsWidest, middle, width_at}
 
 -- among the columns below j this one is the first of the widest, where one has more than one number
 pub record IsWidestBelow (b : List (ℤ × ℤ)) (j widest : ℕ) (most : ℤ) : Type 0 where
@@ -23,7 +24,8 @@ pub record IsWidestBelow (b : List (ℤ × ℤ)) (j widest : ℕ) (most : ℤ) :
   pub none : (k : ℕ) → k < j → width_at b k ≤ℤ most
   pub first : pos 0 <ℤ most → (k : ℕ) → k < widest → width_at b k <ℤ most
 
-pub widest_more : (b : List (ℤ × ℤ)) (j widest : ℕ) (most width : ℤ) → IsWidestBelow b j widest most → width ≡ width_at b j → most <ℤ width → IsWidestBelow b (j + 1) j width
+pub widest_more : (b : List (ℤ × ℤ)) (j widest : ℕ) (most width : ℤ) → IsWidestBelow b j widest most → width ≡ width_at b j → most <ℤ width
+    → IsWidestBelow b (j + 1) j width
 widest_more b j widest most width so is more = record {
   most_is = let m = so.most_is in omega (arith, ints);
   within = λ h. omega arith;
@@ -32,7 +34,8 @@ widest_more b j widest most width so is more = record {
   first = λ h k l. let before = so.none k l in omega (arith, ints);
 }
 
-pub widest_same : (b : List (ℤ × ℤ)) (j widest : ℕ) (most width : ℤ) → IsWidestBelow b j widest most → width ≡ width_at b j → width ≤ℤ most → IsWidestBelow b (j + 1) widest most
+pub widest_same : (b : List (ℤ × ℤ)) (j widest : ℕ) (most width : ℤ) → IsWidestBelow b j widest most → width ≡ width_at b j → width ≤ℤ most
+    → IsWidestBelow b (j + 1) widest most
 widest_same b j widest most width so is less = record {
   most_is = so.most_is;
   within = λ h. let before = so.within h in omega arith;
@@ -56,7 +59,9 @@ middle_inside lo hi h = by (lo +ℤ hi) refl
     by (negsuc n) e = (omega (arith, ints), omega (arith, ints))
 
 -- the middle of the widest column splits a box, where that column has more than one number, for a reason that is true of the box
-pub middle_splits : (m : Parts) (pivots : ℕ) (b : List (ℤ × ℤ)) (col : ℕ) (why : Why) → IsArea (length b) b → length b ≤ 4096 → IsOpen b → IsWidest b col → low_at b col <ℤ high_at b col → IsUnanswered m pivots b why → IsSplit m pivots b col (middle (low_at b col) (high_at b col)) why
+pub middle_splits : (m : Parts) (pivots : ℕ) (b : List (ℤ × ℤ)) (col : ℕ) (why : Why) → IsArea (length b) b → length b ≤ 4096 → IsOpen b
+    → IsWidest b col → low_at b col <ℤ high_at b col → IsUnanswered m pivots b why
+    → IsSplit m pivots b col (middle (low_at b col) (high_at b col)) why
 middle_splits m pivots b col why area few open' widest wide is =
     let z = middle (low_at b col) (high_at b col) in
     let within : col < length b = widest.within in
@@ -66,7 +71,14 @@ middle_splits m pivots b col why area few open' widest wide is =
     let from = inside.0 in
     let to' = inside.1 in
     record {
-      reasoned = (record { col = within; left = below_open b col z within from to' open'; right = above_open b col z within from to' open' }, reason why is);
+      reasoned = (
+        record {
+          col = within;
+          left = below_open b col z within from to' open';
+          right = above_open b col z within from to' open';
+        },
+        reason why is,
+      );
       col_small = omega (arith, within, few);
       cut_small = omega (arith, ints);
     }

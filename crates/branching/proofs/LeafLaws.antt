@@ -1,13 +1,11 @@
 -- What closes a box: its sum, its one point, or a ray on a row that its one point breaks.
-use Rattle.std.specs.Prelude.{◌≡◌, ℕ, ◌<◌, Bool, true, false, if◌then◌else◌, List, [], ◌∷◌, length, slice_get, Option, Some, None, option_map, ℤ, pos, negsuc, ◌+ℤ◌, ◌-ℤ◌, ◌*ℤ◌, ◌≤ℤ◌, ◌<ℤ◌}
+use Rattle.std.specs.Prelude.{◌≡◌, ℕ, ◌<◌, Bool, true, false, if◌then◌else◌, List, [], ◌∷◌, length, slice_get, Option, Some, None, option_map, ℤ, pos, negsuc, ◌+ℤ◌, ◌-ℤ◌, ◌*ℤ◌, ◌<ℤ◌}
 use Rattle.std.specs.Int.{int_min}
 use Rattle.std.specs.Int.Signed.{lt_z}
 use Rattle.std.specs.List.{list_any}
 use Rattle.std.proofs.Common.{arith, refl, ap, sym, ◌∙◌, subst}
 use Rattle.std.proofs.lemmas.Int.{ints, clamps}
 use Rattle.std.proofs.lemmas.List.{length-map, get_or-map}
-use Rattle.std.proofs.lemmas.List.Elements.{All-from_get_or}
-use Rattle.std.proofs.lemmas.List.Folds.{list_any_none}
 use Rattle.ring_laws.proofs.Normal.{num, ◌⊕◌, ◌⊖◌, ◌⊗◌}
 use Rattle.ring_laws.proofs.Named.{ring3, ring4}
 use Rattle.ring_laws.proofs.Rings.{whole}
@@ -22,11 +20,12 @@ use Rattle.ip_defs.specs.Limits.{IsCert, IsWithinLimits}
 use Rattle.ip_defs.specs.Program.{at, box_of, coefficient, costs_of, row_sum, low_at, high_at, IsIn, cost}
 use Rattle.ip_defs.specs.Sums.{sum_below}
 use Rattle.ip_defs.proofs.SumLaws.{sum_same, sum_scale}
-use Rattle.ip_defs.proofs.BoxLaws.{box_within, open_from}
+use Rattle.ip_defs.proofs.BoxLaws.{box_within, open_from, open_sides}
 use Rattle.proof_tree.specs.Verdicts.{IsAtLeast}
 use Rattle.branching.specs.OpenTrees.{plain_cert}
 use Rattle.branching.specs.Outcomes.{IsClosedBy}
-use Rattle.branching.specs.Search.{Closes, Found, Improves, IsBelow, IsEnd, IsPartOf, IsSearchArea, IsSingle, IsSound, lowest, point_of, ray_on}
+use Rattle.branching.specs.Internal.Search.{Closes, Found, Improves, IsBelow, IsEnd, IsPartOf, IsSearchArea, IsSingle, IsSound, lowest, point_of, ray_on}
+use Rattle.ip_defs.proofs.OrderLaws.{less_true}
 
 -- ---- boxes of a search
 
@@ -36,22 +35,13 @@ whole_area m limits = record { area = box_within m limits; part = λ j l. (omega
 
 -- ---- the sum of a box
 
-not_less : (a b : ℤ) → b ≤ℤ a → lt_z a b ≡ false
-not_less a b h = grind (arith, ints)
-
-less_is : (a b : ℤ) → a <ℤ b → lt_z a b ≡ true
-less_is a b h = grind (arith, ints)
-
-pub open_none : (b : List (ℤ × ℤ)) → IsOpen b → list_any is_empty_side b ≡ false
-open_none b h = list_any_none is_empty_side b (All-from_get_or (λ s. is_empty_side s ≡ false) b (pos 0, pos 0) (λ j l. not_less (high_at b j) (low_at b j) (h j l)))
-
 pub ceiling_one : (g : ℤ) → ceiling g 1 ≡ g
 ceiling_one (pos a) = omega (arith, ints)
 ceiling_one (negsuc a) = omega (arith, ints)
 
 -- of an open box the dual value bounds
 pub open_bound : (m : Parts) (b : List (ℤ × ℤ)) (c : Cert) → IsOpen b → leaf_bound m b c ≡ bound_by c.q (box_sum m b) (dual_value m b c.q c.y)
-open_bound m b c open' = ap (λ t. if t then Infinite else bound_by c.q (box_sum m b) (dual_value m b c.q c.y)) (open_none b open')
+open_bound m b c open' = ap (λ t. if t then Infinite else bound_by c.q (box_sum m b) (dual_value m b c.q c.y)) (open_sides b open')
 
 -- the bound of the certificate without multipliers is the sum of the box
 pub plain_bound : (m : Parts) (b : List (ℤ × ℤ)) → list_any is_empty_side b ≡ false → leaf_bound m b plain_cert ≡ At (box_sum m b)
@@ -124,7 +114,7 @@ module _ (b : List (ℤ × ℤ)) (single : IsSingle b) (open' : IsOpen b) where
       let part = ray_part m i r k is in
       let turned = ring3 whole (λ k v z. (num (pos 0) ⊖ k) ⊗ v) (λ k v z. num (pos 0) ⊖ k ⊗ v) refl k (row_sum r.coefs (lowest b)) (pos 0) in
       let g = (k *ℤ side +ℤ pos 0) +ℤ (pos 0 *ℤ m.constant) +ℤ column_part m b (pos 0) y in
-      let positive : lt_z (pos 0) g ≡ true = less_is (pos 0) g (omega (arith, ints)) in
+      let positive : lt_z (pos 0) g ≡ true = less_true (pos 0) g (omega (arith, ints)) in
       let paid : pay m.rows y ≡ Some (k *ℤ side +ℤ pos 0) = rw (is, side_is) refl in
       let dual : dual_value m b (pos 0) y ≡ Some g = ap (option_map (λ p. p +ℤ (pos 0 *ℤ m.constant) +ℤ column_part m b (pos 0) y)) paid in
       let by_ray : bound_by (pos 0) (box_sum m b) (Some g) ≡ Infinite = ap (λ t. if t then Infinite else At (box_sum m b)) positive in
@@ -172,7 +162,7 @@ module _ (m : Parts) (b : List (ℤ × ℤ)) (p : List ℤ) (w : ℤ) (single : 
         let sum = point_sum b single open' m in
         let same = ap (cost m) is in
         let least : IsAtLeast (At (box_sum m b)) (cost m p) = omega (arith, ints) in
-        subst (λ (v : Bound). IsAtLeast v (cost m p)) (sym (ap (leaf_bound m b) plain ∙ plain_bound m b (open_none b open'))) least;
+        subst (λ (v : Bound). IsAtLeast v (cost m p)) (sym (ap (leaf_bound m b) plain ∙ plain_bound m b (open_sides b open'))) least;
   }
 
   -- and it costs less than what was found

@@ -7,17 +7,18 @@ use Rattle.ip_defs.specs.declared.programs.Parts.{Parts}
 use Rattle.ip_defs.specs.Certificates.{leaf_bound}
 use Rattle.ip_defs.specs.Program.{box_of}
 use Rattle.ip_model.specs.Sizes.{width_sum}
-use Rattle.proof_tree.specs.Trees.{tree_bound, tree_limit, node_count, depth}
+use Rattle.proof_tree.specs.LabelledTrees.{leaf, split, leaf_node, split_node, place, node_count, depth, split_at, splits_over, split_labels}
+use Rattle.proof_tree.specs.Trees.{tree_bound, tree_limit}
 use Rattle.branching.specs.declared.budgets.Limits.{Limits}
 use Rattle.branching.specs.declared.budgets.BudgetWhat.{BudgetWhat}
 use Rattle.branching.specs.declared.outcomes.Outcome.TheVariants.{Budget}
 use Rattle.branching.specs.declared.open_trees.OpenTree.{Pending}
 use Rattle.branching.specs.declared.reasons.Why.TheVariants.{Stopped}
-use Rattle.branching.specs.OpenTrees.{PlainOpen, ended, parted, ended_node, parted_node, place, places, tree_of, whys_of, plain_cert}
+use Rattle.branching.specs.OpenTrees.{PlainOpen, ended, places, tree_of, plain_cert}
 use Rattle.branching.specs.Outcomes.{IsRightOutcome}
-use Rattle.branching.specs.Search.{ray_on}
+use Rattle.branching.specs.Internal.Search.{ray_on}
 use Rattle.branching.specs.Sizes.{point_count, most_nodes}
-use Rattle.branching.specs.Splits.{IsWidest, middle, split_at, splits_over, width_at}
+use Rattle.branching.specs.Splits.{IsWidest, middle, width_at}
 
 -- least -x with 2x = 1, over x from 0 to a number
 abbrev odd : ℤ → Parts
@@ -31,7 +32,7 @@ odd most = record {
 
 -- the two points of 0 to 1, each closed by its ray: 0 breaks the low side, 1 the high side
 abbrev grown : PlainOpen
-grown = parted 0 (pos 0) Stopped (ended (ray_on 0 (pos 1))) (ended (ray_on 0 (negsuc 0)))
+grown = split 0 (pos 0) Stopped (leaf (ended (ray_on 0 (pos 1)))) (leaf (ended (ray_on 0 (negsuc 0))))
 
 pub rays_close : tree_bound (odd (pos 1)) (tree_of grown) ≡ Infinite
 rays_close = refl
@@ -43,13 +44,15 @@ turned_ray = refl
 pub sum_closes : leaf_bound (odd (pos 5)) ((pos 2, pos 5) ∷ []) plain_cert ≡ At (negsuc 4)
 sum_closes = refl
 
-pub places_in_preorder : places (odd (pos 1)) grown ≡ place 0 ((pos 0, pos 1) ∷ []) (parted_node 0 (pos 0) Stopped) ∷ place 1 ((pos 0, pos 0) ∷ []) (ended_node (ray_on 0 (pos 1))) ∷ place 1 ((pos 1, pos 1) ∷ []) (ended_node (ray_on 0 (negsuc 0))) ∷ []
+pub places_in_preorder : places (odd (pos 1)) grown ≡ place 0 ((pos 0, pos 1) ∷ []) (split_node 0 (pos 0) Stopped) ∷ place 1
+    ((pos 0, pos 0) ∷ []) (leaf_node (ended (ray_on 0 (pos 1)))) ∷ place 1 ((pos 1, pos 1) ∷ [])
+    (leaf_node (ended (ray_on 0 (negsuc 0)))) ∷ []
 places_in_preorder = refl
 
 pub one_split : splits_over (box_of (odd (pos 1))) (tree_of grown) ≡ split_at ((pos 0, pos 1) ∷ []) 0 (pos 0) ∷ []
 one_split = refl
 
-pub one_reason : whys_of grown ≡ Stopped ∷ []
+pub one_reason : split_labels grown ≡ Stopped ∷ []
 one_reason = refl
 
 pub small_tree : node_count (tree_of grown) ≡ most_nodes (box_of (odd (pos 1)))

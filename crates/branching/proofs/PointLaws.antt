@@ -1,52 +1,38 @@
 -- A point of the relaxation of a box, whose numbers are whole, is feasible, and costs the same.
-use Rattle.std.specs.Prelude.{◌≡◌, ℕ, ◌<◌, List, [], length, Option, Some, None, IfSome, slice_get, ℤ, ◌*ℤ◌, ◌≤ℤ◌, option_and_then}
+use Rattle.std.specs.Prelude.{◌≡◌, ℕ, ◌<◌, List, [], length, Option, Some, None, IfSome, slice_get, ℤ, ◌≤ℤ◌, option_and_then}
 use Rattle.std.proofs.Common.{arith, refl, ap, sym, ◌∙◌, subst}
 use Rattle.std.proofs.lemmas.Int.{ints}
 use Rattle.std.proofs.lemmas.List.{length-map}
 use Rattle.std.proofs.lemmas.List.Elements.{All-from_get_or}
 use Rattle.std.proofs.lemmas.Option.{slice_get-get_or}
-use Rattle.ring_laws.proofs.Sums.{sum, sum_same}
 use Rattle.ip_defs.specs.declared.programs.Parts.{Parts}
 use Rattle.ip_defs.specs.declared.programs.Row.{Row}
-use Rattle.ip_defs.specs.Certificates.{coefs_of, entry as coefficient_of}
-use Rattle.ip_defs.specs.Program.{at, coefficient, cost, costs_of, row_sum, low_at, high_at, IsFeasible, Meets}
-use Rattle.ip_defs.specs.Sums.{sum_below}
-use Rattle.frac128.specs.Rationals.{Rational, of, add, mul, AtMost}
-use Rattle.frac128.proofs.Rationals.{of_add, of_mul, rationals}
-use Rattle.lp_duality.specs.Relaxations.{row_total, total_cost, IsRelaxed}
-use Rattle.lp_duality.proofs.CertificateLaws.{of_sum}
-use Rattle.branching.specs.Search.{IsSearchArea}
+use Rattle.ip_defs.specs.Program.{at, row_sum, low_at, high_at, IsFeasible, Meets}
+use Rattle.frac128.specs.Rationals.{Rational, of, AtMost}
+use Rattle.lp_duality.specs.Relaxations.{IsRelaxed}
+use Rattle.lp_duality.proofs.PointLaws.{row_whole}
+use Rattle.branching.specs.Internal.Search.{IsSearchArea}
 use Rattle.branching.proofs.WholeLaws.{from_at_most}
 
 -- a row without sides
 no_row : Row
 no_row = record { name = []; decimals = 0; coefs = []; low = None; high = None }
 
-module _ (m : Parts) (p : ℕ → Rational) (x : List ℤ) (size : length x ≡ length m.columns) (same : (j : ℕ) → j < length m.columns → p j ≡ of (at x j)) where
-  sum_whole : (a : ℕ → ℤ) → sum rationals (λ j. mul (of (a j)) (p j)) (length m.columns) ≡ of (sum_below (λ j. a j *ℤ at x j) (length x))
-  sum_whole a =
-      sum_same rationals (λ j. mul (of (a j)) (p j)) (λ j. of (a j *ℤ at x j)) (length m.columns) (λ j l. ap (mul (of (a j))) (same j l) ∙ sym (of_mul (a j) (at x j)))
-      ∙ sym (of_sum (λ j. a j *ℤ at x j) (length m.columns))
-      ∙ ap (λ n. of (sum_below (λ j. a j *ℤ at x j) n)) (sym size)
-
-  -- it costs the same
-  pub whole_cost : total_cost m p ≡ of (cost m x)
-  whole_cost = ap (add (of m.constant)) (sum_whole (at (costs_of m))) ∙ sym (of_add m.constant (sum_below (λ j. at (costs_of m) j *ℤ at x j) (length x)))
-
-  row_whole : (k : ℕ) (r : Row) → slice_get m.rows k ≡ Some r → row_total m p k ≡ of (row_sum r.coefs x)
-  row_whole k r e = sum_whole (λ j. coefficient_of m.rows k j) ∙ ap (λ o. of (sum_below (λ j. coefficient (coefs_of o) j *ℤ at x j) (length x))) e
-
+module _ (m : Parts) (p : ℕ → Rational) (x : List ℤ) (size : length x ≡ length m.columns)
+    (same : (j : ℕ) → j < length m.columns → p j ≡ of (at x j)) where
   module _ (b : List (ℤ × ℤ)) (relaxed : IsRelaxed m b p) where
     row_meets : (k : ℕ) (r : Row) → k < length m.rows → slice_get m.rows k ≡ Some r → Meets x r
     row_meets k r l e = record { low = low r.low refl; high = high r.high refl }
       where
         low : (o : Option ℤ) → r.low ≡ o → IfSome o (λ side. side ≤ℤ row_sum r.coefs x)
         low None is = tt
-        low (Some side) is = from_at_most side (row_sum r.coefs x) (subst (AtMost (of side)) (row_whole k r e) ((relaxed.rows k l).low side (ap (option_and_then (λ r. r.low)) e ∙ is)))
+        low (Some side) is = from_at_most side (row_sum r.coefs x)
+            (subst (AtMost (of side)) (row_whole m p x size same k r e) ((relaxed.rows k l).low side (ap (option_and_then (λ r. r.low)) e ∙ is)))
 
         high : (o : Option ℤ) → r.high ≡ o → IfSome o (λ side. row_sum r.coefs x ≤ℤ side)
         high None is = tt
-        high (Some side) is = from_at_most (row_sum r.coefs x) side (subst (λ w. AtMost w (of side)) (row_whole k r e) ((relaxed.rows k l).high side (ap (option_and_then (λ r. r.high)) e ∙ is)))
+        high (Some side) is = from_at_most (row_sum r.coefs x) side
+            (subst (λ w. AtMost w (of side)) (row_whole m p x size same k r e) ((relaxed.rows k l).high side (ap (option_and_then (λ r. r.high)) e ∙ is)))
 
     -- it is feasible, where the box is part of the program's
     pub whole_feasible : IsSearchArea m b → IsFeasible m x

@@ -15,10 +15,11 @@ use Rattle.lp_duality.proofs.ScaleLaws.{dual_same, dual_scaled}
 use Rattle.lp_duality.proofs.SignLaws.{of_positive}
 use Rattle.dual_rays.specs.Meanings.{IsOfPrices}
 use Rattle.simplex_exact.specs.Answers.{IsBest}
-use Rattle.branching.specs.Relaxed.{IsBounded}
-use Rattle.branching.specs.Search.{IsSearchArea}
+use Rattle.branching.specs.Internal.Relaxed.{IsBounded}
+use Rattle.branching.specs.Internal.Search.{IsSearchArea}
 
-pub prices_bound : (m : Parts) (b : List (ℤ × ℤ)) (pivots : ℕ) (xs ys : List Fraction) (c : Cert) → IsSearchArea m b → IsBest m b pivots xs ys → IsOfPrices ys c → IsBounded m b xs c
+pub prices_bound : (m : Parts) (b : List (ℤ × ℤ)) (pivots : ℕ) (xs ys : List Fraction) (c : Cert) → IsSearchArea m b
+    → IsBest m b pivots xs ys → IsOfPrices ys c → IsBounded m b xs c
 prices_bound m b pivots xs ys c within best prices =
     let q = of c.q in
     let y = numbers_of ys in

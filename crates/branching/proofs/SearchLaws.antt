@@ -13,10 +13,10 @@ use Rattle.ip_defs.specs.declared.programs.Parts.{Parts}
 use Rattle.ip_defs.specs.Boxes.{below, above}
 use Rattle.ip_defs.specs.Program.{box_of, high_at, low_at, IsFeasible}
 use Rattle.ip_defs.proofs.BoxLaws.{below_area, above_area}
-use Rattle.proof_tree.specs.Lists.{Each}
-use Rattle.proof_tree.proofs.EachLaws.{each_join}
 use Rattle.proof_tree.proofs.WithinLaws.{limits_are_exact}
-use Rattle.proof_tree.specs.Trees.{PlainTree, plain, bound_over, depth, node_count, tree_limit}
+use Rattle.proof_tree.proofs.LabelledTreeLaws.{places_counted, relabelled_count}
+use Rattle.proof_tree.specs.LabelledTrees.{leaf, split, places_from, node_count, depth, splits_over, split_labels, no_label}
+use Rattle.proof_tree.specs.Trees.{PlainTree, plain, bound_over, tree_limit}
 use Rattle.proof_tree.specs.Verdicts.{AreProvedBy}
 use Rattle.proof_tree.specs.Within.{IsTreeWithin}
 use Rattle.proof_tree.specs.declared.claims.Claim.{Claim}
@@ -27,15 +27,16 @@ use Rattle.branching.specs.declared.budgets.BudgetWhat.TheVariants.{Nodes, Depth
 use Rattle.branching.specs.declared.outcomes.Outcome.{Outcome}
 use Rattle.branching.specs.declared.outcomes.Outcome.TheVariants.{Best, Empty, Budget}
 use Rattle.branching.specs.declared.reasons.Why.{Why}
-use Rattle.branching.specs.OpenTrees.{PlainOpen, pending, stuck, ended, parted, Place, places, places_from, IsDone, tree_of, whys_of}
+use Rattle.branching.specs.OpenTrees.{PlainOpen, pending, stuck, ended, OpenPlace, places, cert_of, IsDone, tree_of}
 use Rattle.branching.specs.Outcomes.{HasOneStuck, SomeOf, Pairwise, ClaimsPoint, IsFinished, IsRightOutcome, IsStopped, IsStuckNode, IsStuckAt}
-use Rattle.branching.specs.Search.{Found, point_of, IsSound, Improves, IsAnswerOf, IsPartOf, IsSearchArea, IsSplit, ArePlacesOf, EndsBy, IsGrown}
+use Rattle.branching.specs.Internal.Search.{Found, point_of, IsSound, Improves, IsAnswerOf, IsPartOf, IsSearchArea, IsSplit, ArePlacesOf, EndsBy, IsGrown}
 use Rattle.branching.specs.Counts.{IsCounted}
 use Rattle.branching.specs.Reasons.{IsReasoned}
-use Rattle.branching.specs.Splits.{splits_over}
 use Rattle.branching.proofs.BoxSizeLaws.{cut_low, cut_high}
 use Rattle.branching.proofs.OutcomeLaws.{some_left, some_right}
-use Rattle.branching.proofs.FinishLaws.{IsNoWorse, closed_stays, done_closed, done_count, done_depth, done_numbers, done_reasons}
+use Rattle.branching.proofs.FinishLaws.{IsNoWorse, closed_stays, done_closed, done_depth, done_numbers, done_reasons}
+use Rattle.ip_defs.proofs.ListLaws.{each_append}
+use Rattle.ip_defs.specs.Lists.{Each}
 
 -- what was found, as points
 pub no_worse : (m : Parts) (x y : Found) → IsSound m x → IsSound m y → Improves x y → IsNoWorse m (point_of x) (point_of y)
@@ -51,98 +52,130 @@ improves_on (Some x) (Some y) (Some z) p q = omega (arith, ints)
 
 -- ---- the nodes of two halves
 
-pub halves_places : (m : Parts) (l : Limits) (d : ℕ) (b : List (ℤ × ℤ)) (col : ℕ) (cut : ℤ) (why : Why) (left right : PlainOpen) (before mid after : ℕ) (x y : Found) → d ≤ l.depth → IsSplit m l.pivots b col cut why → ArePlacesOf m l (places_from (suc d) (below b col cut) left) (before + 2) mid x → ArePlacesOf m l (places_from (suc d) (above b col cut) right) mid after y → IsNoWorse m (point_of x) (point_of y) → ArePlacesOf m l (places_from d b (parted col cut why left right)) before after y
+pub halves_places : (m : Parts) (l : Limits) (d : ℕ) (b : List (ℤ × ℤ)) (col : ℕ) (cut : ℤ) (why : Why) (left right : PlainOpen)
+    (before mid after : ℕ) (x y : Found) → d ≤ l.depth → IsSplit m l.pivots b col cut why
+    → ArePlacesOf m l (places_from (d + 1) (below b col cut) left) (before + 2) mid x
+    → ArePlacesOf m l (places_from (d + 1) (above b col cut) right) mid after y → IsNoWorse m (point_of x) (point_of y)
+    → ArePlacesOf m l (places_from d b (split col cut why left right)) before after y
 halves_places m l d b col cut why left right before mid after x y deep halved first second better =
-    let ps = places_from (suc d) (below b col cut) left in
-    let qs = places_from (suc d) (above b col cut) right in
+    let ps = places_from (d + 1) (below b col cut) left in
+    let qs = places_from (d + 1) (above b col cut) right in
     let sum = length-append ps qs in
     record {
-      reasons = (halved.reasoned, each_join _ ps qs first.reasons second.reasons);
-      deep = (deep, each_join _ ps qs first.deep second.deep);
-      closed = (tt, each_join _ ps qs (closed_stays m (point_of x) (point_of y) ps better first.closed) second.closed);
-      small = ((halved.col_small, halved.cut_small), each_join _ ps qs first.small second.small);
+      reasons = (halved.reasoned, each_append _ ps qs first.reasons second.reasons);
+      deep = (deep, each_append _ ps qs first.deep second.deep);
+      closed = (tt, each_append _ ps qs (closed_stays m (point_of x) (point_of y) ps better first.closed) second.closed);
+      small = ((halved.col_small, halved.cut_small), each_append _ ps qs first.small second.small);
       count = (let p = first.count in let q = second.count in omega arith);
       room = second.room;
     }
 
 -- a half that was left pending
-pub pending_places : (m : Parts) (l : Limits) (d : ℕ) (b : List (ℤ × ℤ)) (count : ℕ) (x : Found) → d ≤ l.depth → count ≤ l.nodes → ArePlacesOf m l (places_from d b pending) count count x
-pending_places m l d b count x deep room' = record { reasons = (tt, tt); deep = (deep, tt); closed = (tt, tt); small = (tt, tt); count = omega arith; room = room' }
+pub pending_places : (m : Parts) (l : Limits) (d : ℕ) (b : List (ℤ × ℤ)) (count : ℕ) (x : Found) → d ≤ l.depth → count ≤ l.nodes
+    → ArePlacesOf m l (places_from d b (leaf pending)) count count x
+pending_places m l d b count x deep room' =
+    record { reasons = (tt, tt); deep = (deep, tt); closed = (tt, tt); small = (tt, tt); count = omega arith; room = room' }
 
 -- ---- how two halves end
 
 -- a subtree without open nodes has no stuck node
 none_stuck : (D d : ℕ) (b : List (ℤ × ℤ)) (t : PlainOpen) → IsDone t → Each (λ p. IsStuckAt D p → ⊥) (places_from d b t)
-none_stuck D d b pending done = absurd done
-none_stuck D d b (stuck why) done = absurd done
-none_stuck D d b (ended c) done = ((λ s. absurd s.0), tt)
-none_stuck D d b (parted col cut why left right) done = ((λ s. absurd s.0), each_join _ (places_from (suc d) (below b col cut) left) (places_from (suc d) (above b col cut) right) (none_stuck D (suc d) (below b col cut) left done.0) (none_stuck D (suc d) (above b col cut) right done.1))
+none_stuck D d b (leaf pending) done = absurd done
+none_stuck D d b (leaf (stuck why)) done = absurd done
+none_stuck D d b (leaf (ended c)) done = ((λ s. absurd s.0), tt)
+none_stuck D d b (split col cut why left right) done = (
+  (λ s. absurd s.0),
+  each_append _ (places_from (d + 1) (below b col cut) left) (places_from (d + 1) (above b col cut) right)
+      (none_stuck D (d + 1) (below b col cut) left done.0) (none_stuck D (d + 1) (above b col cut) right done.1),
+)
 
 -- after a first half without open nodes the second half decides
-pub halves_end : (l : Limits) (d : ℕ) (b : List (ℤ × ℤ)) (col : ℕ) (cut : ℤ) (why : Why) (left right : PlainOpen) (after : ℕ) (stop : Option BudgetWhat) → IsDone left → EndsBy l after right (places_from (suc d) (above b col cut) right) stop → EndsBy l after (parted col cut why left right) (places_from d b (parted col cut why left right)) stop
+pub halves_end : (l : Limits) (d : ℕ) (b : List (ℤ × ℤ)) (col : ℕ) (cut : ℤ) (why : Why) (left right : PlainOpen) (after : ℕ)
+    (stop : Option BudgetWhat) → IsDone left → EndsBy l after right (places_from (d + 1) (above b col cut) right) stop
+    → EndsBy l after (split col cut why left right) (places_from d b (split col cut why left right)) stop
 halves_end l d b col cut why left right after None done e = (done, e)
-halves_end l d b col cut why left right after (Some Depth) done e = inr (some_right _ (places_from (suc d) (below b col cut) left) (places_from (suc d) (above b col cut) right) e)
+halves_end l d b col cut why left right after (Some Depth) done e =
+    inr (some_right _ (places_from (d + 1) (below b col cut) left) (places_from (d + 1) (above b col cut) right) e)
 halves_end l d b col cut why left right after (Some Nodes) done e = (
-  inr (some_right _ (places_from (suc d) (below b col cut) left) (places_from (suc d) (above b col cut) right) e.0),
-  ((λ s. absurd s.0), each_join _ (places_from (suc d) (below b col cut) left) (places_from (suc d) (above b col cut) right) (none_stuck l.depth (suc d) (below b col cut) left done) e.1),
+  inr (some_right _ (places_from (d + 1) (below b col cut) left) (places_from (d + 1) (above b col cut) right) e.0),
+  (
+    (λ s. absurd s.0),
+    each_append _ (places_from (d + 1) (below b col cut) left) (places_from (d + 1) (above b col cut) right)
+        (none_stuck l.depth (d + 1) (below b col cut) left done) e.1,
+  ),
   e.2,
 )
 
 -- a search that stopped in the first half leaves the second one pending
-pub first_half_ends : (l : Limits) (d : ℕ) (b : List (ℤ × ℤ)) (col : ℕ) (cut : ℤ) (why : Why) (left : PlainOpen) (after : ℕ) (what : BudgetWhat) → EndsBy l after left (places_from (suc d) (below b col cut) left) (Some what) → EndsBy l after (parted col cut why left pending) (places_from d b (parted col cut why left pending)) (Some what)
-first_half_ends l d b col cut why left after Depth e = inr (some_left _ (places_from (suc d) (below b col cut) left) (places_from (suc d) (above b col cut) pending) e)
+pub first_half_ends : (l : Limits) (d : ℕ) (b : List (ℤ × ℤ)) (col : ℕ) (cut : ℤ) (why : Why) (left : PlainOpen) (after : ℕ)
+    (what : BudgetWhat) → EndsBy l after left (places_from (d + 1) (below b col cut) left) (Some what)
+    → EndsBy l after (split col cut why left (leaf pending)) (places_from d b (split col cut why left (leaf pending))) (Some what)
+first_half_ends l d b col cut why left after Depth e =
+    inr (some_left _ (places_from (d + 1) (below b col cut) left) (places_from (d + 1) (above b col cut) (leaf pending)) e)
 first_half_ends l d b col cut why left after Nodes e = (
-  inr (some_left _ (places_from (suc d) (below b col cut) left) (places_from (suc d) (above b col cut) pending) e.0),
-  ((λ s. absurd s.0), each_join _ (places_from (suc d) (below b col cut) left) (places_from (suc d) (above b col cut) pending) e.1 ((λ s. absurd s.0), tt)),
+  inr (some_left _ (places_from (d + 1) (below b col cut) left) (places_from (d + 1) (above b col cut) (leaf pending)) e.0),
+  (
+    (λ s. absurd s.0),
+    each_append _ (places_from (d + 1) (below b col cut) left) (places_from (d + 1) (above b col cut) (leaf pending)) e.1
+        ((λ s. absurd s.0), tt),
+  ),
   e.2,
 )
 
 -- ---- the box of a half
 
 -- a box with a narrower side for one column
-part_cut : (b whole_box : List (ℤ × ℤ)) (j : ℕ) (lo hi : ℤ) → j < length b → low_at b j ≤ℤ lo → hi ≤ℤ high_at b j → IsPartOf b whole_box → IsPartOf (set b j (lo, hi)) whole_box
+part_cut : (b whole_box : List (ℤ × ℤ)) (j : ℕ) (lo hi : ℤ) → j < length b → low_at b j ≤ℤ lo → hi ≤ℤ high_at b j → IsPartOf b whole_box
+    → IsPartOf (set b j (lo, hi)) whole_box
 part_cut b whole_box j lo hi within from to' part = λ k l. by k (k == j) refl (omega (arith, length-set b j (lo, hi)))
   where
-    by : (k : ℕ) (t : Bool) → (k == j) ≡ t → k < length b → (low_at whole_box k ≤ℤ low_at (set b j (lo, hi)) k) × (high_at (set b j (lo, hi)) k ≤ℤ high_at whole_box k)
+    by : (k : ℕ) (t : Bool) → (k == j) ≡ t → k < length b → (low_at whole_box k ≤ℤ low_at (set b j (lo, hi)) k)
+        × (high_at (set b j (lo, hi)) k ≤ℤ high_at whole_box k)
     by k true e l =
         let same = eqb-true k j e in
         let is = get_or-set_at b j k (lo, hi) (pos 0, pos 0) same within in
         let old = part k l in
-        rw (ap (λ (s : ℤ × ℤ). s.0) is, ap (λ (s : ℤ × ℤ). s.1) is, same) (let before = part j within in (omega (arith, ints), omega (arith, ints)))
+        rw (ap (λ (s : ℤ × ℤ). s.0) is, ap (λ (s : ℤ × ℤ). s.1) is, same)
+        (let before = part j within in (omega (arith, ints), omega (arith, ints)))
     by k false e l =
         let is = get_or-set_other b j k (lo, hi) (pos 0, pos 0) (eqb-false k j e) in
         rw (ap (λ (s : ℤ × ℤ). s.0) is, ap (λ (s : ℤ × ℤ). s.1) is) (part k l)
 
-pub below_search : (m : Parts) (pivots : ℕ) (b : List (ℤ × ℤ)) (j : ℕ) (z : ℤ) (why : Why) → IsSplit m pivots b j z why → IsSearchArea m b → IsSearchArea m (below b j z)
+pub below_search : (m : Parts) (pivots : ℕ) (b : List (ℤ × ℤ)) (j : ℕ) (z : ℤ) (why : Why) → IsSplit m pivots b j z why → IsSearchArea m b
+    → IsSearchArea m (below b j z)
 below_search m pivots b j z why halved so =
     let proper = halved.reasoned.0 in
     let from = cut_low b j z proper in
     let to' = cut_high b j z proper in
     record {
       area = below_area (length m.columns) b j z proper.col from to' so.area;
-      part = part_cut b (box_of m) j (low_at b j) (int_min (high_at b j) z) proper.col (omega (arith, ints)) (omega (arith, ints, clamps)) so.part;
+      part = part_cut b (box_of m) j (low_at b j) (int_min (high_at b j) z) proper.col (omega (arith, ints)) (omega (arith, ints, clamps))
+          so.part;
     }
 
-pub above_search : (m : Parts) (pivots : ℕ) (b : List (ℤ × ℤ)) (j : ℕ) (z : ℤ) (why : Why) → IsSplit m pivots b j z why → IsSearchArea m b → IsSearchArea m (above b j z)
+pub above_search : (m : Parts) (pivots : ℕ) (b : List (ℤ × ℤ)) (j : ℕ) (z : ℤ) (why : Why) → IsSplit m pivots b j z why → IsSearchArea m b
+    → IsSearchArea m (above b j z)
 above_search m pivots b j z why halved so =
     let proper = halved.reasoned.0 in
     let from = cut_low b j z proper in
     let to' = cut_high b j z proper in
     record {
       area = above_area (length m.columns) b j z proper.col from to' so.area;
-      part = part_cut b (box_of m) j (int_max (low_at b j) (z +ℤ pos 1)) (high_at b j) proper.col (omega (arith, ints, clamps)) (omega (arith, ints)) so.part;
+      part = part_cut b (box_of m) j (int_max (low_at b j) (z +ℤ pos 1)) (high_at b j) proper.col (omega (arith, ints, clamps))
+          (omega (arith, ints)) so.part;
     }
 
 -- ---- subtrees
 
 -- both halves were grown
-pub halves_grown : (m : Parts) (l : Limits) (d : ℕ) (b : List (ℤ × ℤ)) (col : ℕ) (cut : ℤ) (why : Why) (before mid after : ℕ) (x y z : Found) (left right : PlainOpen) (stop : Option BudgetWhat) → d ≤ l.depth → IsSplit m l.pivots b col cut why → IsGrown m l (d + 1) (below b col cut) (before + 2) mid x y left None → IsGrown m l (d + 1) (above b col cut) mid after y z right stop → IsGrown m l d b before after x z (parted col cut why left right) stop
-halves_grown m l d b col cut why before mid after x y z left right stop deep halved first' second' =
-    let one : d + 1 ≡ suc d = omega arith in
-    let first : IsGrown m l (suc d) (below b col cut) (before + 2) mid x y left None = subst (λ (k : ℕ). IsGrown m l k (below b col cut) (before + 2) mid x y left None) one first' in
-    let second : IsGrown m l (suc d) (above b col cut) mid after y z right stop = subst (λ (k : ℕ). IsGrown m l k (above b col cut) mid after y z right stop) one second' in
+pub halves_grown : (m : Parts) (l : Limits) (d : ℕ) (b : List (ℤ × ℤ)) (col : ℕ) (cut : ℤ) (why : Why) (before mid after : ℕ)
+    (x y z : Found) (left right : PlainOpen) (stop : Option BudgetWhat) → d ≤ l.depth → IsSplit m l.pivots b col cut why
+    → IsGrown m l (d + 1) (below b col cut) (before + 2) mid x y left None → IsGrown m l (d + 1) (above b col cut) mid after y z right stop
+    → IsGrown m l d b before after x z (split col cut why left right) stop
+halves_grown m l d b col cut why before mid after x y z left right stop deep halved first second =
     record {
-      places = halves_places m l d b col cut why left right before mid after y z deep halved first.places second.places (no_worse m y z first.sound second.sound second.improves);
+      places = halves_places m l d b col cut why left right before mid after y z deep halved first.places second.places
+          (no_worse m y z first.sound second.sound second.improves);
       ends = halves_end l d b col cut why left right after stop first.ends second.ends;
       stuck = (let p = first.stuck in let q = second.stuck in omega arith);
       sound = second.sound;
@@ -158,17 +191,21 @@ no_stop None e = refl
 no_stop (Some what) e = absurd cc
 
 -- what was found before is no better
-pub grown_from : (m : Parts) (l : Limits) (d : ℕ) (b : List (ℤ × ℤ)) (before after : ℕ) (e x y : Found) (t : PlainOpen) (stop : Option BudgetWhat) → Improves e x → IsGrown m l d b before after x y t stop → IsGrown m l d b before after e y t stop
-grown_from m l d b before after e x y t stop better g = record { places = g.places; ends = g.ends; stuck = g.stuck; sound = g.sound; improves = improves_on e x y better g.improves }
+pub grown_from : (m : Parts) (l : Limits) (d : ℕ) (b : List (ℤ × ℤ)) (before after : ℕ) (e x y : Found) (t : PlainOpen)
+    (stop : Option BudgetWhat) → Improves e x → IsGrown m l d b before after x y t stop → IsGrown m l d b before after e y t stop
+grown_from m l d b before after e x y t stop better g =
+    record { places = g.places; ends = g.ends; stuck = g.stuck; sound = g.sound; improves = improves_on e x y better g.improves }
 
 -- the search stopped in the first half
-pub first_grown : (m : Parts) (l : Limits) (d : ℕ) (b : List (ℤ × ℤ)) (col : ℕ) (cut : ℤ) (why : Why) (before after : ℕ) (x y : Found) (left : PlainOpen) (stop : Option BudgetWhat) → d < l.depth → IsSome stop → IsSplit m l.pivots b col cut why → IsGrown m l (d + 1) (below b col cut) (before + 2) after x y left stop → IsGrown m l d b before after x y (parted col cut why left pending) stop
-first_grown m l d b col cut why before after x y left None deep some halved first' = absurd cc
-first_grown m l d b col cut why before after x y left (Some what) deep some halved first' =
-    let one : d + 1 ≡ suc d = omega arith in
-    let first : IsGrown m l (suc d) (below b col cut) (before + 2) after x y left (Some what) = subst (λ (k : ℕ). IsGrown m l k (below b col cut) (before + 2) after x y left (Some what)) one first' in
+pub first_grown : (m : Parts) (l : Limits) (d : ℕ) (b : List (ℤ × ℤ)) (col : ℕ) (cut : ℤ) (why : Why) (before after : ℕ) (x y : Found)
+    (left : PlainOpen) (stop : Option BudgetWhat) → d < l.depth → IsSome stop → IsSplit m l.pivots b col cut why
+    → IsGrown m l (d + 1) (below b col cut) (before + 2) after x y left stop
+    → IsGrown m l d b before after x y (split col cut why left (leaf pending)) stop
+first_grown m l d b col cut why before after x y left None deep some halved first = absurd cc
+first_grown m l d b col cut why before after x y left (Some what) deep some halved first =
     record {
-      places = halves_places m l d b col cut why left pending before after after y y (omega arith) halved first.places (pending_places m l (suc d) (above b col cut) after y (omega arith) first.places.room) (no_worse_self m (point_of y));
+      places = halves_places m l d b col cut why left (leaf pending) before after after y y (omega arith) halved first.places
+          (pending_places m l (d + 1) (above b col cut) after y (omega arith) first.places.room) (no_worse_self m (point_of y));
       ends = first_half_ends l d b col cut why left after what first.ends;
       stuck = (let p = first.stuck in omega arith);
       sound = first.sound;
@@ -177,7 +214,7 @@ first_grown m l d b col cut why before after x y left (Some what) deep some halv
 
 -- ---- the whole search
 
-some_stuck : (D : ℕ) (ps : List Place) → SomeOf (IsStuckAt D) ps → SomeOf (λ p. IsStuckNode p.node) ps
+some_stuck : (D : ℕ) (ps : List OpenPlace) → SomeOf (IsStuckAt D) ps → SomeOf (λ p. IsStuckNode p.node) ps
 some_stuck D [] h = absurd h
 some_stuck D (p ∷ ps) (inl h) = inl h.0
 some_stuck D (p ∷ ps) (inr h) = inr (some_stuck D ps h)
@@ -187,7 +224,8 @@ sound_point m None h = tt
 sound_point m (Some p) h = h.0
 
 -- a search of the box that stopped
-pub stop_is_right : (m : Parts) (l : Limits) (t : PlainOpen) (after : ℕ) (x : Found) (what : BudgetWhat) → IsGrown m l 0 (box_of m) 1 after None x t (Some what) → IsStopped m l what (places m t) (point_of x)
+pub stop_is_right : (m : Parts) (l : Limits) (t : PlainOpen) (after : ℕ) (x : Found) (what : BudgetWhat)
+    → IsGrown m l 0 (box_of m) 1 after None x t (Some what) → IsStopped m l what (places m t) (point_of x)
 stop_is_right m l t after x Depth g = record {
   reasons = g.places.reasons;
   stuck = some_stuck l.depth (places_from 0 (box_of m) t) g.ends;
@@ -208,29 +246,42 @@ stop_is_right m l t after x Nodes g = record {
 }
 
 -- a search of the box that ended, as a proof
-end_is_finished : (m : Parts) (l : Limits) (t : PlainOpen) (after : ℕ) (x : Found) (p : Proof) (whys : List Why) → l.nodes ≤ 1000000 → l.depth ≤ 800 → IsGrown m l 0 (box_of m) 1 after None x t None → plain p.tree ≡ tree_of t → whys ≡ whys_of t → AreProvedBy m p.claim (bound_over m (tree_of t) (box_of m)) → IsFinished m l p whys
+end_is_finished : (m : Parts) (l : Limits) (t : PlainOpen) (after : ℕ) (x : Found) (p : Proof) (whys : List Why) → l.nodes ≤ 1000000
+    → l.depth ≤ 800 → IsGrown m l 0 (box_of m) 1 after None x t None → plain p.tree ≡ tree_of t → whys ≡ split_labels t
+    → AreProvedBy m p.claim (bound_over m (tree_of t) (box_of m)) → IsFinished m l p whys
 end_is_finished m l t after x p whys few shallow g tree_is whys_is proved' =
-    let count = done_count 0 0 (box_of m) t in
+    let listed = places_counted 0 (box_of m) t in
+    let same = relabelled_count cert_of no_label t in
     let room : node_count (tree_of t) ≤ l.nodes = (let c = g.places.count in let r = g.places.room in omega arith) in
     let deep' : depth (tree_of t) ≤ l.depth = (let d = done_depth l.depth 0 (box_of m) t g.places.deep in omega arith) in
-    let within : IsTreeWithin (tree_of t) = record { count = omega arith; deep = omega arith; numbers = done_numbers 0 (box_of m) t g.ends g.places.small } in
+    let within : IsTreeWithin (tree_of t) =
+    record { count = omega arith; deep = omega arith; numbers = done_numbers 0 (box_of m) t g.ends g.places.small } in
     let back = sym tree_is in
     record {
       proved = subst (λ (s : PlainTree). AreProvedBy m p.claim (bound_over m s (box_of m))) back proved';
       nodes = subst (λ (s : PlainTree). node_count s ≤ l.nodes) back room;
       deep = subst (λ (s : PlainTree). depth s ≤ l.depth) back deep';
       limits = subst (λ (s : PlainTree). tree_limit s ≡ None) back ((limits_are_exact (tree_of t)).1 within);
-      reasons = subst (λ (s : PlainTree). Pairwise (IsReasoned m l.pivots) (splits_over (box_of m) s) whys) back (subst (Pairwise (IsReasoned m l.pivots) (splits_over (box_of m) (tree_of t))) (sym whys_is) (done_reasons m l.pivots 0 (box_of m) t g.ends g.places.reasons));
+      reasons = subst (λ (s : PlainTree). Pairwise (IsReasoned m l.pivots) (splits_over (box_of m) s) whys) back
+          (subst (Pairwise (IsReasoned m l.pivots) (splits_over (box_of m) (tree_of t))) (sym whys_is)
+          (done_reasons m l.pivots 0 (box_of m) t g.ends g.places.reasons));
     }
 
-pub end_is_right : (m : Parts) (l : Limits) (t : PlainOpen) (after : ℕ) (x : Found) (o : Outcome) → l.nodes ≤ 1000000 → l.depth ≤ 800 → IsGrown m l 0 (box_of m) 1 after None x t None → IsAnswerOf t (point_of x) o → IsRightOutcome m l o
+pub end_is_right : (m : Parts) (l : Limits) (t : PlainOpen) (after : ℕ) (x : Found) (o : Outcome) → l.nodes ≤ 1000000 → l.depth ≤ 800
+    → IsGrown m l 0 (box_of m) 1 after None x t None → IsAnswerOf t (point_of x) o → IsRightOutcome m l o
 end_is_right m l t after None (Empty p whys) few shallow g made =
-    let closed = done_closed m None 0 (box_of m) t g.ends g.places.closed in
-    (made.claim_is, end_is_finished m l t after None p whys few shallow g made.tree_is made.reasons_are (subst (λ (c : Claim). AreProvedBy m c (bound_over m (tree_of t) (box_of m))) (sym made.claim_is) closed))
+    let closed = done_closed m None 0 (box_of m) t g.ends g.places.closed in (
+      made.claim_is,
+      end_is_finished m l t after None p whys few shallow g made.tree_is made.reasons_are
+          (subst (λ (c : Claim). AreProvedBy m c (bound_over m (tree_of t) (box_of m))) (sym made.claim_is) closed),
+    )
 end_is_right m l t after (Some y) (Best p whys) few shallow g made =
     let closed = done_closed m (Some y.0) 0 (box_of m) t g.ends g.places.closed in
-    let claims : ClaimsPoint p.claim = subst ClaimsPoint (sym made.claim_is) tt in
-    (claims, end_is_finished m l t after (Some y) p whys few shallow g made.tree_is made.reasons_are (subst (λ (c : Claim). AreProvedBy m c (bound_over m (tree_of t) (box_of m))) (sym made.claim_is) (g.sound.0, closed)))
+    let claims : ClaimsPoint p.claim = subst ClaimsPoint (sym made.claim_is) tt in (
+      claims,
+      end_is_finished m l t after (Some y) p whys few shallow g made.tree_is made.reasons_are
+          (subst (λ (c : Claim). AreProvedBy m c (bound_over m (tree_of t) (box_of m))) (sym made.claim_is) (g.sound.0, closed)),
+    )
 end_is_right m l t after None (Best p whys) few shallow g made = absurd made
 end_is_right m l t after None (Budget what grown best) few shallow g made = absurd made
 end_is_right m l t after (Some y) (Empty p whys) few shallow g made = absurd made
@@ -246,16 +297,22 @@ answer_has_none t (Some x) (Budget what grown b) made = absurd made
 -- ---- steps
 
 -- both halves were grown: the steps of the node and of its halves
-pub halves_counted : (l : Limits) (t left right nodes other before mid far after : ℕ) → before + t * l.pivots ≤ mid → mid ≤ before + l.pivots → IsCounted l left nodes mid far → IsCounted l right other far after → IsCounted l (t + (left + right)) (suc (nodes + other)) before after
+pub halves_counted : (l : Limits) (t left right nodes other before mid far after : ℕ) → before + t * l.pivots ≤ mid
+    → mid ≤ before + l.pivots → IsCounted l left nodes mid far → IsCounted l right other far after
+    → IsCounted l (t + (left + right)) (suc (nodes + other)) before after
 halves_counted l t left right nodes other before mid far after least most first second =
     let p = first.least in
     let q = second.least in
     let r = first.most in
     let s = second.most in
-    record { least = omega (arith, add-mul t (left + right) l.pivots, add-mul left right l.pivots); most = omega (arith, add-mul nodes other l.pivots) }
+    record {
+      least = omega (arith, add-mul t (left + right) l.pivots, add-mul left right l.pivots);
+      most = omega (arith, add-mul nodes other l.pivots);
+    }
 
 -- the search stopped in the first half, and visited nothing of the second
-pub first_half_counted : (l : Limits) (t left nodes before mid after : ℕ) → before + t * l.pivots ≤ mid → mid ≤ before + l.pivots → IsCounted l left nodes mid after → IsCounted l (t + (left + 0)) (suc (nodes + 1)) before after
+pub first_half_counted : (l : Limits) (t left nodes before mid after : ℕ) → before + t * l.pivots ≤ mid → mid ≤ before + l.pivots
+    → IsCounted l left nodes mid after → IsCounted l (t + (left + 0)) (suc (nodes + 1)) before after
 first_half_counted l t left nodes before mid after least most first =
     let p = first.least in
     let r = first.most in

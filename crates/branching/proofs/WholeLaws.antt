@@ -14,7 +14,7 @@ use Rattle.frac128.proofs.GcdLaws.{gcd-is}
 use Rattle.frac128.proofs.Order.{at_most_antisym, at_most_cross, at_most_trans, cross_at_most}
 use Rattle.lp_duality.specs.Relaxations.{numbers_of}
 use Rattle.lp_duality.proofs.SignLaws.{of_at_most}
-use Rattle.branching.specs.Relaxed.{IsSmallNumber, IsWholeNumber}
+use Rattle.branching.specs.Internal.Relaxed.{IsSmallNumber, IsWholeNumber}
 
 -- ---- the parts of whole numbers and of fractions
 whole_parts : (z : ℤ) → ((of z).top ≡ z) × (bottom (of z) ≡ pos 1)
@@ -33,7 +33,8 @@ top_times z d = ap (λ w. w *ℤ d) (whole_parts z).0
 
 -- a number of a list by its place
 pub number_read : (xs : List Fraction) (i : ℕ) (x : Fraction) → i < length xs → x ≡ get_or xs i x → numbers_of xs i ≡ value_of x
-number_read xs i x l e = ap value_of (get_or_from_slice_get xs i x (record { num = pos 0; den = pos 1 }) (slice_get_read xs (length xs) i x refl l e))
+number_read xs i x l e = ap value_of
+    (get_or_from_slice_get xs i x (record { num = pos 0; den = pos 1 }) (slice_get_read xs (length xs) i x refl l e))
 
 -- ---- the order of whole numbers
 pub of_injective : (a b : ℤ) → of a ≡ of b → a ≡ b
@@ -57,7 +58,8 @@ whole_den : (x : Fraction) → IsFraction x.num x.den → IsWholeNumber (value_o
 whole_den x f whole = sym (value_parts x f).1 ∙ ap bottom whole.1 ∙ (whole_parts whole.0).1
 
 -- so a test of the denominator tells
-pub whole_test : (x : Fraction) (d : ℕ) → IsFraction x.num x.den → pos d ≡ x.den → MatchBool (d == 1) (IsWholeNumber (value_of x)) (IsWholeNumber (value_of x) → ⊥)
+pub whole_test : (x : Fraction) (d : ℕ) → IsFraction x.num x.den → pos d ≡ x.den
+    → MatchBool (d == 1) (IsWholeNumber (value_of x)) (IsWholeNumber (value_of x) → ⊥)
 whole_test x d f is = by (d == 1) refl
   where
     by : (t : Bool) → (d == 1) ≡ t → MatchBool t (IsWholeNumber (value_of x)) (IsWholeNumber (value_of x) → ⊥)
@@ -79,7 +81,8 @@ floor_greatest : (x : Fraction) (z : ℤ) → IsFraction x.num x.den → x.num <
 floor_greatest x z f less =
     let next = z +ℤ pos 1 in
     let left : (value_of x).top *ℤ bottom (of next) ≡ x.num = times_bottom (value_of x).top next ∙ (value_parts x f).0 in
-    let right : (of next).top *ℤ bottom (value_of x) ≡ next *ℤ x.den = ap (λ w. (of next).top *ℤ w) (value_parts x f).1 ∙ top_times next x.den in
+    let right : (of next).top *ℤ bottom (value_of x) ≡ next *ℤ x.den = ap (λ w. (of next).top *ℤ w) (value_parts x f).1
+    ∙ top_times next x.den in
     cross_at_most (value_of x) (of next) (omega (arith, ints))
 
 -- ---- a number between two whole ones that is not whole
@@ -114,7 +117,8 @@ module _ (p : Rational) (z : ℤ) (least : AtMost (of z) p) (most : AtMost p (of
 
 -- ---- small numbers
 -- a number between two small whole ones is small
-pub small_between : (p : Rational) (low high : ℤ) → unsigned_abs low ≤ 2 ^ 24 → unsigned_abs high ≤ 2 ^ 24 → AtMost (of low) p → AtMost p (of high) → IsSmallNumber p
+pub small_between : (p : Rational) (low high : ℤ) → unsigned_abs low ≤ 2 ^ 24 → unsigned_abs high ≤ 2 ^ 24 → AtMost (of low) p
+    → AtMost p (of high) → IsSmallNumber p
 small_between p low high l h from to' = record {
   low = at_most_trans (of (negsuc 16777215)) (of low) p (of_at_most (negsuc 16777215) low (omega (arith, ints))) from;
   high = at_most_trans p (of high) (of (pos 16777216)) to' (of_at_most high (pos 16777216) (omega (arith, ints)));
@@ -128,7 +132,8 @@ small_whole z small =
     omega (arith, ints)
 
 -- and so is the floor of a small number that is not whole
-pub small_floor : (p : Rational) (z : ℤ) → AtMost (of z) p → AtMost p (of (z +ℤ pos 1)) → (IsWholeNumber p → ⊥) → IsSmallNumber p → unsigned_abs z ≤ 2 ^ 24
+pub small_floor : (p : Rational) (z : ℤ) → AtMost (of z) p → AtMost p (of (z +ℤ pos 1)) → (IsWholeNumber p → ⊥) → IsSmallNumber p
+    → unsigned_abs z ≤ 2 ^ 24
 small_floor p z least most broken small =
     let low = floor_from p z least most broken (negsuc 16777215) small.low in
     let high = floor_to p z least most broken (pos 16777216) small.high in
@@ -140,7 +145,8 @@ pub record IsFloor (p : Rational) (z : ℤ) : Type 0 where
   pub most : AtMost p (of (z +ℤ pos 1))
   pub small : unsigned_abs z ≤ 2 ^ 24
 
-pub floor_is : (x : Fraction) (z : ℤ) → IsFraction x.num x.den → (z *ℤ x.den) ≤ℤ x.num → x.num <ℤ ((z +ℤ pos 1) *ℤ x.den) → (IsWholeNumber (value_of x) → ⊥) → IsSmallNumber (value_of x) → IsFloor (value_of x) z
+pub floor_is : (x : Fraction) (z : ℤ) → IsFraction x.num x.den → (z *ℤ x.den) ≤ℤ x.num → x.num <ℤ ((z +ℤ pos 1) *ℤ x.den)
+    → (IsWholeNumber (value_of x) → ⊥) → IsSmallNumber (value_of x) → IsFloor (value_of x) z
 floor_is x z f le less broken small =
     let least = floor_at_most x z f le in
     let most = floor_greatest x z f less in
@@ -152,13 +158,15 @@ abbrev pub IsBrokenAt : List Fraction → ℕ → Option ℕ → Type 0
 IsBrokenAt xs i None = (j : ℕ) → j < i → IsWholeNumber (numbers_of xs j)
 IsBrokenAt xs i (Some k) = (k < length xs) × (IsWholeNumber (numbers_of xs k) → ⊥)
 
-pub broken_here : (xs : List Fraction) (i : ℕ) (p : Rational) → i < length xs → numbers_of xs i ≡ p → (IsWholeNumber p → ⊥) → IsBrokenAt xs (i + 1) (Some i)
+pub broken_here : (xs : List Fraction) (i : ℕ) (p : Rational) → i < length xs → numbers_of xs i ≡ p → (IsWholeNumber p → ⊥)
+    → IsBrokenAt xs (i + 1) (Some i)
 broken_here xs i p l is broken = (l, λ whole. broken (subst IsWholeNumber is whole))
 
 pub broken_before : (xs : List Fraction) (i : ℕ) (k : Option ℕ) → IsBrokenAt xs i k → is_some k ≡ true → IsBrokenAt xs (i + 1) k
 broken_before xs i None h some = absurd cc
 broken_before xs i (Some k) h some = h
 
-pub whole_more : (xs : List Fraction) (i : ℕ) (p : Rational) (k : Option ℕ) → IsBrokenAt xs i k → numbers_of xs i ≡ p → IsWholeNumber p → IsBrokenAt xs (i + 1) k
+pub whole_more : (xs : List Fraction) (i : ℕ) (p : Rational) (k : Option ℕ) → IsBrokenAt xs i k → numbers_of xs i ≡ p → IsWholeNumber p
+    → IsBrokenAt xs (i + 1) k
 whole_more xs i p None h is whole = below_more _ _ h (subst IsWholeNumber (sym is) whole)
 whole_more xs i p (Some k) h is whole = h

@@ -1,13 +1,14 @@
 -- How many nodes the tree of an outcome has, and how many of its splits were made without the answer of a linear program.
-use Rattle.std.specs.Prelude.{ℕ, suc, ◌+◌, ◌*◌, ◌≤◌, if◌then◌else◌, Bool, true, false}
+use Rattle.std.specs.Prelude.{ℕ, ◌+◌, ◌*◌, ◌≤◌, if◌then◌else◌, Bool, true, false}
 use Rattle.std.specs.List.{count_by}
-use Rattle.proof_tree.specs.Trees.{plain, node_count}
+use Rattle.proof_tree.specs.LabelledTrees.{leaf, split, node_count, split_labels}
+use Rattle.proof_tree.specs.Trees.{plain}
 use Rattle.branching.specs.declared.budgets.Limits.{Limits}
 use Rattle.branching.specs.declared.outcomes.Outcome.{Outcome}
 use Rattle.branching.specs.declared.outcomes.Outcome.TheVariants.{Best, Empty, Budget}
 use Rattle.branching.specs.declared.reasons.Why.{Why}
 use Rattle.branching.specs.declared.reasons.Why.TheVariants.{Fractional, Stopped, Wide}
-use Rattle.branching.specs.OpenTrees.{PlainOpen, pending, stuck, ended, parted, plain_open, whys_of}
+use Rattle.branching.specs.OpenTrees.{PlainOpen, stuck, plain_open}
 
 -- a split for this reason went without the answer of a linear program
 abbrev pub is_skipped : Why → Bool
@@ -21,24 +22,17 @@ is_stopped (Fractional x c) = false
 is_stopped Stopped = true
 is_stopped Wide = false
 
--- how many nodes a tree has that is still being grown
-abbrev pub open_count : PlainOpen → ℕ
-open_count pending = 1
-open_count (stuck why) = 1
-open_count (ended c) = 1
-open_count (parted col cut why left right) = suc (open_count left + open_count right)
-
 -- how many nodes the tree of an outcome has
 abbrev pub nodes_of : Outcome → ℕ
 nodes_of (Best p whys) = node_count (plain p.tree)
 nodes_of (Empty p whys) = node_count (plain p.tree)
-nodes_of (Budget what grown best) = open_count (plain_open grown)
+nodes_of (Budget what grown best) = node_count (plain_open grown)
 
 -- how many of its splits were skipped; a stuck node is no split
 abbrev pub skipped_of : Outcome → ℕ
 skipped_of (Best p whys) = count_by is_skipped whys
 skipped_of (Empty p whys) = count_by is_skipped whys
-skipped_of (Budget what grown best) = count_by is_skipped (whys_of (plain_open grown))
+skipped_of (Budget what grown best) = count_by is_skipped (split_labels (plain_open grown))
 
 -- neither is more than the limit of nodes
 pub record AreCountsWithin (l : Limits) (o : Outcome) : Type 0 where
@@ -50,10 +44,9 @@ abbrev pub stops : Why → ℕ
 stops why = if is_stopped why then 1 else 0
 
 abbrev pub stopped_in : PlainOpen → ℕ
-stopped_in pending = 0
-stopped_in (stuck why) = stops why
-stopped_in (ended c) = 0
-stopped_in (parted col cut why left right) = stops why + (stopped_in left + stopped_in right)
+stopped_in (leaf (stuck why)) = stops why
+stopped_in (leaf e) = 0
+stopped_in (split col cut why left right) = stops why + (stopped_in left + stopped_in right)
 
 abbrev pub stopped_of : Outcome → ℕ
 stopped_of (Best p whys) = count_by is_stopped whys

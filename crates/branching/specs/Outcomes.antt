@@ -5,8 +5,8 @@ use Rattle.ip_defs.specs.declared.certificates.Bound.TheVariants.{Infinite}
 use Rattle.ip_defs.specs.declared.programs.Parts.{Parts}
 use Rattle.ip_defs.specs.Certificates.{leaf_bound}
 use Rattle.ip_defs.specs.Program.{box_of, cost, IsFeasible, IsLeast, IsEmpty}
-use Rattle.proof_tree.specs.Lists.{Each}
-use Rattle.proof_tree.specs.Trees.{plain, node_count, depth, tree_limit}
+use Rattle.proof_tree.specs.LabelledTrees.{leaf_node, split_node, node_count, depth, split_at, splits_over}
+use Rattle.proof_tree.specs.Trees.{plain, tree_limit}
 use Rattle.proof_tree.specs.Verdicts.{IsProved, IsAtLeast}
 use Rattle.proof_tree.specs.declared.claims.Claim.{Claim}
 use Rattle.proof_tree.specs.declared.claims.Claim.TheVariants as Claims
@@ -17,9 +17,9 @@ use Rattle.branching.specs.declared.budgets.BudgetWhat.TheVariants.{Nodes, Depth
 use Rattle.branching.specs.declared.outcomes.Outcome.{Outcome}
 use Rattle.branching.specs.declared.outcomes.Outcome.TheVariants.{Best, Empty, Budget}
 use Rattle.branching.specs.declared.reasons.Why.{Why}
-use Rattle.branching.specs.OpenTrees.{OpenNode, pending_node, stuck_node, ended_node, parted_node, Place, places, plain_open, stuck_count}
+use Rattle.branching.specs.OpenTrees.{stuck, ended, OpenNode, OpenPlace, places, plain_open, stuck_count}
 use Rattle.branching.specs.Reasons.{IsReasoned, IsStuckFor}
-use Rattle.branching.specs.Splits.{split_at, splits_over}
+use Rattle.ip_defs.specs.Lists.{Each}
 
 -- some element of a list is so
 abbrev pub SomeOf : {A : Type 0} → (A → Type 0) → List A → Type 0
@@ -52,23 +52,21 @@ pub record IsFinished (m : Parts) (l : Limits) (p : Proof) (whys : List Why) : T
 
 -- the split of a node is proper with a true reason, and so is the one that a stuck node asks for
 abbrev pub HasReason : Parts → ℕ → List (ℤ × ℤ) → OpenNode → Type 0
-HasReason m pivots b pending_node = Unit {0}
-HasReason m pivots b (stuck_node why) = IsStuckFor m pivots b why
-HasReason m pivots b (ended_node c) = Unit {0}
-HasReason m pivots b (parted_node col cut why) = IsReasoned m pivots (split_at b col cut) why
+HasReason m pivots b (leaf_node (stuck why)) = IsStuckFor m pivots b why
+HasReason m pivots b (leaf_node e) = Unit {0}
+HasReason m pivots b (split_node col cut why) = IsReasoned m pivots (split_at b col cut) why
 
+-- a node that has to be split, and may not be
 abbrev pub IsStuckNode : OpenNode → Type 0
-IsStuckNode pending_node = ⊥
-IsStuckNode (stuck_node why) = Unit {0}
-IsStuckNode (ended_node c) = ⊥
-IsStuckNode (parted_node col cut why) = ⊥
+IsStuckNode (leaf_node (stuck why)) = Unit {0}
+IsStuckNode n = ⊥
 
 -- a stuck node at a depth
-abbrev pub IsStuckAt : ℕ → Place → Type 0
+abbrev pub IsStuckAt : ℕ → OpenPlace → Type 0
 IsStuckAt d p = IsStuckNode p.node × (p.depth ≡ d)
 
 -- the limit that stopped the search: a stuck node stands at the greatest depth; or none does, and there is no room for two more nodes
-abbrev pub IsCause : BudgetWhat → Limits → List Place → Type 0
+abbrev pub IsCause : BudgetWhat → Limits → List OpenPlace → Type 0
 IsCause Depth l ps = SomeOf (IsStuckAt l.depth) ps
 IsCause Nodes l ps = Each (λ p. IsStuckAt l.depth p → ⊥) ps × (l.nodes < length ps + 2)
 
@@ -79,13 +77,11 @@ IsClosedBy m (Some x) v = IsAtLeast v (cost m x)
 
 -- a leaf is closed by its bound in its box
 abbrev pub IsClosedNode : Parts → Option (List ℤ) → List (ℤ × ℤ) → OpenNode → Type 0
-IsClosedNode m best b pending_node = Unit {0}
-IsClosedNode m best b (stuck_node why) = Unit {0}
-IsClosedNode m best b (ended_node c) = IsClosedBy m best (leaf_bound m b c)
-IsClosedNode m best b (parted_node col cut why) = Unit {0}
+IsClosedNode m best b (leaf_node (ended c)) = IsClosedBy m best (leaf_bound m b c)
+IsClosedNode m best b n = Unit {0}
 
 -- a search that stopped, by the nodes of its tree
-pub record IsStopped (m : Parts) (l : Limits) (what : BudgetWhat) (ps : List Place) (best : Option (List ℤ)) : Type 0 where
+pub record IsStopped (m : Parts) (l : Limits) (what : BudgetWhat) (ps : List OpenPlace) (best : Option (List ℤ)) : Type 0 where
   pub reasons : Each (λ p. HasReason m l.pivots p.box p.node) ps
   pub stuck : SomeOf (λ p. IsStuckNode p.node) ps
   pub nodes : length ps ≤ l.nodes

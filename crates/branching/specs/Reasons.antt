@@ -13,7 +13,8 @@ use Rattle.simplex_laws.specs.Wides.{IsWideWithin}
 use Rattle.simplex_exact.specs.Answers.{IsBest, IsEmpty}
 use Rattle.branching.specs.declared.reasons.Why.{Why}
 use Rattle.branching.specs.declared.reasons.Why.TheVariants.{Fractional, Stopped, Wide}
-use Rattle.branching.specs.Splits.{Split, split_at, IsProper, IsHalving}
+use Rattle.proof_tree.specs.LabelledTrees.{Split, split_at}
+use Rattle.branching.specs.Splits.{IsProper, IsHalving}
 
 -- a point of the relaxation of a split's box lies between the two halves, and the certificate there bounds by just its cost
 pub record IsFractional (m : Parts) (s : Split) (x : List Fraction) (c : Cert) : Type 0 where

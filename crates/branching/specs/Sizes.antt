@@ -3,13 +3,14 @@ use Rattle.std.specs.Prelude.{ℕ, ◌-◌, ◌*◌, ◌≤◌, max, List, [], �
 use Rattle.ip_defs.specs.declared.programs.Parts.{Parts}
 use Rattle.ip_defs.specs.Program.{box_of}
 use Rattle.ip_model.specs.Sizes.{width_sum}
-use Rattle.proof_tree.specs.Lists.{Each}
-use Rattle.proof_tree.specs.Trees.{PlainTree, node_count, depth}
+use Rattle.proof_tree.specs.LabelledTrees.{node_count, depth, splits_over}
+use Rattle.proof_tree.specs.Trees.{PlainTree}
 use Rattle.branching.specs.declared.budgets.Limits.{Limits}
 use Rattle.branching.specs.declared.outcomes.Outcome.{Outcome}
 use Rattle.branching.specs.declared.outcomes.Outcome.TheVariants.{Best, Empty, Budget}
 use Rattle.branching.specs.Outcomes.{IsRightOutcome}
-use Rattle.branching.specs.Splits.{IsProper, splits_over}
+use Rattle.branching.specs.Splits.{IsProper}
+use Rattle.ip_defs.specs.Lists.{Each}
 
 -- a number that is not negative, and 0 for a negative one
 abbrev pub count : ℤ → ℕ
@@ -31,7 +32,8 @@ most_nodes b = max 1 (2 * point_count b - 1)
 
 -- a tree of proper splits has at most that many nodes, and is at most as deep as the program's box is wide
 abbrev pub TreesAreSmall : Type 0
-TreesAreSmall = (m : Parts) (t : PlainTree) → Each IsProper (splits_over (box_of m) t) → (node_count t ≤ most_nodes (box_of m)) × (depth t ≤ width_sum m)
+TreesAreSmall = (m : Parts) (t : PlainTree) → Each IsProper (splits_over (box_of m) t)
+    → (node_count t ≤ most_nodes (box_of m)) × (depth t ≤ width_sum m)
 
 -- an outcome that is no stop
 abbrev pub IsAnswer : Outcome → Type 0

@@ -1,23 +1,9 @@
 -- Splits of boxes: proper ones, and those at the middle of the widest column.
-use Rattle.std.specs.Prelude.{◌≡◌, ℕ, ◌<◌, List, [], ◌∷◌, ◌++◌, length, ℤ, pos, ◌+ℤ◌, ◌-ℤ◌, ◌≤ℤ◌, ◌<ℤ◌}
+use Rattle.std.specs.Prelude.{◌≡◌, ℕ, ◌<◌, List, length, ℤ, pos, ◌+ℤ◌, ◌-ℤ◌, ◌≤ℤ◌, ◌<ℤ◌}
 use Rattle.std.specs.Int.{int_div_euclid}
 use Rattle.ip_defs.specs.Boxes.{IsOpen, below, above}
 use Rattle.ip_defs.specs.Program.{low_at, high_at}
-use Rattle.proof_tree.specs.Trees.{PlainTree, leaf, split}
-
--- a split of a box: its left half has the numbers of a column up to the cut, its right half those after it
-pub record Split : Type 0 where
-  pub box : List (ℤ × ℤ)
-  pub col : ℕ
-  pub cut : ℤ
-
-abbrev pub split_at : List (ℤ × ℤ) → ℕ → ℤ → Split
-split_at b j z = record { box = b; col = j; cut = z }
-
--- the splits of a tree over a box, in preorder
-abbrev pub splits_over : List (ℤ × ℤ) → PlainTree → List Split
-splits_over b (leaf c) = []
-splits_over b (split col cut left right) = split_at b col cut ∷ (splits_over (below b col cut) left ++ splits_over (above b col cut) right)
+use Rattle.proof_tree.specs.LabelledTrees.{Split}
 
 -- a proper split: both halves have a point
 pub record IsProper (s : Split) : Type 0 where

@@ -1,3 +1,4 @@
+//! How large a search may grow, and the limit at which it stopped.
 /// How large the tree of a search may grow, and how long it works at a node.
 #[derive(Clone, Copy, Debug, PartialEq, Eq)]
 pub struct Limits {

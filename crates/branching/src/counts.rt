@@ -1,8 +1,10 @@
+//! How many nodes the tree of an outcome has, and how many of its splits went without the answer of a linear program.
 ghost use Rattle.std.specs.Prelude.{◌≡◌, ◌≤◌};
 ghost use Rattle.std.specs.List.{count_by};
-ghost use Rattle.proof_tree.specs.Trees.{node_count as nodes_in, plain};
-ghost use Rattle.branching.specs.Counts.{is_skipped as is_skipped_reason, nodes_of, open_count, skipped_of};
-ghost use Rattle.branching.specs.OpenTrees.{plain_open, whys_of};
+ghost use Rattle.proof_tree.specs.LabelledTrees.{node_count as nodes_in, split_labels};
+ghost use Rattle.proof_tree.specs.Trees.{plain};
+ghost use Rattle.branching.specs.Counts.{is_skipped as is_skipped_reason, nodes_of, skipped_of};
+ghost use Rattle.branching.specs.OpenTrees.{plain_open};
 
 use crate::{OpenTree, Outcome, Why};
 use proof_tree::Tree;
@@ -20,8 +22,8 @@ fn tree_nodes(tree: &Tree) -> u32
 
 /// How many nodes a tree has that is still being grown.
 fn open_nodes(tree: &OpenTree) -> u32
-    requires { open_count (plain_open tree.now) ≤ 1000000 }
-    ensures { result ≡ open_count (plain_open tree.now) }
+    requires { nodes_in (plain_open tree.now) ≤ 1000000 }
+    ensures { result ≡ nodes_in (plain_open tree.now) }
 {
     match tree {
         OpenTree::Pending => 1,
@@ -51,8 +53,8 @@ fn skips_among(reasons: &[Why]) -> usize
 /// How many splits of a tree that is still being grown were skipped.
 #[tactic(auto, using(crate::proofs::CountLaws::skips_joined))]
 fn open_skips(tree: &OpenTree) -> u32
-    requires { count_by is_skipped_reason (whys_of (plain_open tree.now)) ≤ 1000000 }
-    ensures { result ≡ count_by is_skipped_reason (whys_of (plain_open tree.now)) }
+    requires { count_by is_skipped_reason (split_labels (plain_open tree.now)) ≤ 1000000 }
+    ensures { result ≡ count_by is_skipped_reason (split_labels (plain_open tree.now)) }
 {
     match tree {
         OpenTree::Pending => 0,

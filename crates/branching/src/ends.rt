@@ -1,3 +1,4 @@
+//! Leaves of a search: boxes that are closed by the best point so far, and boxes of one point.
 ghost use Rattle.std.specs.Prelude.{◌≡◌, IfOk, IfNone, IfSome, MatchBool, length};
 ghost use Rattle.ip_defs.specs.Boxes.{IsOpen};
 ghost use Rattle.ip_defs.specs.Certificates.{box_sum, leaf_bound as leaf_bound_of};
@@ -5,7 +6,7 @@ ghost use Rattle.ip_defs.specs.Limits.{IsArea, IsCert, IsWithinLimits};
 ghost use Rattle.ip_defs.specs.Program.{box_of, IsFeasible, IsIn};
 ghost use Rattle.leaf_cert.specs.Room.{FitsScratch, room_of};
 ghost use Rattle.branching.specs.OpenTrees.{plain_cert as plain_cert_of};
-ghost use Rattle.branching.specs.Search.{BreaksRow, Closes, Improves, IsBelow, IsEnd, IsSearchArea, IsSingle, IsSound, lowest, point_of, ray_on};
+ghost use Rattle.branching.specs.Internal.Search.{BreaksRow, Closes, Improves, IsBelow, IsEnd, IsSearchArea, IsSingle, IsSound, lowest, point_of, ray_on};
 
 use crate::boxes::lowest_point;
 use ip_defs::{Area, Bound, Breach, Cert, Memory, Multipliers, Point};

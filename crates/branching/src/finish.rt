@@ -1,6 +1,8 @@
+//! The proof tree of a search that has no open node.
 ghost use Rattle.std.specs.Prelude.{◌≡◌, ◌++◌, IfOk, OnOk};
+ghost use Rattle.proof_tree.specs.LabelledTrees.{split_labels};
 ghost use Rattle.proof_tree.specs.Trees.{plain};
-ghost use Rattle.branching.specs.OpenTrees.{IsDone, plain_open, tree_of, whys_of};
+ghost use Rattle.branching.specs.OpenTrees.{IsDone, plain_open, tree_of};
 
 use crate::{OpenTree, Whys};
 use ip_defs::Memory;
@@ -11,7 +13,7 @@ use std::alloc::Global;
 pub fn finish(alloc: Global, tree: OpenTree, reasons: &mut Whys) -> Result<Tree, Memory>
     requires { IsDone (plain_open tree) }
     ensures tree { IfOk result (λ t. plain t ≡ tree_of (plain_open tree)) }
-    ensures reasons { OnOk result (reasons.new ≡ reasons.old ++ whys_of (plain_open tree)) }
+    ensures reasons { OnOk result (reasons.new ≡ reasons.old ++ split_labels (plain_open tree)) }
 {
     match tree {
         OpenTree::Pending => unreachable!(),

@@ -1,3 +1,4 @@
+//! The laws of outcomes, each as the contract of a function that does nothing.
 ghost use Rattle.branching.specs.Outcomes.{OutcomesAreTrue};
 ghost use Rattle.branching.specs.Sizes.{SearchesEnd, TreesAreSmall};
 

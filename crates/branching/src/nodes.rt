@@ -1,3 +1,4 @@
+//! What a search does with a node: it closes the box, or splits it, or finds that a limit forbids the split.
 ghost use Rattle.std.specs.Prelude.{◌≡◌, ◌+◌, ◌*◌, ◌<◌, ◌≤◌, List, ℤ, None, IfNone, IfOk, IfSome};
 ghost use Rattle.ip_defs.specs.Boxes.{IsOpen};
 ghost use Rattle.ip_defs.specs.Limits.{IsWithinLimits};
@@ -7,7 +8,7 @@ ghost use Rattle.leaf_cert.specs.Room.{FitsScratch, room_of};
 ghost use Rattle.ip_defs.specs.declared.programs.Parts.{Parts};
 ghost use Rattle.ip_model.specs.Sizes.{first_crossed};
 ghost use Rattle.branching.specs.Counts.{stops};
-ghost use Rattle.branching.specs.Search.{Found as FoundPoint, Improves, IsSearchArea, IsSound, IsSplit, IsVisited, MayNotSplit, stops_at};
+ghost use Rattle.branching.specs.Internal.Search.{Found as FoundPoint, Improves, IsSearchArea, IsSound, IsSplit, IsVisited, MayNotSplit, stops_at};
 ghost use Rattle.branching.specs.Splits.{IsWidest};
 
 use crate::boxes::{middle, widest_column};
@@ -65,7 +66,8 @@ fn blocked_by(limits: Limits, depth: u32, nodes: u32) -> Option<BudgetWhat>
 fn split_at(limits: Limits, depth: u32, nodes: u32, col: u32, at: i64, why: Why) -> Visit
     requires depth { depth ≤ limits.depth }
     requires nodes { nodes ≤ limits.nodes }
-    ensures { (m : Parts) (b : List (ℤ × ℤ)) (found : FoundPoint) → IsSplit m limits.pivots b col at why → IsVisited m limits depth b nodes found result × (stops_at result ≡ stops why) }
+    ensures { (m : Parts) (b : List (ℤ × ℤ)) (found : FoundPoint) → IsSplit m limits.pivots b col at why
+        → IsVisited m limits depth b nodes found result × (stops_at result ≡ stops why) }
 {
     match blocked_by(limits, depth, nodes) {
         Some(what) => Visit::Blocked { what, why },

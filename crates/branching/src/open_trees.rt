@@ -1,3 +1,4 @@
+//! Trees that are still being grown.
 use crate::Why;
 use ip_defs::Cert;
 

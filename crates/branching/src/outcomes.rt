@@ -1,3 +1,4 @@
+//! How a search ends.
 use crate::{BudgetWhat, OpenTree, Whys};
 use ip_defs::Point;
 use proof_tree::Proof;

@@ -1,3 +1,4 @@
+//! Why nodes are split.
 use ip_defs::{Cert, Listed};
 use simplex_exact::Fracs;
 

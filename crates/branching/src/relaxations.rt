@@ -1,3 +1,4 @@
+//! What the linear program of a node says of its box.
 ghost use Rattle.std.specs.Prelude.{◌≡◌, ◌<◌, ◌+◌, ◌*◌, ◌≤◌, ℕ, ◌+ℤ◌, IfOk, IfNone, IfSome, MatchBool, length, None, pos};
 ghost use Rattle.frac128.specs.Rationals.{of, AtMost};
 ghost use Rattle.frac128.specs.Values.{value_of};
@@ -7,8 +8,8 @@ ghost use Rattle.ip_defs.specs.Program.{at as number_at};
 ghost use Rattle.ip_model.specs.Sizes.{first_crossed};
 ghost use Rattle.leaf_cert.specs.Room.{FitsScratch, room_of};
 ghost use Rattle.lp_duality.specs.Relaxations.{numbers_of};
-ghost use Rattle.branching.specs.Relaxed.{IsBounded, IsRelaxedNode, IsSmallNumber, IsWholeNumber, stops_by};
-ghost use Rattle.branching.specs.Search.{Improves, IsSearchArea, IsSound};
+ghost use Rattle.branching.specs.Internal.Relaxed.{IsBounded, IsRelaxedNode, IsSmallNumber, IsWholeNumber, stops_by};
+ghost use Rattle.branching.specs.Internal.Search.{Improves, IsSearchArea, IsSound};
 
 use crate::Why;
 use crate::ends::is_closed;

@@ -1,20 +1,21 @@
+//! The search: depth first, left side first, until no node is open or a limit stops it.
 ghost use Rattle.std.specs.Prelude.{◌≡◌, ◌≤◌, None, IfOk, OnOk};
 ghost use Rattle.ip_defs.specs.Limits.{IsWithinLimits};
 ghost use Rattle.ip_model.specs.Sizes.{allowance, first_crossed};
 ghost use Rattle.leaf_cert.specs.Room.{FitsScratch};
-ghost use Rattle.branching.specs.Counts.{AreCountsWithin, IsCounted, nodes_of, open_count, stopped_in, stopped_of};
-ghost use Rattle.branching.specs.OpenTrees.{IsDone, parted, plain_open};
+ghost use Rattle.branching.specs.Counts.{AreCountsWithin, IsCounted, nodes_of, stopped_in, stopped_of};
+ghost use Rattle.proof_tree.specs.LabelledTrees.{node_count, split as split_of};
+ghost use Rattle.branching.specs.OpenTrees.{IsDone, plain_open};
 ghost use Rattle.branching.specs.Outcomes.{HasOneStuck, IsRightOutcome, IsTrueOutcome};
-ghost use Rattle.branching.specs.Search.{IsAnswerOf, IsGrown, IsSearchArea, IsSound};
+ghost use Rattle.branching.specs.Internal.Search.{IsAnswerOf, IsGrown, IsSearchArea, IsSound};
 ghost use Rattle.branching.specs.Sizes.{AreAmple, IsAnswer};
 
-use crate::boxes::{box_of, cut_above, cut_below};
 use crate::ends::best_point;
 use crate::finish::finish;
 use crate::nodes::{Progress, Visit, visit_node};
 use crate::{BudgetWhat, Limits, OpenTree, Outcome, Why, Whys};
 use ip_defs::{Area, Memory, Point};
-use ip_model::IntModel;
+use ip_model::{IntModel, box_of, cut_above, cut_below};
 use leaf_cert::scratch;
 use proof_tree::{Claim, Proof};
 use simplex_exact::Steps;
@@ -37,7 +38,7 @@ fn split(
     left: OpenTree,
     right: OpenTree,
 ) -> Result<OpenTree, Memory>
-    ensures { IfOk result (λ t. plain_open t ≡ parted col at why (plain_open left) (plain_open right)) }
+    ensures { IfOk result (λ t. plain_open t ≡ split_of col at why (plain_open left) (plain_open right)) }
 {
     Ok(OpenTree::Split {
         col,
@@ -65,8 +66,10 @@ fn grow<L: Ledger>(
     requires nodes { search.old.nodes ≤ limits.nodes }
     requires sound { IsSound model.now search.old.found }
     requires room { FitsScratch model.now search.old.scratch }
-    ensures grown { IfOk result (λ g. IsGrown model.now limits depth area.old search.old.nodes search.new.nodes search.old.found search.new.found (plain_open g.tree) g.stop) }
-    ensures counted { IfOk result (λ g. IsCounted limits (stopped_in (plain_open g.tree)) (open_count (plain_open g.tree)) steps.old steps.new) }
+    ensures grown { IfOk result (λ g. IsGrown model.now limits depth area.old search.old.nodes search.new.nodes
+        search.old.found search.new.found (plain_open g.tree) g.stop) }
+    ensures counted { IfOk result (λ g. IsCounted limits (stopped_in (plain_open g.tree)) (node_count (plain_open g.tree))
+        steps.old steps.new) }
     ensures restored { OnOk result (area.new ≡ area.old) }
     ensures room { OnOk result (FitsScratch model.now search.new.scratch) }
 {

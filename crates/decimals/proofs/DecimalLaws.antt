@@ -5,13 +5,9 @@ use Rattle.std.proofs.Math.Nat.{mul-mod_left, mul-div_left, mul-div-mul_right, m
 use Rattle.std.proofs.Math.Arith.{mod-mul}
 use Rattle.std.proofs.lemmas.Nat.{pow-add}
 use Rattle.std.proofs.lemmas.Bool.{ne_eqb}
-use Rattle.ip_defs.specs.Lists.{least_from}
-use Rattle.ip_defs.specs.Numbers.{has_decimals, least_decimals}
-
--- a power of ten is not 0
-pub ten_positive : (k : ℕ) → 0 < 10 ^ k
-ten_positive zero = omega arith
-ten_positive (suc k) = let e = pow-suc 10 k in let p = ten_positive k in omega arith
+use Rattle.mps_defs.specs.Lists.{least_from}
+use Rattle.mps_defs.specs.Numbers.{has_decimals, least_decimals}
+use Rattle.mps_defs.proofs.NumberLaws.{ten_positive}
 
 -- x c in units of m c
 pub mod_scaled : (x m c : ℕ) → 0 < m → 0 < c → (x * c) % (m * c) ≡ (x % m) * c
@@ -32,14 +28,19 @@ test_scaled (suc y) = ne_eqb (suc y * 10) 0 (λ e. omega arith) ∙ sym (ne_eqb 
 -- ten times n over ten times the denominator
 pub has_decimals-ten : (m k d : ℕ) → has_decimals (m * 10) (suc k) d ≡ has_decimals m k d
 has_decimals-ten m k d =
-    let order : m * 10 * 10 ^ d ≡ m * 10 ^ d * 10 = mul_assoc m 10 (10 ^ d) ∙ ap (λ y. m * y) (mul_comm 10 (10 ^ d)) ∙ sym (mul_assoc m (10 ^ d) 10) in
+    let order : m * 10 * 10 ^ d ≡ m * 10 ^ d * 10 =
+    mul_assoc m 10 (10 ^ d) ∙ ap (λ y. m * y) (mul_comm 10 (10 ^ d)) ∙ sym (mul_assoc m (10 ^ d) 10) in
     let step = mod_scaled (m * 10 ^ d) (10 ^ k) 10 (ten_positive k) (omega arith) in
-    ap (λ y. y % 10 ^ suc k == 0) order ∙ ap (λ y. (m * 10 ^ d * 10) % y == 0) (pow-suc 10 k) ∙ ap (λ y. y == 0) step ∙ test_scaled ((m * 10 ^ d) % 10 ^ k)
+    ap (λ y. y % 10 ^ suc k == 0) order
+    ∙ ap (λ y. (m * 10 ^ d * 10) % y == 0) (pow-suc 10 k)
+    ∙ ap (λ y. y == 0) step
+    ∙ test_scaled ((m * 10 ^ d) % 10 ^ k)
 
 -- the same test, the same least place
 pub least-same : (f g : ℕ → Bool) (i n : ℕ) → ((d : ℕ) → f d ≡ g d) → least_from f i n ≡ least_from g i n
 least-same f g i zero h = refl
-least-same f g i (suc n) h = ap (λ b. if b then i else least_from f (suc i) n) (h i) ∙ ap (λ y. if g i then i else y) (least-same f g (suc i) n h)
+least-same f g i (suc n) h =
+    ap (λ b. if b then i else least_from f (suc i) n) (h i) ∙ ap (λ y. if g i then i else y) (least-same f g (suc i) n h)
 
 -- the last place need not be tried twice
 pub least-more : (g : ℕ → Bool) (i n : ℕ) → g (n + i) ≡ true → least_from g i (suc n) ≡ least_from g i n
@@ -55,14 +56,17 @@ passes_at_k m k = let e : k + 0 ≡ k = omega arith in ap (λ d. (m * 10 ^ d) % 
 
 -- a zero at the end is dropped
 pub least-drop : (m k : ℕ) → least_decimals (m * 10) (suc k) ≡ least_decimals m k
-least-drop m k = least-same (has_decimals (m * 10) (suc k)) (has_decimals m k) 0 (suc k) (has_decimals-ten m k) ∙ least-more (has_decimals m k) 0 k (passes_at_k m k)
+least-drop m k =
+    least-same (has_decimals (m * 10) (suc k)) (has_decimals m k) 0 (suc k) (has_decimals-ten m k)
+    ∙ least-more (has_decimals m k) 0 k (passes_at_k m k)
 
 -- where no place passes before it, the last one is the least
 pub least-none : (g : ℕ → Bool) (i n : ℕ) → ((d : ℕ) → d < n → g (d + i) ≡ false) → least_from g i n ≡ n + i
 least-none g i zero h = omega arith
 least-none g i (suc n) h =
     let here : g i ≡ false = let e : 0 + i ≡ i = omega arith in ap g (sym e) ∙ h 0 (omega arith) in
-    let later : (d : ℕ) → d < n → g (d + suc i) ≡ false = λ d p. let e : suc d + i ≡ d + suc i = omega arith in ap g (sym e) ∙ h (suc d) (omega arith) in
+    let later : (d : ℕ) → d < n → g (d + suc i) ≡ false =
+    λ d p. let e : suc d + i ≡ d + suc i = omega arith in ap g (sym e) ∙ h (suc d) (omega arith) in
     let rest = least-none g (suc i) n later in
     let sum : n + suc i ≡ suc n + i = omega arith in
     ap (λ b. if b then i else least_from g (suc i) n) here ∙ rest ∙ sum
@@ -94,7 +98,9 @@ not_before n k d odd inside =
 -- so none of its places is dropped
 pub least-keep : (n k : ℕ) → (n % 10 ≡ 0 → ⊥) → least_decimals n (suc k) ≡ suc k
 least-keep n k odd =
-    let none = least-none (has_decimals n (suc k)) 0 (suc k) (λ d p. let e : d + 0 ≡ d = omega arith in ap (has_decimals n (suc k)) e ∙ not_before n k d odd p) in
+    let none =
+    least-none (has_decimals n (suc k)) 0 (suc k)
+    (λ d p. let e : d + 0 ≡ d = omega arith in ap (has_decimals n (suc k)) e ∙ not_before n k d odd p) in
     let e : suc k + 0 ≡ suc k = omega arith in
     none ∙ e
 
@@ -106,8 +112,12 @@ least_units n k = n * 10 ^ least_decimals n k / 10 ^ k
 pub units-drop : (m k : ℕ) → least_units (m * 10) (suc k) ≡ least_units m k
 units-drop m k =
     let d = least_decimals m k in
-    let order : m * 10 * 10 ^ d ≡ m * 10 ^ d * 10 = mul_assoc m 10 (10 ^ d) ∙ ap (λ y. m * y) (mul_comm 10 (10 ^ d)) ∙ sym (mul_assoc m (10 ^ d) 10) in
-    ap (λ y. m * 10 * 10 ^ y / 10 ^ suc k) (least-drop m k) ∙ ap (λ y. y / 10 ^ suc k) order ∙ ap (λ y. m * 10 ^ d * 10 / y) (pow-suc 10 k) ∙ mul-div-mul_right (m * 10 ^ d) (10 ^ k) (ten_positive 1)
+    let order : m * 10 * 10 ^ d ≡ m * 10 ^ d * 10 =
+    mul_assoc m 10 (10 ^ d) ∙ ap (λ y. m * y) (mul_comm 10 (10 ^ d)) ∙ sym (mul_assoc m (10 ^ d) 10) in
+    ap (λ y. m * 10 * 10 ^ y / 10 ^ suc k) (least-drop m k)
+    ∙ ap (λ y. y / 10 ^ suc k) order
+    ∙ ap (λ y. m * 10 ^ d * 10 / y) (pow-suc 10 k)
+    ∙ mul-div-mul_right (m * 10 ^ d) (10 ^ k) (ten_positive 1)
 
 -- units that do not end with a zero stay
 pub units-keep : (n k : ℕ) → (n % 10 ≡ 0 → ⊥) → least_units n (suc k) ≡ n

@@ -9,16 +9,13 @@ use Rattle.std.proofs.lemmas.Nat.{div_below, pow-add}
 use Rattle.std.proofs.lemmas.Bool.{leb-true, eqb-true}
 use Rattle.std.proofs.lemmas.List.{take_more, length-take, length-drop}
 use Rattle.std.proofs.lemmas.Int.{unsigned_abs-mul, ints}
-use Rattle.decimals.proofs.DecimalLaws.{ten_positive, least_units, units-none, units-keep, units-drop, least-keep, least-drop}
-use Rattle.ip_defs.specs.Lists.{where_true}
-use Rattle.ip_defs.specs.Numbers.{is_number, is_infinity, is_minus, number_of, fraction_of, is_digit, is_point, is_exponent_mark, is_exponent, is_numeral, without_sign, whole_part, rest_part, exponent_part, value_from, places, signed, number_from, least_decimals, over_tens}
+use Rattle.decimals.proofs.DecimalLaws.{least_units, units-none, units-keep, units-drop, least-keep, least-drop}
+use Rattle.mps_defs.specs.Lists.{where_true}
+use Rattle.mps_defs.specs.Numbers.{is_number, is_infinity, is_minus, number_of, fraction_of, is_digit, is_point, is_exponent_mark, is_exponent, is_numeral, without_sign, whole_part, rest_part, exponent_part, value_from, places, signed, number_from, least_decimals, over_tens}
 use Rattle.decimals.specs.Decimals.{IsBelowLarge}
-use Rattle.ip_defs.specs.declared.texts.Number.TheVariants.{Dec, Large}
-
--- the two sides of a true `&&`
-pub both_true : (s t : Bool) → (s && t) ≡ true → (s ≡ true) × (t ≡ true)
-both_true true t e = (refl, e)
-both_true false t e = absurd cc
+use Rattle.mps_defs.specs.declared.texts.Number.TheVariants.{Dec, Large}
+use Rattle.ip_defs.proofs.BoolLaws.{both_true}
+use Rattle.mps_defs.proofs.NumberLaws.{ten_positive, signed_size}
 
 -- a digit by its place
 pub digit_at : (ds : List ℕ) (i : ℕ) → list_all is_digit ds ≡ true → i < length ds → (48 ≤ get_or ds i 0) × (get_or ds i 0 ≤ 57)
@@ -34,7 +31,8 @@ value_from-append n [] ys = refl
 value_from-append n (x ∷ xs) ys = value_from-append (10 * n + (x - 48)) xs ys
 
 -- one more digit
-pub value_more : (n : ℕ) (ds : List ℕ) (i : ℕ) → i < length ds → value_from n (take (i + 1) ds) ≡ 10 * value_from n (take i ds) + (get_or ds i 0 - 48)
+pub value_more : (n : ℕ) (ds : List ℕ) (i : ℕ) → i < length ds
+    → value_from n (take (i + 1) ds) ≡ 10 * value_from n (take i ds) + (get_or ds i 0 - 48)
 value_more n ds i l = ap (value_from n) (take_more ds i 0 l) ∙ value_from-append n (take i ds) (get_or ds i 0 ∷ [])
 
 -- one more power of ten
@@ -46,7 +44,8 @@ pub tens_rise : (i k : ℕ) → i ≤ k → 10 ^ i ≤ 10 ^ k
 tens_rise i k l = pow-le-pow_right (omega arith) l
 
 -- room for one more digit
-pub digit_room : (s v i n d : ℕ) → v + 1 ≤ (s + 1) * 10 ^ i → i < n → d ≤ 9 → (10 * v + d + 1 ≤ (s + 1) * 10 ^ (i + 1)) × ((s + 1) * 10 ^ (i + 1) ≤ (s + 1) * 10 ^ n)
+pub digit_room : (s v i n d : ℕ) → v + 1 ≤ (s + 1) * 10 ^ i → i < n → d ≤ 9
+    → (10 * v + d + 1 ≤ (s + 1) * 10 ^ (i + 1)) × ((s + 1) * 10 ^ (i + 1) ≤ (s + 1) * 10 ^ n)
 digit_room s v i n d h l small =
     let more : (s + 1) * 10 ^ (i + 1) ≡ (s + 1) * 10 ^ i * 10 = ap (λ y. (s + 1) * y) (ten_more i) ∙ sym (mul_assoc (s + 1) (10 ^ i) 10) in
     (omega arith, mul-le-mul_left (s + 1) (tens_rise (i + 1) n (omega arith)))
@@ -55,7 +54,8 @@ digit_room s v i n d h l small =
 pub places_step : (k rest : ℕ) → (rest ≡ 0 → ⊥) → places (suc k) rest ≡ (48 + rest / 10 ^ k) ∷ places k (rest % 10 ^ k)
 places_step k rest some = by (rest == 0) refl
   where
-    by : (t : Bool) → (rest == 0) ≡ t → (if t then [] else (48 + rest / 10 ^ k) ∷ places k (rest % 10 ^ k)) ≡ (48 + rest / 10 ^ k) ∷ places k (rest % 10 ^ k)
+    by : (t : Bool) → (rest == 0) ≡ t
+        → (if t then [] else (48 + rest / 10 ^ k) ∷ places k (rest % 10 ^ k)) ≡ (48 + rest / 10 ^ k) ∷ places k (rest % 10 ^ k)
     by true e = absurd (some (eqb-true rest 0 e))
     by false e = refl
 
@@ -95,10 +95,15 @@ none_after p (x ∷ xs) e = by (p x) refl e (none_after p xs)
         ap (λ t. drop (cond (not t) (1 + position_or_len p xs) 0 + 1) (x ∷ xs)) g ∙ ap (λ k. drop k (x ∷ xs)) next ∙ rest h
 
 -- an exponent is at most four digits, or not there
-pub exponent_digits : (body : List ℕ) → is_numeral body ≡ true → (list_all is_digit (without_sign (exponent_part body)) ≡ true) × (length (without_sign (exponent_part body)) ≤ 4)
-exponent_digits body e = by (list_any is_exponent_mark body) refl (both_true (list_all is_digit (whole_part body) && list_all is_digit (rest_part body) && nat_le 1 (length (whole_part body ++ rest_part body))) (not (list_any is_exponent_mark body) || is_exponent (exponent_part body)) e).1
+pub exponent_digits : (body : List ℕ) → is_numeral body ≡ true
+    → (list_all is_digit (without_sign (exponent_part body)) ≡ true) × (length (without_sign (exponent_part body)) ≤ 4)
+exponent_digits body e =
+    by (list_any is_exponent_mark body) refl
+    (both_true (list_all is_digit (whole_part body) && list_all is_digit (rest_part body) && nat_le 1
+    (length (whole_part body ++ rest_part body))) (not (list_any is_exponent_mark body) || is_exponent (exponent_part body)) e).1
   where
-    by : (t : Bool) → list_any is_exponent_mark body ≡ t → (not t || is_exponent (exponent_part body)) ≡ true → (list_all is_digit (without_sign (exponent_part body)) ≡ true) × (length (without_sign (exponent_part body)) ≤ 4)
+    by : (t : Bool) → list_any is_exponent_mark body ≡ t → (not t || is_exponent (exponent_part body)) ≡ true
+        → (list_all is_digit (without_sign (exponent_part body)) ≡ true) × (length (without_sign (exponent_part body)) ≤ 4)
     by true g h =
         let ds = without_sign (exponent_part body) in
         let all = both_true (nat_le 1 (length ds) && nat_le (length ds) 4) (list_all is_digit ds) h in
@@ -106,11 +111,17 @@ exponent_digits body e = by (list_any is_exponent_mark body) refl (both_true (li
     by false g h = rw (none_after is_exponent_mark body g) (refl, omega arith)
 
 -- the least fraction, where it is reached
-pub least_reached : (negative : Bool) (n k units places : ℕ) → n < 10 ^ (20 + k) → least_units units places ≡ least_units n k → least_decimals units places ≡ least_decimals n k → least_units units places ≡ units → least_decimals units places ≡ places → Dec (signed negative units) places ≡ number_from negative n k
+pub least_reached : (negative : Bool) (n k units places : ℕ) → n < 10 ^ (20 + k) → least_units units places ≡ least_units n k
+    → least_decimals units places ≡ least_decimals n k → least_units units places ≡ units → least_decimals units places ≡ places
+    → Dec (signed negative units) places ≡ number_from negative n k
 least_reached negative n k units places l same same' here here' =
-    ap (λ y. Dec (signed negative y) places) (sym here ∙ same) ∙ ap (λ y. Dec (signed negative (least_units n k)) y) (sym here' ∙ same') ∙ by (nat_le (10 ^ (20 + k)) n) refl
+    ap (λ y. Dec (signed negative y) places) (sym here ∙ same)
+    ∙ ap (λ y. Dec (signed negative (least_units n k)) y) (sym here' ∙ same')
+    ∙ by (nat_le (10 ^ (20 + k)) n) refl
   where
-    by : (t : Bool) → nat_le (10 ^ (20 + k)) n ≡ t → Dec (signed negative (least_units n k)) (least_decimals n k) ≡ (if t then Large negative else Dec (signed negative (least_units n k)) (least_decimals n k))
+    by : (t : Bool) → nat_le (10 ^ (20 + k)) n ≡ t
+        → Dec (signed negative (least_units n k)) (least_decimals n k)
+        ≡ (if t then Large negative else Dec (signed negative (least_units n k)) (least_decimals n k))
     by true e = absurd (let above = leb-true (10 ^ (20 + k)) n e in omega arith)
     by false e = refl
 
@@ -125,7 +136,8 @@ odd_reached n zero odd = (units-none n, refl)
 odd_reached n (suc k) odd = (units-keep n k odd, least-keep n k odd)
 
 -- one zero less
-pub zero_dropped : (n k : ℕ) → n % 10 ≡ 0 → 0 < k → (least_units (n / 10) (k - 1) ≡ least_units n k) × (least_decimals (n / 10) (k - 1) ≡ least_decimals n k)
+pub zero_dropped : (n k : ℕ) → n % 10 ≡ 0 → 0 < k
+    → (least_units (n / 10) (k - 1) ≡ least_units n k) × (least_decimals (n / 10) (k - 1) ≡ least_decimals n k)
 zero_dropped n zero e l = absurd (omega arith)
 zero_dropped n (suc k) e l =
     let less : suc k - 1 ≡ k = omega arith in
@@ -135,10 +147,12 @@ zero_dropped n (suc k) e l =
     )
 
 -- the size of a product with a power of ten
-pub scaled_size : (units : ℤ) (written wanted : ℕ) → unsigned_abs units < 10 ^ (20 + written) → written ≤ wanted → wanted ≤ 9 → unsigned_abs (units *ℤ pos (10 ^ (wanted - written))) < 10 ^ 29
+pub scaled_size : (units : ℤ) (written wanted : ℕ) → unsigned_abs units < 10 ^ (20 + written) → written ≤ wanted → wanted ≤ 9
+    → unsigned_abs (units *ℤ pos (10 ^ (wanted - written))) < 10 ^ 29
 scaled_size units written wanted h l most =
     let size = unsigned_abs-mul units (pos (10 ^ (wanted - written))) in
-    let more : unsigned_abs units * 10 ^ (wanted - written) < 10 ^ (20 + written) * 10 ^ (wanted - written) = mul-lt-mul_of_pos_right h (ten_positive (wanted - written)) in
+    let more : unsigned_abs units * 10 ^ (wanted - written) < 10 ^ (20 + written) * 10 ^ (wanted - written) =
+    mul-lt-mul_of_pos_right h (ten_positive (wanted - written)) in
     let all = pow-add 10 (20 + written) (wanted - written) in
     let sum : 20 + written + (wanted - written) ≡ 20 + wanted = omega arith in
     let joined = ap (λ y. 10 ^ y) sum in
@@ -146,7 +160,8 @@ scaled_size units written wanted h l most =
     omega arith
 
 -- units of more decimals fit, and so do those of fewer, which stay as they are
-pub more_units_fit : (units : ℤ) (written wanted more : ℕ) → unsigned_abs units < 10 ^ (20 + written) → FitsSigned w128 units → wanted ≤ 9 → more ≡ wanted - written → FitsSigned w128 (units *ℤ pos (10 ^ more))
+pub more_units_fit : (units : ℤ) (written wanted more : ℕ) → unsigned_abs units < 10 ^ (20 + written) → FitsSigned w128 units → wanted ≤ 9
+    → more ≡ wanted - written → FitsSigned w128 (units *ℤ pos (10 ^ more))
 more_units_fit units written wanted more below fits most is = by (nat_le written wanted) refl
   where
     one : units *ℤ pos 1 ≡ units
@@ -160,11 +175,14 @@ more_units_fit units written wanted more below fits most is = by (nat_le written
         rw (none, one) fits
 
 -- one more digit of a rest is written
-pub place_written : (all before now encoded : List ℕ) (left rest place whole below letter : ℕ) → all ≡ before ++ places left rest → (rest ≡ 0 → ⊥) → rest < 10 ^ left → place ≡ left - 1 → whole ≡ rest / 10 ^ place → below ≡ rest % 10 ^ place → letter ≡ 48 + whole → (letter < 128 → encoded ≡ letter ∷ []) → now ≡ before ++ encoded → (all ≡ now ++ places (left - 1) below) × (below < 10 ^ (left - 1))
+pub place_written : (all before now encoded : List ℕ) (left rest place whole below letter : ℕ) → all ≡ before ++ places left rest
+    → (rest ≡ 0 → ⊥) → rest < 10 ^ left → place ≡ left - 1 → whole ≡ rest / 10 ^ place → below ≡ rest % 10 ^ place → letter ≡ 48 + whole
+    → (letter < 128 → encoded ≡ letter ∷ []) → now ≡ before ++ encoded → (all ≡ now ++ places (left - 1) below) × (below < 10 ^ (left - 1))
 place_written all before now encoded left rest place whole below letter is some small at-place is-whole is-below is-letter ascii pushed =
     let k = left - 1 in
     let positive = left_positive left rest some small in
-    let step : places left rest ≡ (48 + rest / 10 ^ k) ∷ places k (rest % 10 ^ k) = ap (λ (n : ℕ). places n rest) positive ∙ places_step k rest some in
+    let step : places left rest ≡ (48 + rest / 10 ^ k) ∷ places k (rest % 10 ^ k) =
+    ap (λ (n : ℕ). places n rest) positive ∙ places_step k rest some in
     let tens = ap (λ (n : ℕ). 10 ^ n) at-place in
     let whole' : whole ≡ rest / 10 ^ k = is-whole ∙ ap (λ (n : ℕ). rest / n) tens in
     let below' : below ≡ rest % 10 ^ k = is-below ∙ ap (λ (n : ℕ). rest % n) tens in
@@ -172,16 +190,14 @@ place_written all before now encoded left rest place whole below letter is some 
     let digit = digit_below k rest (omega arith) in
     let letter' : letter ≡ 48 + rest / 10 ^ k = omega arith in
     let code = ascii (omega arith) in
-    let tail : places left rest ≡ letter ∷ places k below = step ∙ ap (λ (b : ℕ). b ∷ places k (rest % 10 ^ k)) (sym letter') ∙ ap (λ (r : ℕ). letter ∷ places k r) (sym below') in
-    let here : before ++ (letter ∷ places k below) ≡ now ++ places k below = sym (append_assoc before (letter ∷ []) (places k below)) ∙ ap (λ (e : List ℕ). (before ++ e) ++ places k below) (sym code) ∙ ap (λ (e : List ℕ). e ++ places k below) (sym pushed) in
+    let tail : places left rest ≡ letter ∷ places k below =
+    step ∙ ap (λ (b : ℕ). b ∷ places k (rest % 10 ^ k)) (sym letter') ∙ ap (λ (r : ℕ). letter ∷ places k r) (sym below') in
+    let here : before ++ (letter ∷ places k below) ≡ now ++ places k below =
+    sym (append_assoc before (letter ∷ []) (places k below))
+    ∙ ap (λ (e : List ℕ). (before ++ e) ++ places k below) (sym code)
+    ∙ ap (λ (e : List ℕ). e ++ places k below) (sym pushed) in
     let room = ten_positive k in
     (is ∙ ap (λ (e : List ℕ). before ++ e) tail ∙ here, omega arith)
-
--- a size with its sign
-pub signed_size : (negative : Bool) (n : ℕ) → unsigned_abs (signed negative n) ≡ n
-signed_size false n = refl
-signed_size true zero = refl
-signed_size true (suc n) = refl
 
 -- a fraction below 10^20 in its least decimals
 pub least_units_below : (n k : ℕ) → n < 10 ^ (20 + k) → least_units n k < 10 ^ (20 + least_decimals n k)
@@ -198,7 +214,8 @@ least_units_below n k small =
 pub number_below : (negative : Bool) (n k : ℕ) → IsBelowLarge (number_from negative n k)
 number_below negative n k = by (nat_le (10 ^ (20 + k)) n) refl
   where
-    by : (t : Bool) → nat_le (10 ^ (20 + k)) n ≡ t → IsBelowLarge (if t then Large negative else Dec (signed negative (least_units n k)) (least_decimals n k))
+    by : (t : Bool) → nat_le (10 ^ (20 + k)) n ≡ t
+        → IsBelowLarge (if t then Large negative else Dec (signed negative (least_units n k)) (least_decimals n k))
     by true e = tt
     by false e =
         let small : n < 10 ^ (20 + k) = leb-false (10 ^ (20 + k)) n e in
@@ -210,7 +227,8 @@ number_below negative n k = by (nat_le (10 ^ (20 + k)) n) refl
 pub read_below : (text : List ℕ) → IfSome (number_of text) IsBelowLarge
 read_below text = by (is_number text) (is_infinity (without_sign text))
   where
-    by : (t u : Bool) → IfSome (where_true t (if u then Large (is_minus text) else number_from (is_minus text) (fraction_of (without_sign text)).0 (fraction_of (without_sign text)).1)) IsBelowLarge
+    by : (t u : Bool)
+        → IfSome (where_true t (if u then Large (is_minus text) else number_from (is_minus text) (fraction_of (without_sign text)).0 (fraction_of (without_sign text)).1)) IsBelowLarge
     by false u = tt
     by true true = tt
     by true false = number_below (is_minus text) (fraction_of (without_sign text)).0 (fraction_of (without_sign text)).1
@@ -230,14 +248,17 @@ zero_fraction negative n k e =
     let nothing = zero_reached k in
     let room = ten_positive (20 + k) in
     let none = zero_reached 0 in
-    unsigned negative ∙ least_reached negative 0 k 0 0 room (none.0 ∙ sym nothing.0) (none.1 ∙ sym nothing.1) none.0 none.1 ∙ ap (λ (m : ℕ). number_from negative m k) (sym e)
+    unsigned negative
+    ∙ least_reached negative 0 k 0 0 room (none.0 ∙ sym nothing.0) (none.1 ∙ sym nothing.1) none.0 none.1
+    ∙ ap (λ (m : ℕ). number_from negative m k) (sym e)
   where
     unsigned : (b : Bool) → Dec (pos 0) 0 ≡ Dec (signed b 0) 0
     unsigned true = refl
     unsigned false = refl
 
 -- 0 times any power of ten
-pub zero_number : (negative : Bool) (n : ℕ) (power : ℤ) → n ≡ 0 → Dec (pos 0) 0 ≡ number_from negative (over_tens n power).0 (over_tens n power).1
+pub zero_number : (negative : Bool) (n : ℕ) (power : ℤ) → n ≡ 0
+    → Dec (pos 0) 0 ≡ number_from negative (over_tens n power).0 (over_tens n power).1
 zero_number negative n (pos p) e =
     let nothing : 0 * 10 ^ p ≡ 0 = omega arith in
     zero_fraction negative (n * 10 ^ p) 0 (ap (λ (m : ℕ). m * 10 ^ p) e ∙ nothing)

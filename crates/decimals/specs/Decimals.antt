@@ -1,9 +1,9 @@
 -- The size of a number of a text, and the parts of a decimal text.
 use Rattle.std.specs.Prelude.{ℕ, ◌+◌, ◌^◌, ◌<◌, ◌==◌, if◌then◌else◌, List, [], ◌∷◌, ℤ, pos, negsuc}
 use Rattle.std.specs.Int.RustNames.{unsigned_abs}
-use Rattle.ip_defs.specs.Numbers.{places}
-use Rattle.ip_defs.specs.declared.texts.Number.{Number}
-use Rattle.ip_defs.specs.declared.texts.Number.TheVariants.{Dec, Large}
+use Rattle.mps_defs.specs.Numbers.{places}
+use Rattle.mps_defs.specs.declared.texts.Number.{Number}
+use Rattle.mps_defs.specs.declared.texts.Number.TheVariants.{Dec, Large}
 
 -- a number that is not Large is below 10^20 in size
 abbrev pub IsBelowLarge : Number → Type 0

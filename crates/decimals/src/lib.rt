@@ -8,7 +8,8 @@ mod scales;
 mod tests;
 mod texts;
 
-pub use ip_defs::{Memory, Number};
+pub use ip_defs::Memory;
+pub use mps_defs::Number;
 pub use numbers::read_number;
 pub use numerals::{are_digits, value_from};
 pub use scales::{scaled, units};

@@ -2,13 +2,13 @@ ghost use Rattle.std.specs.Prelude.{◌≡◌, ◌+◌, ◌*◌, ◌^◌, ◌<�
 ghost use Rattle.std.specs.Int.{w128};
 ghost use Rattle.std.specs.Int.RustNames.{FitsSigned, unsigned_abs};
 ghost use Rattle.decimals.specs.Decimals.{IsBelowLarge};
-ghost use Rattle.ip_defs.specs.Numbers.{number_of, number_from as number_from_of, over_tens, power_of as power_of_of, digits_value, is_numeral as is_numeral_of, fraction_of, signed as signed_of, whole_part as whole_part_of, rest_part as rest_part_of, exponent_part as exponent_part_of, is_minus as is_minus_of, without_sign as without_sign_of};
+ghost use Rattle.mps_defs.specs.Numbers.{number_of, number_from as number_from_of, over_tens, power_of as power_of_of, digits_value, is_numeral as is_numeral_of, fraction_of, signed as signed_of, whole_part as whole_part_of, rest_part as rest_part_of, exponent_part as exponent_part_of, is_minus as is_minus_of, without_sign as without_sign_of};
 
 use crate::numerals::{
     exponent_part, is_infinity, is_minus, is_numeral, rest_part, value_from, whole_part,
     without_sign,
 };
-use ip_defs::Number;
+use mps_defs::Number;
 
 /// The most characters of a number.
 const MOST_CHARACTERS: usize = 32;

@@ -1,6 +1,6 @@
 ghost use Rattle.std.specs.Prelude.{◌≡◌, ◌+◌, ◌*◌, ◌^◌, ◌<◌, ◌≤◌, true, length, position};
 ghost use Rattle.std.specs.List.{list_all, list_any, before_first, after_first};
-ghost use Rattle.ip_defs.specs.Numbers.{is_digit, is_point, is_exponent_mark, is_minus as is_minus_of, without_sign as without_sign_of, value_from as value_from_of, is_exponent as is_exponent_of, whole_part as whole_part_of, rest_part as rest_part_of, exponent_part as exponent_part_of, is_numeral as is_numeral_of, is_infinity as is_infinity_of};
+ghost use Rattle.mps_defs.specs.Numbers.{is_digit, is_point, is_exponent_mark, is_minus as is_minus_of, without_sign as without_sign_of, value_from as value_from_of, is_exponent as is_exponent_of, whole_part as whole_part_of, rest_part as rest_part_of, exponent_part as exponent_part_of, is_numeral as is_numeral_of, is_infinity as is_infinity_of};
 
 /// The text without one sign at its start.
 pub fn without_sign(text: &[u8]) -> &[u8]

@@ -2,11 +2,11 @@ ghost use Rattle.std.specs.Prelude.{◌≡◌, ◌^◌, ◌<◌, ◌≤◌, ◌*
 ghost use Rattle.std.specs.Int.{w128};
 ghost use Rattle.std.specs.Int.RustNames.{FitsSigned};
 ghost use Rattle.std.specs.Prelude.{◌+◌};
-ghost use Rattle.ip_defs.specs.Numbers.{scaled_lem, signed};
-ghost use Rattle.ip_defs.specs.TextModels.{units as units_of};
+ghost use Rattle.mps_defs.specs.Numbers.{signed, exact_units};
+ghost use Rattle.mps_defs.specs.TextModels.{units as units_of};
 ghost use Rattle.decimals.specs.Decimals.{IsBelowLarge};
 
-use ip_defs::Number;
+use mps_defs::Number;
 
 /// A product with a power of ten.
 fn times_tens(units: i128, power: u32) -> i128
@@ -22,7 +22,7 @@ fn times_tens(units: i128, power: u32) -> i128
 pub fn scaled(number: Number, decimals: u8) -> Option<i128>
     requires decimals { decimals ≤ 9 }
     requires below { IsBelowLarge number }
-    ensures { result ≡ scaled_lem number decimals }
+    ensures { result ≡ exact_units number decimals }
 {
     match number {
         Number::Dec {

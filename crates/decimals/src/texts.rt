@@ -1,6 +1,6 @@
 ghost use Rattle.std.specs.Prelude.{◌≡◌, ◌++◌, ◌/◌, ◌%◌, ◌^◌, ◌<◌, decimal, IfOk, OnOk, string_bytes};
 ghost use Rattle.decimals.specs.Decimals.{rest_text, sign_text};
-ghost use Rattle.ip_defs.specs.Numbers.{places as places_of, decimal_text as decimal_text_of};
+ghost use Rattle.mps_defs.specs.Numbers.{places as places_of, decimal_text as decimal_text_of};
 
 use ip_defs::Memory;
 use std::alloc::Global;
@@ -56,7 +56,7 @@ fn push_rest(text: &mut String, rest: u128, places: u8) -> Result<(), Memory>
 }
 
 /// The decimal text of `units / 10^decimals`: a minus where it is negative, the whole part, and where there is a rest a point and its
-/// digits without the zeros at their end. The only error is want of memory.
+/// digits without the zeros at their end. The only error is being out of memory.
 pub fn decimal_text(alloc: Global, units: i128, decimals: u8) -> Result<String, Memory>
     ensures { IfOk result (λ text. string_bytes text ≡ decimal_text_of units decimals) }
 {

@@ -12,7 +12,7 @@ use Rattle.frac128.specs.Rationals.{Rational}
 use Rattle.frac128.specs.Fractions.{Fraction}
 use Rattle.frac128.specs.Values.{value_of}
 use Rattle.dual_rays.specs.Multiples.{lcm, common_denominator}
-use Rattle.dual_rays.specs.Quotients.{number_at}
+use Rattle.dual_rays.specs.Internal.Quotients.{number_at}
 use Rattle.dual_rays.specs.Certificates.{values}
 
 -- ---- least common multiples

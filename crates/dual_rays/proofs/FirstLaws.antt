@@ -1,37 +1,20 @@
 -- The first number of a ray that is not 0.
-use Rattle.std.specs.Prelude.{◌≡◌, ◌≢◌, ℕ, zero, suc, ◌+◌, ◌<◌, ◌==◌, Bool, true, false, cond, List, [], ◌∷◌, ◌++◌, length, take, drop, slice_index_or, None, Some, ℤ, pos, unsigned_abs}
+use Rattle.std.specs.Prelude.{◌≡◌, ◌≢◌, ℕ, zero, suc, ◌+◌, ◌<◌, ◌==◌, Bool, true, false, cond, List, [], ◌∷◌, ◌++◌, length, take, drop, slice_index_or, None, Some, pos, unsigned_abs}
 use Rattle.std.proofs.Common.{arith, refl, ap, sym, ◌∙◌}
-use Rattle.std.proofs.lemmas.Int.{ints}
-use Rattle.std.proofs.lemmas.Bool.{eqb-true, eqb-false}
 use Rattle.std.proofs.lemmas.List.{take_more, map-append, append_assoc, take-append-drop}
+use Rattle.ip_defs.proofs.OrderLaws.{is_zero, is_nonzero, zero_is, nonzero_is}
 use Rattle.frac128.specs.Fractions.{Fraction}
-use Rattle.frac128.specs.Rationals.{Rational}
+use Rattle.frac128.specs.Rationals.{Rational, absolute}
 use Rattle.frac128.specs.Values.{value_of}
 use Rattle.dual_rays.specs.Certificates.{values}
-use Rattle.dual_rays.specs.Quotients.{size_of, first_size, number_at}
-
-is_zero : (z : ℤ) → z ≡ pos 0 → (unsigned_abs z == 0) ≡ true
-is_zero z e = ap (λ w. unsigned_abs w == 0) e
-
-is_nonzero : (z : ℤ) → z ≢ pos 0 → (unsigned_abs z == 0) ≡ false
-is_nonzero z n = by (unsigned_abs z == 0) refl
-  where
-    by : (t : Bool) → (unsigned_abs z == 0) ≡ t → t ≡ false
-    by true f = absurd (n (let size = eqb-true (unsigned_abs z) 0 f in omega (arith, ints)))
-    by false f = refl
-
-pub zero_is : (z : ℤ) → (unsigned_abs z == 0) ≡ true → z ≡ pos 0
-zero_is z e = let size = eqb-true (unsigned_abs z) 0 e in omega (arith, ints)
-
-pub nonzero_is : (z : ℤ) → (unsigned_abs z == 0) ≡ false → z ≢ pos 0
-nonzero_is z e f = eqb-false (unsigned_abs z) 0 e (ap unsigned_abs f)
+use Rattle.dual_rays.specs.Internal.Quotients.{first_size, number_at}
 
 -- ---- zeros first
 first-skip : (ps qs : List Rational) → first_size ps ≡ None → first_size (ps ++ qs) ≡ first_size qs
 first-skip [] qs e = refl
 first-skip (p ∷ ps) qs e = by (unsigned_abs p.top == 0) e (first-skip ps qs)
   where
-    by : (t : Bool) → cond t (first_size ps) (Some (size_of p)) ≡ None → (first_size ps ≡ None → first_size (ps ++ qs) ≡ first_size qs) → cond t (first_size (ps ++ qs)) (Some (size_of p)) ≡ first_size qs
+    by : (t : Bool) → cond t (first_size ps) (Some (absolute p)) ≡ None → (first_size ps ≡ None → first_size (ps ++ qs) ≡ first_size qs) → cond t (first_size (ps ++ qs)) (Some (absolute p)) ≡ first_size qs
     by true f rest = rest f
     by false f rest = absurd cc
 
@@ -41,30 +24,30 @@ split_at xs i x l is =
     let whole : xs ≡ take i xs ++ x ∷ rest = sym (take-append-drop (i + 1) xs) ∙ ap (λ ys. ys ++ rest) (take_more xs i x l ∙ ap (λ y. take i xs ++ y ∷ []) (sym is)) ∙ append_assoc (take i xs) (x ∷ []) rest in
     ap values whole ∙ map-append value_of (take i xs) (x ∷ rest)
 
-pub first-found : (xs : List Fraction) (i : ℕ) (x : Fraction) → i < length xs → x ≡ slice_index_or xs i x → first_size (values (take i xs)) ≡ None → (value_of x).top ≢ pos 0 → first_size (values xs) ≡ Some (size_of (value_of x))
+pub first-found : (xs : List Fraction) (i : ℕ) (x : Fraction) → i < length xs → x ≡ slice_index_or xs i x → first_size (values (take i xs)) ≡ None → (value_of x).top ≢ pos 0 → first_size (values xs) ≡ Some (absolute (value_of x))
 first-found xs i x l is e n =
     ap first_size (split_at xs i x l is) ∙ first-skip (values (take i xs)) (value_of x ∷ values (drop (i + 1) xs)) e
-    ∙ ap (λ t. cond t (first_size (values (drop (i + 1) xs))) (Some (size_of (value_of x)))) (is_nonzero (value_of x).top n)
+    ∙ ap (λ t. cond t (first_size (values (drop (i + 1) xs))) (Some (absolute (value_of x)))) (is_nonzero (value_of x).top n)
 
 pub first-next : (xs : List Fraction) (i : ℕ) (x : Fraction) → i < length xs → x ≡ slice_index_or xs i x → first_size (values (take i xs)) ≡ None → (value_of x).top ≡ pos 0 → first_size (values (take (i + 1) xs)) ≡ None
 first-next xs i x l is e z =
     let here : values (take (i + 1) xs) ≡ values (take i xs) ++ value_of x ∷ [] = ap values (take_more xs i x l ∙ ap (λ y. take i xs ++ y ∷ []) (sym is)) ∙ map-append value_of (take i xs) (x ∷ []) in
-    ap first_size here ∙ first-skip (values (take i xs)) (value_of x ∷ []) e ∙ ap (λ t. cond t None (Some (size_of (value_of x)))) (is_zero (value_of x).top z)
+    ap first_size here ∙ first-skip (values (take i xs)) (value_of x ∷ []) e ∙ ap (λ t. cond t None (Some (absolute (value_of x)))) (is_zero (value_of x).top z)
 
 -- ---- what the answer says
 pub record IsFirst (ps : List Rational) (s : Rational) : Type 0 where
   pub place : ℕ
   pub within : place < length ps
   pub nonzero : (number_at ps place).top ≢ pos 0
-  pub size : s ≡ size_of (number_at ps place)
+  pub size : s ≡ absolute (number_at ps place)
 
 pub first-is : (ps : List Rational) (s : Rational) → first_size ps ≡ Some s → IsFirst ps s
 first-is [] s e = absurd cc
 first-is (p ∷ ps) s e = by (unsigned_abs p.top == 0) refl e (first-is ps s)
   where
-    by : (t : Bool) → (unsigned_abs p.top == 0) ≡ t → cond t (first_size ps) (Some (size_of p)) ≡ Some s → (first_size ps ≡ Some s → IsFirst ps s) → IsFirst (p ∷ ps) s
+    by : (t : Bool) → (unsigned_abs p.top == 0) ≡ t → cond t (first_size ps) (Some (absolute p)) ≡ Some s → (first_size ps ≡ Some s → IsFirst ps s) → IsFirst (p ∷ ps) s
     by true f g rest = let r = rest g in record { place = suc r.place; within = let w = r.within in omega arith; nonzero = r.nonzero; size = r.size }
-    by false f g rest = let is : size_of p ≡ s = cc in record { place = 0; within = omega arith; nonzero = nonzero_is p.top f; size = sym is }
+    by false f g rest = let is : absolute p ≡ s = cc in record { place = 0; within = omega arith; nonzero = nonzero_is p.top f; size = sym is }
 
 pub first-none : (ps : List Rational) (k : ℕ) → first_size ps ≡ None → k < length ps → (number_at ps k).top ≡ pos 0
 first-none [] k e l = absurd (omega arith)
@@ -74,6 +57,6 @@ first-none (p ∷ ps) k e l = by (unsigned_abs p.top == 0) refl e (first-none ps
     cases zero m z g rest = z
     cases (suc k) m z g rest = rest k g (omega arith)
 
-    by : (t : Bool) → (unsigned_abs p.top == 0) ≡ t → cond t (first_size ps) (Some (size_of p)) ≡ None → ((k : ℕ) → first_size ps ≡ None → k < length ps → (number_at ps k).top ≡ pos 0) → (number_at (p ∷ ps) k).top ≡ pos 0
+    by : (t : Bool) → (unsigned_abs p.top == 0) ≡ t → cond t (first_size ps) (Some (absolute p)) ≡ None → ((k : ℕ) → first_size ps ≡ None → k < length ps → (number_at ps k).top ≡ pos 0) → (number_at (p ∷ ps) k).top ≡ pos 0
     by true f g rest = cases k l (zero_is p.top f) g rest
     by false f g rest = absurd cc

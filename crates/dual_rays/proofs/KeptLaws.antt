@@ -1,5 +1,5 @@
 -- The rows that a certificate keeps: in order, none with 0, and read by row they are what was given.
-use Rattle.std.specs.Prelude.{◌≡◌, ◌≢◌, ℕ, zero, suc, ◌+◌, ◌^◌, ◌<◌, ◌≤◌, ◌==◌, ◌||◌, not, Bool, true, false, cond, List, [], ◌∷◌, length, filter, ℤ, pos, unsigned_abs}
+use Rattle.std.specs.Prelude.{◌≡◌, ◌≢◌, ℕ, zero, suc, ◌+◌, ◌^◌, ◌<◌, ◌≤◌, ◌==◌, not, Bool, true, false, cond, List, [], ◌∷◌, length, filter, ℤ, pos, unsigned_abs}
 use Rattle.std.specs.List.{enumerate_from, list_any}
 use Rattle.std.proofs.Common.{arith, refl, ap, sym, ◌∙◌}
 use Rattle.std.proofs.lemmas.Int.{ints}
@@ -7,8 +7,9 @@ use borrow.Author.Tests.{ltb-false}
 use Rattle.ip_defs.specs.Program.{at, coefficient}
 use Rattle.ip_defs.specs.Limits.{above, number_at, value_at, AreOrdered, AreSmall}
 use Rattle.dual_rays.specs.Certificates.{is_present, present}
-use Rattle.dual_rays.proofs.FirstLaws.{zero_is, nonzero_is}
+use Rattle.ip_defs.proofs.OrderLaws.{zero_is, nonzero_is}
 use Rattle.lp_duality.proofs.SparseLaws.{coefficient_absent, coefficient_same, coefficient_other}
+use Rattle.ip_defs.proofs.BoolLaws.{neither_true}
 
 abbrev kept : ℕ → List ℤ → List (ℕ × ℤ)
 kept n zs = filter is_present (enumerate_from n zs)
@@ -59,13 +60,9 @@ pub present-ordered : (zs : List ℤ) → AreOrdered (length zs) (present zs)
 present-ordered zs = (kept_from 0 (length zs) zs (omega arith)).ordered
 
 -- ---- sizes
-or_parts : (s t : Bool) → (s || t) ≡ false → (s ≡ false) × (t ≡ false)
-or_parts true t e = absurd cc
-or_parts false t e = (refl, e)
-
 kept_small : (n : ℕ) (zs : List ℤ) → list_any (above (2 ^ 36)) zs ≡ false → AreSmall (2 ^ 36) (kept n zs)
 kept_small n [] e = λ i l. absurd (omega arith)
-kept_small n (z ∷ zs) e = let parts = or_parts (above (2 ^ 36) z) (list_any (above (2 ^ 36)) zs) e in by (unsigned_abs z == 0) (ltb-false (2 ^ 36) (unsigned_abs z) parts.0) (kept_small (n + 1) zs parts.1)
+kept_small n (z ∷ zs) e = let parts = neither_true (above (2 ^ 36) z) (list_any (above (2 ^ 36)) zs) e in by (unsigned_abs z == 0) (ltb-false (2 ^ 36) (unsigned_abs z) parts.0) (kept_small (n + 1) zs parts.1)
   where
     cons : unsigned_abs z ≤ 2 ^ 36 → AreSmall (2 ^ 36) (kept (n + 1) zs) → AreSmall (2 ^ 36) ((n, z) ∷ kept (n + 1) zs)
     cons s f zero l = s

@@ -6,7 +6,6 @@ pub mod FirstLaws
 pub mod KeptLaws
 pub mod LimitLaws
 pub mod NoneLaws
-pub mod PartLaws
 pub mod PresentLaws
 pub mod PriceLaws
 pub mod QuotientLaws

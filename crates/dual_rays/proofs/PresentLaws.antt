@@ -10,10 +10,7 @@ use Rattle.frac128.specs.Fractions.{Fraction}
 use Rattle.frac128.specs.Values.{value_of}
 use Rattle.dual_rays.specs.Multiples.{multiple}
 use Rattle.dual_rays.specs.Certificates.{is_present, present, multipliers_of, values}
-
-enumerate-append : {A : Type 0} (n : ℕ) (xs ys : List A) → enumerate_from n (xs ++ ys) ≡ enumerate_from n xs ++ enumerate_from (n + length xs) ys
-enumerate-append n [] ys = ap (λ k. enumerate_from k ys) (omega arith)
-enumerate-append n (x ∷ xs) ys = ap (λ zs. (n, x) ∷ zs) (enumerate-append (n + 1) xs ys ∙ ap (λ k. enumerate_from (n + 1) xs ++ enumerate_from k ys) (omega arith))
+use Rattle.ip_defs.proofs.ListLaws.{enumerate-append}
 
 -- one multiplier more
 pub present-more : (zs : List ℤ) (z : ℤ) (k : ℕ) → k ≡ length zs → present (zs ++ z ∷ []) ≡ present zs ++ filter is_present ((k, z) ∷ [])

@@ -22,7 +22,7 @@ use Rattle.lp_duality.proofs.BoundLaws.{whole_multiple_cross, prices_bound}
 use Rattle.dual_rays.specs.Multiples.{common_denominator, multiple, multiples}
 use Rattle.dual_rays.specs.Certificates.{values, present, certificate_of, certificate_of_prices}
 use Rattle.dual_rays.specs.Meanings.{IsWhole, MakesWhole, IsOfPrices, BoundsByPrices}
-use Rattle.dual_rays.specs.Quotients.{number_at}
+use Rattle.dual_rays.specs.Internal.Quotients.{number_at}
 use Rattle.dual_rays.proofs.DenominatorLaws.{denominator-positive, denominator-divides, denominator-least}
 use Rattle.dual_rays.proofs.KeptLaws.{present-ordered, present-small, present-at}
 use Rattle.dual_rays.proofs.PresentLaws.{multiple-at}

@@ -12,10 +12,10 @@ use Rattle.ip_defs.specs.Program.{at}
 use Rattle.ip_defs.specs.Limits.{above}
 use Rattle.ip_defs.specs.declared.certificates.Cert.{Cert}
 use Rattle.frac128.specs.Fractions.{Fraction}
-use Rattle.frac128.specs.Rationals.{Rational, quotient, of}
+use Rattle.frac128.specs.Rationals.{Rational, quotient, of, absolute}
 use Rattle.dual_rays.specs.Multiples.{common_denominator, common_divisor, multiple, multiples, primitive}
 use Rattle.dual_rays.specs.Certificates.{is_present, present, certificate_of, values, certificate_of_prices, certificate_of_ray}
-use Rattle.dual_rays.specs.Quotients.{size_of, first_size, number_at, IsWide, AreQuotients}
+use Rattle.dual_rays.specs.Internal.Quotients.{first_size, number_at, IsWide, AreQuotients}
 use Rattle.dual_rays.proofs.DenominatorLaws.{denominator-positive, denominator-divides}
 use Rattle.dual_rays.proofs.FirstLaws.{IsFirst, first-is, first-none}
 use Rattle.dual_rays.proofs.UnitLaws.{primitive-unit, unit-multiple, positive_right}
@@ -92,7 +92,7 @@ module _ (xs : List Fraction) (s : Rational) (e : first_size (values xs) ≡ Som
   is_first : IsFirst ps s
   is_first = first-is ps s e
 
-  quotients_same : map (λ p. quotient p (size_of (number_at ps is_first.place))) ps ≡ rs
+  quotients_same : map (λ p. quotient p (absolute (number_at ps is_first.place))) ps ≡ rs
   quotients_same = ap (λ z. map (λ p. quotient p z) ps) (sym is_first.size)
 
   same_multiples : primitive (multiples ps) ≡ multiples rs

@@ -1,7 +1,6 @@
 -- A ray over the size of one of its numbers: the multiples by the least common denominator have no common divisor.
-use Rattle.std.specs.Prelude.{◌≡◌, ◌≢◌, ℕ, zero, suc, ◌*◌, ◌/◌, ◌<◌, ◌≤◌, Bool, true, false, cond, List, [], ◌∷◌, length, map, ℤ, pos, negsuc, neg_ℤ, ◌*ℤ◌, ◌<ℤ◌, ◌≤ℤ◌, unsigned_abs}
+use Rattle.std.specs.Prelude.{◌≡◌, ◌≢◌, ℕ, zero, suc, ◌*◌, ◌/◌, ◌<◌, ◌≤◌, List, [], ◌∷◌, length, map, ℤ, pos, negsuc, neg_ℤ, ◌*ℤ◌, ◌<ℤ◌, ◌≤ℤ◌, unsigned_abs}
 use Rattle.std.specs.Int.{◌∣◌}
-use Rattle.std.specs.Int.Signed.{lt_z}
 use Rattle.std.proofs.Common.{arith, refl, ap, sym, ◌∙◌, subst}
 use Rattle.std.proofs.lemmas.Int.{ints, unsigned_abs-mul}
 use Rattle.std.proofs.lemmas.List.{length-map, get_or-map}
@@ -11,13 +10,14 @@ use Rattle.ring_laws.proofs.Named.{ring2}
 use Rattle.ip_defs.specs.Program.{at}
 use Rattle.frac128.specs.Gcd.{gcd}
 use Rattle.frac128.specs.LowestTerms.{gcd-is, gcd-mul}
-use Rattle.frac128.specs.Rationals.{quotient}
+use Rattle.frac128.specs.Rationals.{absolute, quotient}
 use Rattle.frac128.proofs.Rationals.{Rational, S, over, of, of_mul, mul, neg, rationals}
 use Rattle.frac128.proofs.Order.{inverse, inverse-is, nonzero, of_neg}
 use Rattle.frac128.proofs.Fractions.{crosswise}
-use Rattle.lp_duality.proofs.SignLaws.{Sign, up, down, none, sign_of, lt_true, lt_false}
+use Rattle.frac128.proofs.SignLaws.{absolute-up, absolute-down}
+use Rattle.lp_duality.proofs.SignLaws.{Sign, up, down, none, sign_of}
 use Rattle.dual_rays.specs.Multiples.{common_denominator, common_divisor, multiple, multiples, primitive}
-use Rattle.dual_rays.specs.Quotients.{size_of, number_at}
+use Rattle.dual_rays.specs.Internal.Quotients.{number_at}
 use Rattle.dual_rays.proofs.DenominatorLaws.{denominator-positive, denominator-divides, denominator-least}
 use Rattle.dual_rays.proofs.DivisorLaws.{divisor-divides, primitive-same}
 use Rattle.dual_rays.proofs.PriceLaws.{multiple-value}
@@ -26,30 +26,16 @@ pub of-injective : (x y : ℤ) → of x ≡ of y → x ≡ y
 unfolding of S
 of-injective x y e = let c = crosswise x 0 y 0 e in omega (arith, ints)
 
--- ---- sizes
-pub size-up : (p : Rational) → pos 0 ≤ℤ p.top → size_of p ≡ p
-size-up p h = by (lt_z p.top (pos 0)) refl
-  where
-    by : (t : Bool) → lt_z p.top (pos 0) ≡ t → cond t (neg p) p ≡ p
-    by true e = absurd (let l = lt_true p.top (pos 0) e in omega (arith, ints))
-    by false e = refl
-
-pub size-down : (p : Rational) → p.top <ℤ pos 0 → size_of p ≡ neg p
-size-down p h = by (lt_z p.top (pos 0)) refl
-  where
-    by : (t : Bool) → lt_z p.top (pos 0) ≡ t → cond t (neg p) p ≡ neg p
-    by true e = refl
-    by false e = absurd (let l = lt_false p.top (pos 0) e in omega (arith, ints))
-
-turned : (p : Rational) → p.top <ℤ pos 0 → p ≡ neg (size_of p)
-turned p s = ring2 rationals (λ a b. a) (λ a b. minus (minus a)) refl p p ∙ ap neg (sym (size-down p s))
+-- ---- absolute values
+turned : (p : Rational) → p.top <ℤ pos 0 → p ≡ neg (absolute p)
+turned p s = ring2 rationals (λ a b. a) (λ a b. minus (minus a)) refl p p ∙ ap neg (sym (absolute-down p s))
 
 -- the size of a number that is not 0 has an inverse
-size-inverse : (p : Rational) → p.top ≢ pos 0 → mul (size_of p) (inverse (size_of p)) ≡ of (pos 1)
-size-inverse p n = inverse-is (size_of p) (by (sign_of p.top))
+size-inverse : (p : Rational) → p.top ≢ pos 0 → mul (absolute p) (inverse (absolute p)) ≡ of (pos 1)
+size-inverse p n = inverse-is (absolute p) (by (sign_of p.top))
   where
-    by : Sign p.top → size_of p ≢ of (pos 0)
-    by (up s) = λ e. nonzero p n (sym (size-up p (omega (arith, ints))) ∙ e)
+    by : Sign p.top → absolute p ≢ of (pos 0)
+    by (up s) = λ e. nonzero p n (sym (absolute-up p (omega (arith, ints))) ∙ e)
     by (none s) = absurd (n s)
     by (down s) = λ e. nonzero p n (turned p s ∙ ap neg e ∙ identity rationals [] (minus (num (pos 0))) (num (pos 0)) refl)
 
@@ -62,16 +48,16 @@ unfolding of over gcd
 minus_one_top = (refl, refl)
 
 -- a number over its own size is 1 or -1
-unit : (p : Rational) → p.top ≢ pos 0 → (unsigned_abs (quotient p (size_of p)).top ≡ 1) × ((quotient p (size_of p)).less ≡ 0)
+unit : (p : Rational) → p.top ≢ pos 0 → (unsigned_abs (quotient p (absolute p)).top ≡ 1) × ((quotient p (absolute p)).less ≡ 0)
 unit p n = by (sign_of p.top)
   where
-    by : Sign p.top → (unsigned_abs (quotient p (size_of p)).top ≡ 1) × ((quotient p (size_of p)).less ≡ 0)
+    by : Sign p.top → (unsigned_abs (quotient p (absolute p)).top ≡ 1) × ((quotient p (absolute p)).less ≡ 0)
     by (none s) = absurd (n s)
     by (up s) =
-        let is : quotient p (size_of p) ≡ of (pos 1) = ap (λ z. mul z (inverse (size_of p))) (sym (size-up p (omega (arith, ints)))) ∙ size-inverse p n in
+        let is : quotient p (absolute p) ≡ of (pos 1) = ap (λ z. mul z (inverse (absolute p))) (sym (absolute-up p (omega (arith, ints)))) ∙ size-inverse p n in
         (ap (λ (z : Rational). unsigned_abs z.top) is ∙ ap unsigned_abs one_top.0, ap (λ (z : Rational). z.less) is ∙ one_top.1)
     by (down s) =
-        let is : quotient p (size_of p) ≡ of (negsuc 0) = ap (λ z. mul z (inverse (size_of p))) (turned p s) ∙ ring2 rationals (λ a b. minus a ⊗ b) (λ a b. minus (a ⊗ b)) refl (size_of p) (inverse (size_of p)) ∙ ap neg (size-inverse p n) ∙ sym (of_neg (pos 1)) in
+        let is : quotient p (absolute p) ≡ of (negsuc 0) = ap (λ z. mul z (inverse (absolute p))) (turned p s) ∙ ring2 rationals (λ a b. minus a ⊗ b) (λ a b. minus (a ⊗ b)) refl (absolute p) (inverse (absolute p)) ∙ ap neg (size-inverse p n) ∙ sym (of_neg (pos 1)) in
         (ap (λ (z : Rational). unsigned_abs z.top) is ∙ ap unsigned_abs minus_one_top.0, ap (λ (z : Rational). z.less) is ∙ minus_one_top.1)
 
 up_size : (t : ℤ) (e : ℕ) → pos 0 ≤ℤ t → pos (unsigned_abs (t *ℤ pos e)) ≡ t *ℤ pos e
@@ -83,13 +69,13 @@ down_size (pos n) e h = absurd (omega (arith, ints))
 down_size (negsuc n) e h = omega (arith, ints)
 
 -- the size of a multiple is the multiple of the size
-size-multiple : (q : ℕ) (p : Rational) → suc p.less ∣ q → of (pos (unsigned_abs (multiple q p))) ≡ mul (of (pos q)) (size_of p)
+size-multiple : (q : ℕ) (p : Rational) → suc p.less ∣ q → of (pos (unsigned_abs (multiple q p))) ≡ mul (of (pos q)) (absolute p)
 size-multiple q p d = by (sign_of p.top)
   where
-    by : Sign p.top → of (pos (unsigned_abs (p.top *ℤ pos (q / suc p.less)))) ≡ mul (of (pos q)) (size_of p)
-    by (up s) = ap of (up_size p.top (q / suc p.less) (omega (arith, ints))) ∙ multiple-value q p d ∙ ap (mul (of (pos q))) (sym (size-up p (omega (arith, ints))))
-    by (none s) = ap of (up_size p.top (q / suc p.less) (omega (arith, ints))) ∙ multiple-value q p d ∙ ap (mul (of (pos q))) (sym (size-up p (omega (arith, ints))))
-    by (down s) = ap of (down_size p.top (q / suc p.less) s) ∙ of_neg (multiple q p) ∙ ap neg (multiple-value q p d) ∙ ring2 rationals (λ a b. minus (a ⊗ b)) (λ a b. a ⊗ minus b) refl (of (pos q)) p ∙ ap (mul (of (pos q))) (sym (size-down p s))
+    by : Sign p.top → of (pos (unsigned_abs (p.top *ℤ pos (q / suc p.less)))) ≡ mul (of (pos q)) (absolute p)
+    by (up s) = ap of (up_size p.top (q / suc p.less) (omega (arith, ints))) ∙ multiple-value q p d ∙ ap (mul (of (pos q))) (sym (absolute-up p (omega (arith, ints))))
+    by (none s) = ap of (up_size p.top (q / suc p.less) (omega (arith, ints))) ∙ multiple-value q p d ∙ ap (mul (of (pos q))) (sym (absolute-up p (omega (arith, ints))))
+    by (down s) = ap of (down_size p.top (q / suc p.less) s) ∙ of_neg (multiple q p) ∙ ap neg (multiple-value q p d) ∙ ring2 rationals (λ a b. minus (a ⊗ b)) (λ a b. a ⊗ minus b) refl (of (pos q)) p ∙ ap (mul (of (pos q))) (sym (absolute-down p s))
 
 -- ---- proportion
 map_same : (f f' : ℤ → ℤ) (g g' : Rational → ℤ) (h : Rational → Rational) (ps : List Rational) → ((k : ℕ) → k < length ps → f (g (h (number_at ps k))) ≡ f' (g' (number_at ps k))) → map f (map g (map h ps)) ≡ map f' (map g' ps)
@@ -123,7 +109,7 @@ size_positive (negsuc m) n = omega (arith, ints)
 
 module _ (ps : List Rational) (i : ℕ) (l : i < length ps) (n : (number_at ps i).top ≢ pos 0) where
   abbrev s : Rational
-  s = size_of (number_at ps i)
+  s = absolute (number_at ps i)
 
   abbrev rs : List Rational
   rs = map (λ p. quotient p s) ps

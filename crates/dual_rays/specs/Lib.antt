@@ -1,4 +1,4 @@
 pub mod Certificates
 pub mod Meanings
 pub mod Multiples
-pub mod Quotients
+pub mod Internal

@@ -1,3 +1,4 @@
+//! The least common denominator of fractions, within a limit.
 ghost use Rattle.std.specs.Prelude.{◌≡◌, ◌*◌, ◌/◌, ◌^◌, ◌<◌, ◌≤◌, suc};
 ghost use Rattle.frac128.specs.Values.{value_of};
 ghost use Rattle.dual_rays.specs.Certificates.{divisor_of, values};

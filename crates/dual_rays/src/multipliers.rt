@@ -1,3 +1,4 @@
+//! The multipliers of rows: whole multiples of fractions.
 ghost use Rattle.std.specs.Prelude.{◌≡◌, ◌^◌, ◌≤◌, ◌++◌, ◌∷◌, [], filter, length, map, IfOk, OnOk};
 ghost use Rattle.frac128.specs.Values.{value_of};
 ghost use Rattle.dual_rays.specs.Certificates.{is_present, multiplier_of, multipliers_of, values};
@@ -8,21 +9,13 @@ use frac128::Frac;
 use ip_defs::{Memory, Multipliers};
 use std::alloc::{AllocError, Global};
 
-/// The numerator of a fraction.
-#[inline]
-pub fn numerator(x: Frac) -> i128
-    ensures { result ≡ (value_of x).top }
-{
-    x.num()
-}
-
 /// A multiple of a fraction, where it is within the limit.
 fn multiplier(q: u128, x: Frac) -> Option<i64>
     requires { q ≤ 2 ^ 36 }
     ensures { result ≡ multiplier_of (multiple q (value_of x)) }
 {
     let times = (q / denominator(x)) as i128;
-    match numerator(x).checked_mul(times) {
+    match x.num().checked_mul(times) {
         Some(multiple) if multiple.unsigned_abs() <= LARGEST => Some(multiple as i64),
         _ => None,
     }

@@ -1,3 +1,4 @@
+//! The certificate of the prices of rows.
 ghost use Rattle.std.specs.Prelude.{◌≡◌, ◌≤◌, length, IfOk, IfNone, IfSome};
 ghost use Rattle.dual_rays.specs.Certificates.{certificate_of_prices};
 ghost use Rattle.dual_rays.specs.Meanings.{IsOfPrices, BoundsByPrices, HasNoCertificate};

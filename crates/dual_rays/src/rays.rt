@@ -1,27 +1,16 @@
+//! The certificate of a ray.
 ghost use Rattle.std.specs.Prelude.{◌≡◌, ◌≢◌, ◌≤◌, length, pos, IfOk, IfNone, IfSome, MatchOption, option_map};
 ghost use Rattle.frac128.specs.Values.{value_of};
 ghost use Rattle.frac128.specs.Rationals.{quotient};
 ghost use Rattle.dual_rays.specs.Certificates.{certificate_of_ray, values};
 ghost use Rattle.dual_rays.specs.Meanings.{IsOfRay, BoundsByRay, HasNoRay};
-ghost use Rattle.dual_rays.specs.Quotients.{AreQuotients, IsWide, first_size as first_size_of, size_of};
+ghost use Rattle.dual_rays.specs.Internal.Quotients.{AreQuotients, IsWide, first_size as first_size_of};
 
 use crate::prices::certificate;
-use frac128::{Frac, Wide, div, frac};
+use frac128::{Frac, Wide, div};
 use ip_defs::{Cert, Memory, Multipliers};
 use lp_duality::Fracs;
 use std::alloc::Global;
-
-/// A fraction without its sign.
-fn size(x: Frac) -> Frac
-    ensures value { value_of result ≡ size_of (value_of x) }
-    ensures present { x.num ≢ pos 0 → result.num ≢ pos 0 }
-{
-    if x.num() < 0 {
-        frac(-x.num(), x.den())
-    } else {
-        x
-    }
-}
 
 /// The size of the first number that is not 0.
 fn first_size(ray: &[Frac]) -> Option<Frac>
@@ -30,7 +19,7 @@ fn first_size(ray: &[Frac]) -> Option<Frac>
 {
     for number in ray {
         if number.num() != 0 {
-            return Some(size(*number));
+            return Some(number.absolute());
         }
     }
     None

@@ -1,3 +1,4 @@
+//! Certificates by hand.
 ghost use Rattle.std.specs.Prelude.{IsTrue};
 ghost use Rattle.ip_defs.specs.Limits.{IsArea};
 

@@ -17,6 +17,10 @@ use Rattle.frac128.proofs.GcdLaws.{gcd-is, gcd_comm, coprime-mul, coprime-diviso
 use Rattle.frac128.proofs.Rationals.{divided-is, same, neg-over, sub_is}
 use Rattle.frac128.specs.Rationals.{S, over, add, mul, neg, inverse, inverse_of, rational}
 
+-- a fraction whose parts are in lowest terms and in the range
+abbrev pub IsProper : Fraction → Type 0
+IsProper x = IsFraction x.num x.den
+
 -- ---- divisors
 -- the second number is its quotient times the shared factor, and so is the first
 pub shared-first : (m n : ℤ) → shared m n *ℤ int_div m (shared m n) ≡ m
@@ -231,6 +235,14 @@ IsFraction-turned n d t u x p e f = record {
   den_fits = subst (λ z. z < 2 ^ 127) (sym f) x.num_fits;
   lowest = ap (λ z. gcd z (unsigned_abs u)) e ∙ ap (gcd (unsigned_abs d)) f ∙ gcd_comm (unsigned_abs d) (unsigned_abs n) ∙ x.lowest;
 }
+
+pub reciprocal-proper : (n d : ℤ) → IsFraction n d → n ≢ pos 0 → IsProper (reciprocal_of (record { num = n; den = d }))
+reciprocal-proper (pos zero) d p h = absurd (h refl)
+reciprocal-proper (pos (suc k)) d p h =
+    let up : int_lt (pos (suc k)) (pos 0) ≡ false = grind (arith, ints) in
+    subst (λ t. IsProper (if t then record { num = neg_ℤ d; den = neg_ℤ (pos (suc k)) } else record { num = d; den = pos (suc k) })) (sym up)
+    (IsFraction-turned (pos (suc k)) d d (pos (suc k)) p (omega (arith, ints)) refl refl)
+reciprocal-proper (negsuc k) d p h = IsFraction-turned (negsuc k) d (neg_ℤ d) (pos (suc k)) p (omega (arith, ints)) (omega (arith, ints)) (omega (arith, ints))
 
 inverse-parts : (n : ℤ) (less : ℕ) (d : ℤ) → S less ≡ d → n ≢ pos 0 → value_of (reciprocal_of (record { num = n; den = d })) ≡ inverse_of n less
 unfolding rational

@@ -9,3 +9,4 @@ pub mod Rationals
 pub mod Order
 pub mod Fractions
 pub mod FractionLaws
+pub mod SignLaws

@@ -1,5 +1,6 @@
 -- Fractions in lowest terms whose parts are in the range, and what the operations on them answer.
 use Rattle.std.specs.Prelude.{◌≡◌, ◌<◌, ◌^◌, Bool, if◌then◌else◌, Option, Some, None, Result, Ok, Err, ℤ, pos, neg_ℤ, ◌+ℤ◌, ◌*ℤ◌, ◌<ℤ◌, int_lt, int_div, nat_lt, unsigned_abs}
+use Rattle.std.specs.Int.Signed.{lt_z}
 use Rattle.frac128.specs.Gcd.{gcd}
 use Rattle.frac128.specs.declared.fraction.Wide.{Wide}
 
@@ -14,6 +15,10 @@ pub record IsFraction (num den : ℤ) : Type 0 where
   pub num_fits : unsigned_abs num < 2 ^ 127
   pub den_fits : unsigned_abs den < 2 ^ 127
   pub lowest : gcd (unsigned_abs num) (unsigned_abs den) ≡ 1
+
+-- a whole number as a fraction
+abbrev pub whole : ℤ → Fraction
+whole z = record { num = z; den = pos 1 }
 
 -- both parts have 63 bits at most
 pub record IsSmall (x : Fraction) : Type 0 where
@@ -72,6 +77,10 @@ product_of x y =
 -- the fraction with its sign turned
 abbrev pub negative_of : Fraction → Fraction
 negative_of x = record { num = neg_ℤ x.num; den = x.den }
+
+-- the fraction without its sign
+abbrev pub absolute_of : Fraction → Fraction
+absolute_of x = if lt_z x.num (pos 0) then negative_of x else x
 
 -- a difference is the sum with the negative
 abbrev pub difference_of : Fraction → Fraction → Result Fraction Wide

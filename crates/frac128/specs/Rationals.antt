@@ -1,5 +1,7 @@
 -- Rational numbers as fractions in lowest terms, so that two are equal where their parts are, with their operations.
-use Rattle.std.specs.Prelude.{◌≡◌, ◌≢◌, ℕ, zero, suc, ◌+◌, ◌*◌, ◌/◌, ◌-◌, ℤ, pos, negsuc, neg_ℤ, ◌+ℤ◌, ◌-ℤ◌, ◌*ℤ◌, ◌≤ℤ◌, unsigned_abs}
+use Rattle.std.specs.Prelude.{◌≡◌, ◌≢◌, ℕ, zero, suc, ◌+◌, ◌*◌, ◌/◌, ◌-◌, if◌then◌else◌, ℤ, pos, negsuc, neg_ℤ, ◌+ℤ◌, ◌-ℤ◌, ◌*ℤ◌, ◌≤ℤ◌, unsigned_abs}
+use Rattle.std.specs.Int.Signed.{lt_z}
+use Rattle.ring_laws.specs.Sums.{sum_with}
 use Rattle.frac128.specs.Gcd.{gcd}
 use Rattle.frac128.specs.LowestTerms.{divided, over-lowest}
 
@@ -47,6 +49,14 @@ mul p q = over (p.top *ℤ q.top) (both p.less q.less)
 
 unfoldable pub neg : Rational → Rational
 neg p = over (neg_ℤ p.top) p.less
+
+-- a number without its sign
+abbrev pub absolute : Rational → Rational
+absolute p = if lt_z p.top (pos 0) then neg p else p
+
+-- f 0 + .. + f (n - 1)
+abbrev pub sum : (ℕ → Rational) → ℕ → Rational
+sum f n = sum_with add (of (pos 0)) f n
 
 -- one divided by a / (c + 1), and 0 for 0
 abbrev pub inverse_of : ℤ → ℕ → Rational

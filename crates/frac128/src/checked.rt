@@ -1,3 +1,4 @@
+//! Products, sums and quotients of parts, where they are in the range.
 ghost use Rattle.std.specs.Prelude.{◌≡◌, ◌+ℤ◌, ◌*ℤ◌, ◌<ℤ◌, pos, int_div};
 ghost use Rattle.frac128.specs.Fractions.{within};
 

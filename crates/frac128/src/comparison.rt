@@ -1,3 +1,4 @@
+//! The order of two fractions, exact for all of them.
 ghost use Rattle.std.specs.Prelude.{◌≡◌, ◌*◌, ◌<◌, ◌*ℤ◌};
 ghost use Rattle.std.specs.Ordering.{nat_cmp, int_cmp};
 ghost use Rattle.frac128.specs.Fractions.{IsFraction, IsSmall};

@@ -1,3 +1,4 @@
+//! Quotients rounded down and up to whole numbers.
 ghost use Rattle.std.specs.Prelude.{◌≡◌, ◌+ℤ◌, ◌-ℤ◌, ◌*ℤ◌, ◌<ℤ◌, ◌≤ℤ◌, pos};
 ghost use Rattle.frac128.specs.Division.{floor_of, ceiling_of};
 

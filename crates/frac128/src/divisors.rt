@@ -1,3 +1,4 @@
+//! The greatest common divisor of numbers of two words.
 ghost use Rattle.std.specs.Prelude.{◌≡◌, ◌%◌, ◌<ℤ◌, pos, unsigned_abs};
 ghost use Rattle.std.specs.Int.{IsGcd};
 ghost use Rattle.frac128.specs.Gcd.{gcd as gcd_of};

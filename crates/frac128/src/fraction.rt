@@ -1,5 +1,7 @@
+//! A fraction in lowest terms, and its parts.
 ghost use Rattle.std.specs.Prelude.{◌≡◌};
 ghost use Rattle.frac128.specs.Fractions.{IsFraction};
+ghost use Rattle.frac128.specs.Values.{value_of};
 
 use std::marker::Model;
 
@@ -41,6 +43,7 @@ impl Frac {
     #[inline]
     pub fn num(self) -> i128
         ensures value { result ≡ self.num }
+        ensures top { result ≡ (value_of self).top }
         ensures fraction { IsFraction self.num self.den }
     {
         self.num

@@ -11,6 +11,7 @@ mod divisors;
 mod fraction;
 mod making;
 mod products;
+mod signs;
 mod small;
 mod sums;
 mod words;

@@ -1,11 +1,25 @@
+//! Fractions from whole numbers, and from numbers that may have a common divisor.
 ghost use Rattle.std.specs.Prelude.{◌≡◌, ◌≢◌, ◌<◌, ◌^◌, ◌*ℤ◌, ◌<ℤ◌, pos, int_div, unsigned_abs};
-ghost use Rattle.frac128.specs.Fractions.{lowest_of, reduced_of, shared as shared_by};
+ghost use Rattle.frac128.specs.Fractions.{lowest_of, reduced_of, shared as shared_by, whole};
+ghost use Rattle.frac128.specs.Rationals.{of};
+ghost use Rattle.frac128.specs.Values.{value_of};
 
 use crate::Frac;
 use crate::checked::over;
 use crate::divisors::shared;
 use crate::fraction::fraction_of;
 use crate::words::over_word;
+
+impl Frac {
+    /// A whole number as a fraction.
+    #[inline]
+    pub fn from_whole(number: i64) -> Frac
+        ensures exact { result ≡ whole number }
+        ensures value { value_of result ≡ of number }
+    {
+        fraction_of(i128::from(number), 1)
+    }
+}
 
 /// The fraction num / den in lowest terms. The denominator is not 0, and neither number is the least `i128`.
 pub fn frac(num: i128, den: i128) -> Frac

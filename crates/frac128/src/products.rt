@@ -1,3 +1,4 @@
+//! Products and quotients of fractions.
 ghost use Rattle.std.specs.Prelude.{◌≡◌, ◌≢◌, IfOk, pos};
 ghost use Rattle.frac128.specs.Fractions.{IsFraction, product_of, quotient_of, reciprocal_of};
 ghost use Rattle.frac128.specs.Values.{IsProduct, IsQuotient};

@@ -1,3 +1,4 @@
+//! Sums and products of fractions whose parts have one word.
 ghost use Rattle.std.specs.Prelude.{◌≡◌, ◌<ℤ◌, Ok, pos, IsTrue};
 ghost use Rattle.frac128.specs.Fractions.{IsSmall, shared, sum_of, product_of};
 

@@ -1,5 +1,6 @@
+//! Sums and differences of fractions.
 ghost use Rattle.std.specs.Prelude.{◌≡◌, IfOk, pos};
-ghost use Rattle.frac128.specs.Fractions.{IsFraction, sum_of, difference_of, negative_of};
+ghost use Rattle.frac128.specs.Fractions.{IsFraction, sum_of, difference_of};
 ghost use Rattle.frac128.specs.Values.{IsSum, IsDifference};
 
 use crate::checked::{over, plus, times};
@@ -23,15 +24,7 @@ pub fn sub(a: Frac, c: Frac) -> Result<Frac, Wide>
     ensures exact { result ≡ difference_of a c }
     ensures value { IfOk result (IsDifference a c) }
 {
-    sum(a, negative(c))
-}
-
-/// The fraction with its sign turned.
-#[inline]
-fn negative(c: Frac) -> Frac
-    ensures { result ≡ negative_of c }
-{
-    fraction_of(-c.num, c.den)
+    sum(a, c.negated())
 }
 
 /// The sum. The cheap cases come first: whole numbers, 0, and parts of one word.

@@ -1,3 +1,4 @@
+//! Worked examples, the edge of the range, and the vectors of another implementation.
 mod vectors;
 
 use crate::{Frac, Wide, add, ceil_div, cmp, div, floor_div, frac, gcd, mul, sub};
@@ -53,6 +54,18 @@ fn worked_examples(rt: HostRuntime) {
         Ordering::Less
     );
     assert_eq!(rt; parts(Ok(frac(6, -4))), (-3, 2));
+    assert_eq!(rt;
+        parts(Ok(Frac::from_whole(i64::MIN))),
+        (-9_223_372_036_854_775_808, 1)
+    );
+    assert_eq!(rt; parts(Ok(frac(2, 3).negated())), (-2, 3));
+    assert_eq!(rt;
+        (
+            parts(Ok(frac(2, 3).absolute())),
+            parts(Ok(frac(-2, 3).absolute()))
+        ),
+        ((2, 3), (2, 3))
+    );
     assert_eq!(rt; (frac(-7, 2).floor(), frac(-7, 2).ceil()), (-4, -3));
     assert_eq!(rt; (frac(7, 2).floor(), frac(7, 2).ceil()), (3, 4));
     assert_eq!(rt;

@@ -1,3 +1,4 @@
+//! Arithmetic of one word, for the cheap cases.
 ghost use Rattle.std.specs.Prelude.{◌≡◌, ◌%◌, ◌<◌, ◌^◌, ◌+ℤ◌, ◌*ℤ◌, ◌<ℤ◌, pos, int_div, int_rem, unsigned_abs, FitsSigned};
 ghost use Rattle.std.specs.Int.{w128};
 ghost use Rattle.frac128.specs.Fractions.{shared};

@@ -16,7 +16,9 @@ use Rattle.ip_defs.specs.declared.programs.Column.{Column}
 use Rattle.ip_defs.specs.declared.programs.Parts.{Parts}
 use Rattle.std.specs.List.{list_any}
 use Rattle.std.specs.Prelude.{Some, slice_get, zero}
-use Rattle.std.proofs.lemmas.List.Folds.{list_any_at}
+use Rattle.std.proofs.lemmas.List.Elements.{All-from_get_or}
+use Rattle.std.proofs.lemmas.List.Folds.{list_any_at, list_any_none}
+use Rattle.ip_defs.proofs.OrderLaws.{less_false}
 
 -- lists that agree at each place are equal
 pub same_lists : (xs ys : List ℤ) → length xs ≡ length ys → ((j : ℕ) → j < length ys → at xs j ≡ at ys j) → xs ≡ ys
@@ -139,6 +141,10 @@ open_from b none = λ j within. by j within (is_empty_side (get_or b j (pos 0, p
     by : (j : ℕ) → j < length b → (t : Bool) → is_empty_side (get_or b j (pos 0, pos 0)) ≡ t → low_at b j ≤ℤ high_at b j
     by j within true e = let some = list_any_at is_empty_side b j (pos 0, pos 0) within e in absurd cc
     by j within false e = omega (arith, ints)
+
+-- and an open box has no empty column
+pub open_sides : (b : List (ℤ × ℤ)) → IsOpen b → list_any is_empty_side b ≡ false
+open_sides b open' = list_any_none is_empty_side b (All-from_get_or (λ s. is_empty_side s ≡ false) b (pos 0, pos 0) (λ j within. less_false (high_at b j) (low_at b j) (open' j within)))
 
 -- the box of columns within their limits is within the limits
 sides_small : (columns : List Column) → ((j : ℕ) (c : Column) → slice_get columns j ≡ Some c → IsColumn c) → (j : ℕ) → j < length columns

@@ -1,9 +1,8 @@
 -- A point has no breach exactly where it is feasible.
-use Rattle.std.specs.Prelude.{◌≡◌, ℕ, zero, suc, [], ◌∷◌, ◌<◌, ℤ, ◌≤ℤ◌, ◌||◌, List, length, slice_get, Bool, true, false, Option, Some, None, IfSome, All, if◌then◌else◌}
+use Rattle.std.specs.Prelude.{◌≡◌, ℕ, zero, suc, [], ◌∷◌, ◌<◌, ℤ, ◌≤ℤ◌, List, length, slice_get, Bool, true, false, Option, Some, None, IfSome, All, if◌then◌else◌}
 use Rattle.std.specs.Int.Signed.{lt_z}
 use Rattle.std.proofs.Common.{refl, arith}
 use Rattle.std.proofs.lemmas.List.{length-map}
-use Rattle.std.proofs.lemmas.Int.{ints}
 use Rattle.std.proofs.lemmas.List.Elements.{All-nil, All-cons, All-head, All-tail}
 use Rattle.ip_defs.specs.declared.programs.Row.{Row}
 use Rattle.ip_defs.specs.declared.programs.Column.{Column}
@@ -13,21 +12,13 @@ use Rattle.ip_defs.specs.declared.programs.Breach.TheVariants as Broken
 use Rattle.ip_defs.specs.Lists.{first}
 use Rattle.ip_defs.specs.Program.{IsFeasible, Meets, at, box_of, low_at, high_at, row_sum}
 use Rattle.ip_defs.specs.Breaches.{column_breach, is_below_side, is_above_side, row_breach, first_breach, BreachesAreExact}
-use Rattle.ip_defs.proofs.FirstLaws.{or_else-none, none_or_else, first-none, none_first}
+use Rattle.ip_defs.proofs.FirstLaws.{either_none, none_of_both, first-none, none_first}
+use Rattle.ip_defs.proofs.BoolLaws.{neither_true}
+use Rattle.ip_defs.proofs.OrderLaws.{less_false, not_less}
 
 none_of : (t : Bool) (x : Breach) → (if t then Some x else None) ≡ None → t ≡ false
 none_of true x e = absurd cc
 none_of false x e = refl
-
-or-false : (s t : Bool) → (s || t) ≡ false → (s ≡ false) × (t ≡ false)
-or-false true t e = absurd cc
-or-false false t e = (refl, e)
-
-not_less : (a b : ℤ) → lt_z a b ≡ false → b ≤ℤ a
-not_less a b e = omega (arith, ints)
-
-less_not : (a b : ℤ) → b ≤ℤ a → lt_z a b ≡ false
-less_not a b h = grind (arith, ints)
 
 low_side : (v : ℤ) (o : Option ℤ) → is_below_side v o ≡ false → IfSome o (λ side. side ≤ℤ v)
 low_side v None e = tt
@@ -39,16 +30,16 @@ high_side v (Some s) e = not_less s v e
 
 low_back : (v : ℤ) (o : Option ℤ) → IfSome o (λ side. side ≤ℤ v) → is_below_side v o ≡ false
 low_back v None h = refl
-low_back v (Some s) h = less_not v s h
+low_back v (Some s) h = less_false v s h
 
 high_back : (v : ℤ) (o : Option ℤ) → IfSome o (λ side. v ≤ℤ side) → is_above_side v o ≡ false
 high_back v None h = refl
-high_back v (Some s) h = less_not s v h
+high_back v (Some s) h = less_false s v h
 
 row_meets : (x : List ℤ) (i : ℕ) (r : Row) → row_breach x i (Some r) ≡ None → Meets x r
 row_meets x i r e =
     let v = row_sum r.coefs x in
-    let both = or-false (is_below_side v r.low) (is_above_side v r.high) (none_of _ (Broken.Row i) e) in
+    let both = neither_true (is_below_side v r.low) (is_above_side v r.high) (none_of _ (Broken.Row i) e) in
     record { low = low_side v r.low both.0; high = high_side v r.high both.1 }
 
 row_back : (x : List ℤ) (i : ℕ) (r : Row) → Meets x r → row_breach x i (Some r) ≡ None
@@ -56,9 +47,9 @@ row_back x i r h = rw (low_back (row_sum r.coefs x) r.low h.low, high_back (row_
 
 feasible_of : (m : Parts) (x : List ℤ) → length x ≡ length m.columns → first_breach m x ≡ None → IsFeasible m x
 feasible_of m x size e =
-    let both = or_else-none (first (column_breach (box_of m) x) (length m.columns)) (first (λ i. row_breach x i (slice_get m.rows i)) (length m.rows)) e in
+    let both = either_none (first (column_breach (box_of m) x) (length m.columns)) (first (λ i. row_breach x i (slice_get m.rows i)) (length m.rows)) e in
     let count : length (box_of m) ≡ length m.columns = length-map m.columns (λ (c : Column). (c.lo, c.hi)) in
-    let sides : (j : ℕ) → j < length (box_of m) → (lt_z (at x j) (low_at (box_of m) j) ≡ false) × (lt_z (high_at (box_of m) j) (at x j) ≡ false) = λ j l. or-false (lt_z (at x j) (low_at (box_of m) j)) (lt_z (high_at (box_of m) j) (at x j)) (none_of _ (Broken.Column j) (first-none (column_breach (box_of m) x) (length m.columns) both.0 j (omega arith))) in
+    let sides : (j : ℕ) → j < length (box_of m) → (lt_z (at x j) (low_at (box_of m) j) ≡ false) × (lt_z (high_at (box_of m) j) (at x j) ≡ false) = λ j l. neither_true (lt_z (at x j) (low_at (box_of m) j)) (lt_z (high_at (box_of m) j) (at x j)) (none_of _ (Broken.Column j) (first-none (column_breach (box_of m) x) (length m.columns) both.0 j (omega arith))) in
     record {
       within = record { size = omega arith; low = λ j l. not_less (at x j) (low_at (box_of m) j) (sides j l).0; high = λ j l. not_less (high_at (box_of m) j) (at x j) (sides j l).1 };
       rows = by m.rows (first-none (λ i. row_breach x i (slice_get m.rows i)) (length m.rows) both.1);
@@ -80,8 +71,8 @@ rows_back x (r ∷ rs) all (suc i) k = rows_back x rs (All-tail (Meets x) r rs a
 none_from : (m : Parts) (x : List ℤ) → IsFeasible m x → first_breach m x ≡ None
 none_from m x ok =
     let count : length (box_of m) ≡ length m.columns = length-map m.columns (λ (c : Column). (c.lo, c.hi)) in
-    none_or_else (first (column_breach (box_of m) x) (length m.columns)) (first (λ i. row_breach x i (slice_get m.rows i)) (length m.rows))
-    (none_first (column_breach (box_of m) x) (length m.columns) (λ j l. rw (less_not (at x j) (low_at (box_of m) j) (ok.within.low j (omega arith)), less_not (high_at (box_of m) j) (at x j) (ok.within.high j (omega arith))) refl))
+    none_of_both (first (column_breach (box_of m) x) (length m.columns)) (first (λ i. row_breach x i (slice_get m.rows i)) (length m.rows))
+    (none_first (column_breach (box_of m) x) (length m.columns) (λ j l. rw (less_false (at x j) (low_at (box_of m) j) (ok.within.low j (omega arith)), less_false (high_at (box_of m) j) (at x j) (ok.within.high j (omega arith))) refl))
     (none_first (λ i. row_breach x i (slice_get m.rows i)) (length m.rows) (λ i l. rows_back x m.rows ok.rows i i))
 
 pub breaches_are_exact : BreachesAreExact

@@ -18,6 +18,7 @@ use Rattle.ip_defs.specs.declared.programs.Parts.{Parts}
 use Rattle.ip_defs.specs.declared.certificates.Bound.TheVariants.{At, Infinite}
 use Rattle.ring_laws.proofs.Products.{add_mul, mul_add, sub_mul, mul_assoc, mul_up, mul_down}
 use Rattle.ip_defs.proofs.SumLaws.{sum_same, sum_le, sum_sub, sum_scale, exchange}
+use Rattle.ip_defs.proofs.OrderLaws.{less_false}
 
 -- a column adds at least the lesser of its two ends
 pub lesser_end : (d lo x hi : ℤ) → lo ≤ℤ x → x ≤ℤ hi → int_min (d *ℤ lo) (d *ℤ hi) ≤ℤ (d *ℤ x)
@@ -57,7 +58,7 @@ one_pays x (negsuc n) (Some r) v meets e = by r.high meets.high e
     by None m e = absurd cc
     by (Some l) m e = let is : negsuc n *ℤ l ≡ v = cc in subst (λ (z : ℤ). z ≤ℤ (negsuc n *ℤ row_sum r.coefs x)) is (mul_down n (row_sum r.coefs x) l m)
 
-meets_at : (rows : List Row) (x : List ℤ) (i : ℕ) → All (Meets x) rows → IfSome (slice_get rows i) (Meets x)
+pub meets_at : (rows : List Row) (x : List ℤ) (i : ℕ) → All (Meets x) rows → IfSome (slice_get rows i) (Meets x)
 meets_at rows x i all = by (slice_get rows i) refl
   where
     by : (found : Option Row) → slice_get rows i ≡ found → IfSome found (Meets x)
@@ -126,11 +127,8 @@ ceiling_below (negsuc a) (negsuc k) n h =
     let d : suc k ≤ suc a / suc n = le-div (suc k) (suc a) (suc n) (omega arith) (omega arith) in
     omega (arith, ints)
 
-not_below : (a b : ℤ) → b ≤ℤ a → lt_z a b ≡ false
-not_below a b h = grind (arith, ints)
-
 pub no_empty : (b : List (ℤ × ℤ)) (x : List ℤ) → IsIn b x → list_any is_empty_side b ≡ false
-no_empty b x inside = list_any_none is_empty_side b (All-from_get_or (λ s. is_empty_side s ≡ false) b (pos 0, pos 0) (λ j l. let low = inside.low j l in let high = inside.high j l in not_below (high_at b j) (low_at b j) (omega (arith, ints))))
+no_empty b x inside = list_any_none is_empty_side b (All-from_get_or (λ s. is_empty_side s ≡ false) b (pos 0, pos 0) (λ j l. let low = inside.low j l in let high = inside.high j l in less_false (high_at b j) (low_at b j) (omega (arith, ints))))
 
 -- the box sum is at most the cost
 pub box_sum_below : (m : Parts) (b : List (ℤ × ℤ)) (x : List ℤ) → All (Meets x) m.rows → IsIn b x → box_sum m b ≤ℤ cost m x

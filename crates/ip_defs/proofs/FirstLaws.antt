@@ -2,20 +2,21 @@
 use Rattle.std.specs.Prelude.{◌≡◌, ℕ, zero, suc, ◌<◌, ◌==◌, Bool, true, false, Option, Some, None}
 use Rattle.std.proofs.Common.{refl, arith, sym, subst}
 use Rattle.std.proofs.lemmas.Bool.{eqb-true, eqb-false}
-use Rattle.ip_defs.specs.Lists.{first, or_else}
+use Rattle.ip_defs.specs.Lists.{first}
+use Rattle.std.specs.Option.{option_or}
 
-pub or_else-none : {A : Type 0} (a b : Option A) → or_else a b ≡ None → (a ≡ None) × (b ≡ None)
-or_else-none None b e = (refl, e)
-or_else-none (Some x) b e = absurd cc
+pub either_none : {A : Type 0} (a b : Option A) → option_or a b ≡ None → (a ≡ None) × (b ≡ None)
+either_none None b e = (refl, e)
+either_none (Some x) b e = absurd cc
 
-pub none_or_else : {A : Type 0} (a b : Option A) → a ≡ None → b ≡ None → or_else a b ≡ None
-none_or_else None b e f = f
-none_or_else (Some x) b e f = absurd cc
+pub none_of_both : {A : Type 0} (a b : Option A) → a ≡ None → b ≡ None → option_or a b ≡ None
+none_of_both None b e f = f
+none_of_both (Some x) b e f = absurd cc
 
 -- nothing is answered
 pub first-none : {A : Type 0} (f : ℕ → Option A) (n : ℕ) → first f n ≡ None → (i : ℕ) → i < n → f i ≡ None
 first-none f zero e i l = absurd (omega arith)
-first-none f (suc n) e i l = by (or_else-none (first f n) (f n) e) (i == n) refl (λ p l. first-none f n p i l)
+first-none f (suc n) e i l = by (either_none (first f n) (f n) e) (i == n) refl (λ p l. first-none f n p i l)
   where
     by : (first f n ≡ None) × (f n ≡ None) → (t : Bool) → (i == n) ≡ t → (first f n ≡ None → i < n → f i ≡ None) → f i ≡ None
     by p true g rest = subst (λ (k : ℕ). f k ≡ None) (sym (eqb-true i n g)) p.1
@@ -23,4 +24,4 @@ first-none f (suc n) e i l = by (or_else-none (first f n) (f n) e) (i == n) refl
 
 pub none_first : {A : Type 0} (f : ℕ → Option A) (n : ℕ) → ((i : ℕ) → i < n → f i ≡ None) → first f n ≡ None
 none_first f zero h = refl
-none_first f (suc n) h = none_or_else (first f n) (f n) (none_first f n (λ i l. h i (omega arith))) (h n (omega arith))
+none_first f (suc n) h = none_of_both (first f n) (f n) (none_first f n (λ i l. h i (omega arith))) (h n (omega arith))

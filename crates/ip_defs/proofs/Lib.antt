@@ -1,3 +1,7 @@
+pub mod BoolLaws
+pub mod OrderLaws
+pub mod ListLaws
+pub mod TextLaws
 pub mod SumLaws
 pub mod BoxLaws
 pub mod DualityLaws

@@ -1,7 +1,8 @@
 -- The first side that a point breaks: columns before rows, each by number.
 use Rattle.std.specs.Prelude.{◌≡◌, ℕ, if◌then◌else◌, ◌||◌, List, length, slice_get, ℤ, Bool, false, Option, Some, None}
 use Rattle.std.specs.Int.Signed.{lt_z}
-use Rattle.ip_defs.specs.Lists.{first, or_else}
+use Rattle.ip_defs.specs.Lists.{first}
+use Rattle.std.specs.Option.{option_or}
 use Rattle.ip_defs.specs.Program.{IsFeasible, at, box_of, low_at, high_at, row_sum}
 use Rattle.ip_defs.specs.declared.programs.Row.{Row}
 use Rattle.ip_defs.specs.declared.programs.Parts.{Parts}
@@ -28,7 +29,7 @@ row_breach x i (Some r) = if is_below_side (row_sum r.coefs x) r.low || is_above
 
 -- the first broken column, else the first broken row
 abbrev pub first_breach : Parts → List ℤ → Option Breach
-first_breach m x = or_else (first (column_breach (box_of m) x) (length m.columns)) (first (λ i. row_breach x i (slice_get m.rows i)) (length m.rows))
+first_breach m x = option_or (first (column_breach (box_of m) x) (length m.columns)) (first (λ i. row_breach x i (slice_get m.rows i)) (length m.rows))
 
 -- there is no breach exactly where the point is feasible
 abbrev pub BreachesAreExact : Type 0

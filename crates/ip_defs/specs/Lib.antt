@@ -1,15 +1,7 @@
 pub mod Sums
+pub mod Lists
 pub mod Program
 pub mod Boxes
 pub mod Breaches
 pub mod Certificates
 pub mod Limits
-pub mod Lists
-pub mod Numbers
-pub mod Records
-pub mod TextModels
-pub mod Faults
-pub mod Texts
-pub mod Words
-pub mod Files
-pub mod Runs

@@ -1,12 +1,13 @@
--- Words on lists and options that the definitions of texts share.
-use Rattle.std.specs.Prelude.{ℕ, zero, suc, Bool, if◌then◌else◌, List, [], ◌∷◌, ◌++◌, Option, None, Some, bytes_eq}
-use Rattle.std.specs.List.{list_any}
+-- Words on lists and options: what holds of each element, the first element, and the answer at the least number.
+use Rattle.std.specs.Prelude.{ℕ, zero, suc, Bool, if◌then◌else◌, List, [], ◌∷◌, Option, None, Some}
+use Rattle.std.specs.Option.{option_or}
 
--- x where the test holds, and nothing else
-abbrev pub where_true : {A : Type 0} → Bool → A → Option A
-where_true test x = if test then Some x else None
+-- each element of a list is so
+abbrev pub Each : {A : Type 0} → (A → Type 0) → List A → Type 0
+Each P [] = Unit {0}
+Each P (x ∷ xs) = P x × Each P xs
 
--- the same as a list
+-- an element where a test holds, and nothing else
 abbrev pub when : {A : Type 0} → Bool → A → List A
 when test x = if test then x ∷ [] else []
 
@@ -14,40 +15,7 @@ abbrev pub first_of : {A : Type 0} → List A → Option A
 first_of [] = None
 first_of (x ∷ xs) = Some x
 
-abbrev pub last_of : {A : Type 0} → List A → Option A
-last_of [] = None
-last_of (x ∷ []) = Some x
-last_of (x ∷ y ∷ xs) = last_of (y ∷ xs)
-
--- each element of xs with those before it, where `before` stand before all
-abbrev pub after_those : {A : Type 0} → List A → List A → List (List A × A)
-after_those before [] = []
-after_those before (x ∷ xs) = (before, x) ∷ after_those (before ++ x ∷ []) xs
-
--- each element with those before it
-abbrev pub with_earlier : {A : Type 0} → List A → List (List A × A)
-with_earlier xs = after_those [] xs
-
--- a text is among others
-abbrev pub is_among : List ℕ → List (List ℕ) → Bool
-is_among name names = list_any (bytes_eq name) names
-
--- the least of the n numbers from i on that passes, and i + n where none does
-abbrev pub least_from : (ℕ → Bool) → ℕ → ℕ → ℕ
-least_from test i zero = i
-least_from test i (suc n) = let later = least_from test (suc i) n in if test i then i else later
-
--- up to the first one that passes, with it
-abbrev pub through_first : {A : Type 0} → (A → Bool) → List A → List A
-through_first test [] = []
-through_first test (x ∷ xs) = if test x then x ∷ [] else x ∷ through_first test xs
-
--- the first answer of two
-abbrev pub or_else : {A : Type 0} → Option A → Option A → Option A
-or_else None o = o
-or_else (Some x) o = Some x
-
 -- what f answers at the least number below n at which it answers
 abbrev pub first : {A : Type 0} → (ℕ → Option A) → ℕ → Option A
 first f zero = None
-first f (suc n) = or_else (first f n) (f n)
+first f (suc n) = option_or (first f n) (f n)

@@ -1,6 +1,8 @@
 -- Integer programs: points, rows, boxes, feasible points, costs, least points and values. Coefficients, costs and sides are whole
 -- numbers in their units; what is not written is 0.
-use Rattle.std.specs.Prelude.{◌≡◌, ℕ, ◌<◌, ◌==◌, if◌then◌else◌, List, [], ◌∷◌, length, map, All, Option, Some, None, IfSome, slice_index_or, ℤ, pos, ◌+ℤ◌, ◌*ℤ◌, ◌≤ℤ◌}
+use Rattle.std.specs.Prelude.{◌≡◌, ℕ, ◌<◌, ◌==◌, Bool, false, if◌then◌else◌, List, [], ◌∷◌, length, map, All, Option, Some, None, IfSome, slice_index_or, ℤ, pos, ◌+ℤ◌, ◌*ℤ◌, ◌≤ℤ◌}
+use Rattle.std.specs.Int.Signed.{lt_z}
+use Rattle.std.specs.Option.{option_map_or}
 use Rattle.ip_defs.specs.Sums.{sum_below}
 use Rattle.ip_defs.specs.declared.programs.Row.{Row}
 use Rattle.ip_defs.specs.declared.programs.Parts.{Parts}
@@ -22,6 +24,10 @@ row_sum coefs x = sum_below (λ j. coefficient coefs j *ℤ at x j) (length x)
 pub record Meets (x : List ℤ) (r : Row) : Type 0 where
   pub low : IfSome r.low (λ side. side ≤ℤ row_sum r.coefs x)
   pub high : IfSome r.high (λ side. row_sum r.coefs x ≤ℤ side)
+
+-- its low side is above its high side
+abbrev pub is_crossed : Row → Bool
+is_crossed r = option_map_or (λ low. option_map_or (λ high. lt_z high low) r.high false) r.low false
 
 -- the box of a program: the two sides of each column
 abbrev pub box_of : Parts → List (ℤ × ℤ)

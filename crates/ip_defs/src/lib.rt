@@ -10,8 +10,6 @@ mod listed;
 mod memory;
 mod names;
 mod programs;
-mod runs;
-mod texts;
 
 pub use certificates::{Bound, Cert, weak_duality};
 pub use limits::{Limit, What};
@@ -19,5 +17,3 @@ pub use listed::{Area, Coefs, ColumnList, Listed, Multipliers, Point, RowList};
 pub use memory::Memory;
 pub use names::Name;
 pub use programs::{Breach, Column, Parts, Row, breaches_are_exact};
-pub use runs::{Request, Status};
-pub use texts::{How, MpsError, Number, Side};

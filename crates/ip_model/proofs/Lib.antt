@@ -1,3 +1,4 @@
+pub mod AreaLaws
 pub mod LimitLaws
 pub mod PlaceLaws
 pub mod RowLaws

@@ -1,36 +1,18 @@
 -- A well shaped program that passes no limit is within the limits.
-use Rattle.std.specs.Prelude.{◌≡◌, ℕ, zero, suc, ◌+◌, ◌^◌, ◌<◌, ◌≤◌, nat_lt, Bool, true, false, ◌||◌, List, [], ◌∷◌, ◌++◌, length, flat_map, sum_by, slice_get, Option, Some, None, ℤ, pos}
+use Rattle.std.specs.Prelude.{◌≡◌, ℕ, zero, suc, ◌+◌, ◌^◌, ◌<◌, ◌≤◌, nat_lt, Bool, false, ◌||◌, List, [], ◌∷◌, ◌++◌, length, flat_map, sum_by, slice_get, Option, Some, None, ℤ, pos}
 use Rattle.std.specs.Int.RustNames.{unsigned_abs}
 use Rattle.std.specs.List.{enumerate_from, list_any}
 use Rattle.std.specs.Option.{ForSome, option_map_or}
-use Rattle.std.proofs.Common.{refl, arith, ap, sym, ◌∙◌, get_or, subst}
+use Rattle.std.proofs.Common.{arith, ap, sym, ◌∙◌, get_or, subst}
 use Rattle.std.proofs.lemmas.Bool.{ltb-false}
-use Rattle.ip_defs.specs.Lists.{when, first_of}
 use Rattle.ip_defs.specs.Limits.{above, limit_at, is_long, column_limits, row_limits, limits_of, value_at, IsWellShaped, IsColumn, IsRow, IsWithinLimits}
 use Rattle.ip_defs.specs.declared.programs.Column.{Column}
 use Rattle.ip_defs.specs.declared.programs.Row.{Row}
 use Rattle.ip_defs.specs.declared.programs.Parts.{Parts}
 use Rattle.ip_defs.specs.declared.limits.What.{What}
 use Rattle.ip_defs.specs.declared.limits.What.TheVariants.{Columns, Rows, Entries, Name, Cost, Lower, Upper, RowName, Coef, Side, Objective, Constant}
-
--- a list without a first element is empty
-pub no_first : {A : Type 0} (xs : List A) → first_of xs ≡ None → xs ≡ []
-no_first [] e = refl
-no_first (x ∷ xs) e = absurd cc
-
--- both parts of an empty list are empty
-none_append : {A : Type 0} (xs ys : List A) → xs ++ ys ≡ [] → (xs ≡ []) × (ys ≡ [])
-none_append [] ys e = (refl, e)
-none_append (x ∷ xs) ys e = absurd cc
-
--- a test that adds nothing is false
-none_when : {A : Type 0} (t : Bool) (x : A) → when t x ≡ [] → t ≡ false
-none_when true x e = absurd cc
-none_when false x e = refl
-
-none_or : (s t : Bool) → (s || t) ≡ false → (s ≡ false) × (t ≡ false)
-none_or true t e = absurd cc
-none_or false t e = (refl, e)
+use Rattle.ip_defs.proofs.BoolLaws.{neither_true}
+use Rattle.ip_defs.proofs.ListLaws.{none_append, none_when}
 
 -- a count is at most its limit
 at_most : (most n : ℕ) (what : What) (i : ℕ) → limit_at (nat_lt most n) what i ≡ [] → n ≤ most
@@ -52,8 +34,8 @@ none_at f (y ∷ ys) n e (suc i) x g =
 -- what no element passes is not passed at a place
 none_passes : {A : Type 0} (p : A → Bool) (xs : List A) (d : A) → list_any p xs ≡ false → (i : ℕ) → i < length xs → p (get_or xs i d) ≡ false
 none_passes p [] d e i l = absurd (omega arith)
-none_passes p (x ∷ xs) d e zero l = (none_or (p x) (list_any p xs) e).0
-none_passes p (x ∷ xs) d e (suc i) l = none_passes p xs d (none_or (p x) (list_any p xs) e).1 i (omega arith)
+none_passes p (x ∷ xs) d e zero l = (neither_true (p x) (list_any p xs) e).0
+none_passes p (x ∷ xs) d e (suc i) l = none_passes p xs d (neither_true (p x) (list_any p xs) e).1 i (omega arith)
 
 column_within : (j : ℕ) (c : Column) → column_limits (j, c) ≡ [] → IsColumn c
 column_within j c e =
@@ -77,7 +59,7 @@ row_within i r e =
     let sides_pass = option_map_or (above (2 ^ 62)) r.low false || option_map_or (above (2 ^ 62)) r.high false in
     let side = none_append (limit_at (is_long r.name) RowName i ++ limit_at coefs_pass Coef i) (limit_at sides_pass Side i) e in
     let first = none_append (limit_at (is_long r.name) RowName i) (limit_at coefs_pass Coef i) side.0 in
-    let sides = none_or (option_map_or (above (2 ^ 62)) r.low false) (option_map_or (above (2 ^ 62)) r.high false) (none_when sides_pass (record { what = Side; index = i }) side.1) in
+    let sides = neither_true (option_map_or (above (2 ^ 62)) r.low false) (option_map_or (above (2 ^ 62)) r.high false) (none_when sides_pass (record { what = Side; index = i }) side.1) in
     let coefs = none_when coefs_pass (record { what = Coef; index = i }) first.1 in
     record {
       name = at_most 255 (length r.name) RowName i first.0;

@@ -1,5 +1,8 @@
 -- A row's value from its coefficients alone, one at a time.
-use Rattle.std.specs.Prelude.{◌≡◌, ◌≢◌, ℕ, zero, suc, ◌+◌, ◌<◌, ◌≤◌, ◌==◌, Bool, true, false, cond, List, [], ◌∷◌, ◌++◌, length, take, nat_lt, ℤ, pos, ◌+ℤ◌, ◌*ℤ◌}
+use Rattle.std.specs.Prelude.{◌≡◌, ◌≢◌, ℕ, zero, suc, ◌+◌, ◌<◌, ◌≤◌, ◌==◌, Bool, true, false, cond, List, [], ◌∷◌, ◌++◌, length, take, nat_lt, ℤ, pos, ◌+ℤ◌, ◌*ℤ◌, ◌^◌}
+use Rattle.std.specs.Int.{w64}
+use Rattle.std.specs.Int.RustNames.{unsigned_abs}
+use mir.Val.{SFits}
 use Rattle.std.proofs.Common.{arith, refl, ap, ◌∙◌, get_or}
 use Rattle.std.proofs.lemmas.Bool.{eqb-true, eqb-false, ltb-true, ltb-false}
 use Rattle.std.proofs.lemmas.Int.{ints}
@@ -86,3 +89,7 @@ place_below ps (suc i) rising l =
     let before = place_below ps i rising (omega arith) in
     let more = rising i (suc i) (omega arith) l in
     omega arith
+
+-- a number within the limit of a coefficient fits a word
+pub small_fits : (z : ℤ) → unsigned_abs z ≤ 2 ^ 40 → SFits w64 z
+small_fits z h = omega (arith, ints)

@@ -1,2 +1,2 @@
-pub mod LimitGroups
 pub mod Sizes
+pub mod Internal

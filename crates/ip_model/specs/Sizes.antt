@@ -4,7 +4,7 @@ use Rattle.std.specs.Int.{int_gap}
 use Rattle.std.specs.List.{list_any}
 use Rattle.ip_defs.specs.Program.{box_of}
 use Rattle.ip_defs.specs.Certificates.{is_empty_side}
-use Rattle.ip_defs.specs.Texts.{is_crossed}
+use Rattle.ip_defs.specs.Program.{is_crossed}
 use Rattle.ip_defs.specs.declared.programs.Parts.{Parts}
 
 -- how far the second side is above the first

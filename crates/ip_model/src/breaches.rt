@@ -1,3 +1,4 @@
+//! The first breach of a point: a column or a row that it does not meet.
 ghost use Rattle.std.specs.Prelude.{◌≡◌, ◌^◌, ◌≤◌, ◌↔◌, ◌||◌, if◌then◌else◌, IsNone, length, slice_get};
 ghost use Rattle.std.specs.Int.Signed.{lt_z};
 ghost use Rattle.ip_defs.specs.Lists.{first};

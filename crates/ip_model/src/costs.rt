@@ -1,3 +1,4 @@
+//! What a point costs.
 ghost use Rattle.std.specs.Prelude.{◌≡◌, length};
 ghost use Rattle.ip_defs.specs.Limits.{IsWithinLimits};
 ghost use Rattle.ip_defs.specs.Program.{cost as cost_of};

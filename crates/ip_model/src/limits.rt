@@ -1,9 +1,10 @@
+//! The first limit that the parts of a program exceed.
 ghost use Rattle.std.specs.Prelude.{◌≡◌, ◌^◌, ◌≤◌, false, length, flat_map, nat_lt, sum_by};
 ghost use Rattle.std.specs.List.{enumerate_from, list_any};
 ghost use Rattle.std.specs.Option.{option_map_or};
 ghost use Rattle.ip_defs.specs.Lists.{first_of};
 ghost use Rattle.ip_defs.specs.Limits.{above, is_long, column_limits, row_limits, limits_of};
-ghost use Rattle.ip_model.specs.LimitGroups.{count_limits, own_limits};
+ghost use Rattle.ip_model.specs.Internal.LimitGroups.{count_limits, own_limits};
 
 use ip_defs::{Column, Limit, Name, Parts, Row, What};
 

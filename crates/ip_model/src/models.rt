@@ -1,3 +1,4 @@
+//! The model: a program within its limits.
 ghost use Rattle.std.specs.Prelude.{◌≡◌, [], IfOk, IfErr, Some};
 ghost use Rattle.ip_defs.specs.Lists.{first_of};
 ghost use Rattle.ip_defs.specs.Limits.{IsWellShaped, IsWithinLimits, limits_of};

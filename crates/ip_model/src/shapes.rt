@@ -1,3 +1,4 @@
+//! Whether the parts of a program are well shaped.
 ghost use Rattle.std.specs.Prelude.{◌↔◌, IsTrue, length};
 ghost use Rattle.ip_defs.specs.Limits.{AreOrdered, IsRowShaped, IsWellShaped};
 

@@ -1,7 +1,8 @@
+//! How large the box of a model is, and the first row whose sides are crossed.
 ghost use Rattle.std.specs.Prelude.{◌≡◌, ◌^◌, ◌≤◌, ◌↔◌, IsNone, IfSome, IsTrue, position};
 ghost use Rattle.std.specs.Int.Signed.{lt_z};
 ghost use Rattle.ip_defs.specs.Limits.{IsColumn};
-ghost use Rattle.ip_defs.specs.Texts.{is_crossed};
+ghost use Rattle.ip_defs.specs.Program.{is_crossed};
 ghost use Rattle.ip_model.specs.Sizes.{width_of, width_sum as width_sum_of, first_crossed, allowance as allowance_of};
 
 use crate::models::IntModel;

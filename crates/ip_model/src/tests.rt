@@ -1,3 +1,4 @@
+//! Points that are judged, boxes that are halved, and programs that are refused.
 use crate::*;
 use ip_defs::{Coefs, ColumnList, RowList};
 use std::alloc::Global;
@@ -108,6 +109,41 @@ fn judged(model: &IntModel, point: &Point) -> Option<(Option<Breach>, i128)> {
         return None;
     }
     Some((first_breach(model, point), cost(model, point)))
+}
+
+/// A column of the box of a model below a cut and above it: whether it is open there, and its sides.
+fn halves(
+    alloc: Global,
+    model: &IntModel,
+    j: usize,
+    cut: i16,
+) -> Result<Option<((bool, (i64, i64)), (bool, (i64, i64)))>, Fail> {
+    let mut lower = box_of(alloc, model)?;
+    let mut upper = box_of(alloc, model)?;
+    if lower.as_slice().len() <= j || upper.as_slice().len() <= j {
+        return Ok(None);
+    }
+    let lower_open = cut_below(&mut lower, j, i64::from(cut));
+    let upper_open = cut_above(&mut upper, j, i64::from(cut));
+    match (lower.as_slice().get(j), upper.as_slice().get(j)) {
+        (Some(below), Some(above)) => Ok(Some(((lower_open, *below), (upper_open, *above)))),
+        _ => Ok(None),
+    }
+}
+
+#[test]
+fn halves_of_a_box(rt: HostRuntime) -> Result<(), Fail> {
+    let model = built(three_rows(rt.alloc())?)?;
+    let cases = [
+        (4, (true, (0, 4)), (true, (5, 10))),
+        (10, (true, (0, 10)), (false, (11, 10))),
+        (-1, (false, (0, -1)), (true, (0, 10))),
+    ];
+    for (cut, below, above) in &cases {
+        let halves = halves(rt.alloc(), &model, 2, *cut)?;
+        assert_eq!(rt; halves, Some((*below, *above)), "at {cut}");
+    }
+    Ok(())
 }
 
 #[test]

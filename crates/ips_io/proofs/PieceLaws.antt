@@ -3,7 +3,7 @@ use Rattle.std.proofs.Common.{◌≡◌, ℕ, ◌+◌, ◌<◌, ◌≤◌, List,
 use Rattle.std.proofs.lemmas.List.{take-append-drop, append-nil, length-take, length-take-le, take_all}
 use Rattle.std.proofs.Math.Seq.{take-add}
 use Rattle.std.specs.Option.{ForSome}
-use Rattle.ip_defs.specs.Files.{Files, file_of, Takes}
+use Rattle.ips_io.specs.Files.{Files, file_of, Takes}
 use Rattle.ips_io.specs.Shelves.{Moves, IsWhole, IsTooLong}
 
 -- what follows place i, as a range to the end of the text

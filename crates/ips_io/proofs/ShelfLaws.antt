@@ -2,19 +2,12 @@
 use Rattle.std.proofs.Common.{◌≡◌, ℕ, ◌+◌, ◌-◌, min, ◌≤◌, Bool, true, false, List, [], ◌∷◌, ◌++◌, take, drop, length, Some, bytes_eq, refl, sym, ap, ◌∙◌, arith, length-drop}
 use Rattle.std.proofs.lemmas.List.{drop-drop, drop-take, take-take, take_at, length-take-le}
 use Rattle.std.proofs.lemmas.Slice.Eq.{bytes_eq-Decides}
-use Rattle.ip_defs.specs.Files.{Files, file_of}
+use Rattle.ips_io.specs.Files.{Files, file_of}
 use Rattle.ips_io.specs.Places.{part_of}
 use Rattle.ips_io.specs.Shelves.{Moved}
 use Rattle.ips_io.specs.Tables.{with_file}
 use Rattle.ips_io.specs.declared.places.Part.{Part}
-
--- a text equals itself
-same_text : (a : List ℕ) → bytes_eq a a ≡ true
-same_text a = (bytes_eq-Decides a a).1 refl
-
--- equal bytes are one text
-one_text : (a b : List ℕ) → bytes_eq a b ≡ true → a ≡ b
-one_text a b e = (bytes_eq-Decides a b).0 e
+use Rattle.ip_defs.proofs.TextLaws.{text_self, text_same}
 
 -- a text that equals one of two different texts is not the other
 other_text : (f name other : List ℕ) → bytes_eq f name ≡ true → bytes_eq other name ≡ false → bytes_eq f other ≡ false
@@ -22,13 +15,13 @@ other_text f name other same differs = by (bytes_eq f other) refl where
   by : (t : Bool) → bytes_eq f other ≡ t → bytes_eq f other ≡ false
   by false e = e
   by true e =
-      let one : other ≡ name = sym (one_text f other e) ∙ one_text f name same in
+      let one : other ≡ name = sym (text_same f other e) ∙ text_same f name same in
       let both = (bytes_eq-Decides other name).1 one in
       cc
 
 -- the file that was put
 pub put_file : (fs : Files) (name bytes : List ℕ) → file_of (with_file fs name bytes) name ≡ Some bytes
-put_file [] name bytes = rw (same_text name) refl
+put_file [] name bytes = rw (text_self name) refl
 put_file (f ∷ fs) name bytes = by (put_file fs name bytes) (bytes_eq f.0 name) refl where
   by : file_of (with_file fs name bytes) name ≡ Some bytes → (t : Bool) → bytes_eq f.0 name ≡ t → file_of (with_file (f ∷ fs) name bytes) name ≡ Some bytes
   by rest true e = rw (e, e) refl
@@ -36,7 +29,7 @@ put_file (f ∷ fs) name bytes = by (put_file fs name bytes) (bytes_eq f.0 name)
 
 -- the others, which stay
 pub put_others : (fs : Files) (name bytes other : List ℕ) → bytes_eq other name ≡ false → file_of (with_file fs name bytes) other ≡ file_of fs other
-put_others [] name bytes other differs = rw (other_text name name other (same_text name) differs) refl
+put_others [] name bytes other differs = rw (other_text name name other (text_self name) differs) refl
 put_others (f ∷ fs) name bytes other differs = by (put_others fs name bytes other differs) (bytes_eq f.0 name) (bytes_eq f.0 other) refl refl where
   by : file_of (with_file fs name bytes) other ≡ file_of fs other → (t u : Bool) → bytes_eq f.0 name ≡ t → bytes_eq f.0 other ≡ u → file_of (with_file (f ∷ fs) name bytes) other ≡ file_of (f ∷ fs) other
   by rest true u e d = let gone = other_text f.0 name other e differs in rw (e, gone) refl

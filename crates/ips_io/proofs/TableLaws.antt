@@ -4,12 +4,13 @@ use Rattle.std.proofs.lemmas.List.Sums.{sum_by-cons, sum_by-append}
 use Rattle.std.proofs.lemmas.List.{drop-drop, length-take-le, take-append-drop}
 use Rattle.std.proofs.Math.Seq.{take-add, take-append_seam, drop-append_seam, take-length}
 use Rattle.std.specs.Bool.{OnTrue, OnFalse, IsTrue}
-use Rattle.ip_defs.specs.Files.{Files, file_of}
+use Rattle.ips_io.specs.Files.{Files, file_of}
 use Rattle.ips_io.specs.Places.{both, total, place_of, shifted, part_of, edited, files_of, resized}
 use Rattle.ips_io.specs.Tables.{with_file, size_of}
 use Rattle.ips_io.specs.declared.places.Lengths.{Lengths}
 use Rattle.ips_io.specs.declared.places.Place.{Place}
 use Rattle.ips_io.specs.declared.places.Part.{Part}
+use Rattle.ip_defs.proofs.ListLaws.{unmapped}
 
 -- three texts in a row, taken apart by the lengths of the first and the second
 pub record Apart (a m d : List ℕ) (n c : ℕ) : Type 0 where
@@ -139,11 +140,6 @@ placed_later l ls b name new p within other later =
 mapped : {A B : Type 0} (f : A → B) (o : Option A) (y : B) → option_map f o ≡ Some y → (x : A) × (o ≡ Some x) × (f x ≡ y)
 mapped f None y e = cc
 mapped f (Some x) y e = (x, refl, cc)
-
--- an option is none that was mapped to none
-unmapped : {A B : Type 0} (f : A → B) (o : Option A) → option_map f o ≡ None → o ≡ None
-unmapped f None e = refl
-unmapped f (Some x) e = cc
 
 -- a change of a content at the place of its name is what the table owes
 pub placed : (ls : List Lengths) (b name new : List ℕ) (p : Place) → total ls ≤ length b → place_of ls b name ≡ Some p → Placed ls b name new p

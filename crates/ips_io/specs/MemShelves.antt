@@ -1,7 +1,7 @@
 -- What a shelf in memory is seen as, and what its calls make of it.
 use Rattle.std.specs.Prelude.{ℕ, List, drop, option_map, Option, None, if◌then◌else◌}
 use Rattle.std.specs.Option.{option_map_or}
-use Rattle.ip_defs.specs.Files.{Files, file_of}
+use Rattle.ips_io.specs.Files.{Files, file_of}
 use Rattle.ips_io.specs.Causes.{counted}
 use Rattle.ips_io.specs.Plans.{Calls, is_due, after_call}
 use Rattle.ips_io.specs.Tables.{with_file}

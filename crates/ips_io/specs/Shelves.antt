@@ -1,7 +1,7 @@
 -- What the calls of a shelf say of its table of files and of the bytes that the begun file has still to give.
 use Rattle.std.specs.Prelude.{◌≡◌, ◌↔◌, ℕ, ◌<◌, List, [], take, drop, length, Option, Some, None}
 use Rattle.std.specs.Option.{ForSome}
-use Rattle.ip_defs.specs.Files.{Files, file_of}
+use Rattle.ips_io.specs.Files.{Files, file_of}
 
 -- the table, where it is told after the call, is as before, and all of the named file is left
 abbrev pub Begins : Option Files → Option Files → Option (List ℕ) → List ℕ → Type 0

@@ -1,6 +1,6 @@
 -- A table of files within a room.
 use Rattle.std.specs.Prelude.{ℕ, ◌+◌, ◌≤◌, List, [], ◌∷◌, length, sum_by, bytes_eq, if◌then◌else◌}
-use Rattle.ip_defs.specs.Files.{Files}
+use Rattle.ips_io.specs.Files.{Files}
 
 -- the files, the buffer in which they stand, the most files, and the most bytes of names and contents together
 pub record TableState : Type 0 where

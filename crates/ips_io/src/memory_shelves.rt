@@ -1,7 +1,7 @@
 ghost use Rattle.std.specs.Prelude.{◌≡◌, ◌↔◌, ◌<◌, ◌≤◌, ◌++◌, ◌∷◌, [], length, min, is_ok, is_some, true, false, Some, None, option_copied, IfOk, OnOk, OnErr, IsOk, IsSome, IsTrue, MatchResult};
 ghost use Rattle.std.specs.Bool.{OnTrue, OnFalse};
 ghost use Rattle.std.specs.Option.{ForSome};
-ghost use Rattle.ip_defs.specs.Files.{file_of, Keeps, KeepsOthers};
+ghost use Rattle.ips_io.specs.Files.{file_of, Keeps, KeepsOthers};
 ghost use Rattle.ips_io.specs.Causes.{HasCause};
 ghost use Rattle.ips_io.specs.Plans.{is_due};
 ghost use Rattle.ips_io.specs.Shelves.{Begins, IsUntold, IsWhole, Moves};

@@ -1,6 +1,6 @@
 ghost use Rattle.std.specs.Prelude.{◌≡◌, ◌↔◌, ◌<◌, ◌≤◌, ◌++◌, ◌∷◌, [], length, take, IfOk, OnErr, IsTrue, IsOk, Some, false};
 ghost use Rattle.std.specs.Bool.{OnTrue, OnFalse};
-ghost use Rattle.ip_defs.specs.Files.{Takes};
+ghost use Rattle.ips_io.specs.Files.{Takes};
 ghost use Rattle.ips_io.specs.Causes.{HasCause};
 ghost use Rattle.ips_io.specs.MemSinks.{after_write, refuses, taken_at_once};
 

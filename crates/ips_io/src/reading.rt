@@ -1,5 +1,5 @@
 ghost use Rattle.std.specs.Prelude.{◌≡◌, ◌≤◌, IfOk, vec_len};
-ghost use Rattle.ip_defs.specs.Files.{Keeps};
+ghost use Rattle.ips_io.specs.Files.{Keeps};
 ghost use Rattle.ips_io.specs.Causes.{Rose};
 ghost use Rattle.ips_io.specs.Shelves.{IsTooLong, IsUntold, IsWhole};
 

@@ -1,5 +1,5 @@
 ghost use Rattle.std.specs.Prelude.{◌≡◌, ◌<◌, ◌≤◌, ℕ, Bool, List, Option, true, false, is_ok, length, IfOk, OnOk, OnErr};
-ghost use Rattle.ip_defs.specs.Files.{Files, Keeps, KeepsOthers};
+ghost use Rattle.ips_io.specs.Files.{Files, Keeps, KeepsOthers};
 ghost use Rattle.ips_io.specs.Causes.{HasCause};
 ghost use Rattle.ips_io.specs.Shelves.{Begins, IsUntold, IsWhole, Moves};
 

@@ -1,5 +1,5 @@
 ghost use Rattle.std.specs.Prelude.{◌≡◌, ◌<◌, ◌≤◌, ℕ, List, Option, length, take, IfOk, OnErr};
-ghost use Rattle.ip_defs.specs.Files.{Takes};
+ghost use Rattle.ips_io.specs.Files.{Takes};
 ghost use Rattle.ips_io.specs.Causes.{HasCause};
 
 use crate::Failed;

@@ -1,6 +1,6 @@
 ghost use Rattle.std.specs.Prelude.{◌≡◌, ◌↔◌, ◌+◌, ◌≤◌, [], length, option_map, IfOk, IfSome, IsTrue};
 ghost use Rattle.std.specs.Bool.{OnTrue, OnFalse};
-ghost use Rattle.ip_defs.specs.Files.{file_of};
+ghost use Rattle.ips_io.specs.Files.{file_of};
 ghost use Rattle.ips_io.specs.Places.{part_of};
 ghost use Rattle.ips_io.specs.Tables.{with_file, IsWithinRoom};
 

@@ -1,162 +1,36 @@
 -- What the outside of a call shows, from what reading, answering and writing say.
-use Rattle.std.specs.Prelude.{◌≡◌, ◌⊎◌, ℕ, ◌+◌, ◌<◌, ◌≤◌, nat_lt, Bool, true, false, List, [], ◌∷◌, length, replicate, Option, Some, None, bytes_eq, codes, refl}
-use Rattle.std.proofs.Common.{arith, ap, sym, ◌∙◌, subst, inl, inr}
-use Rattle.std.proofs.lemmas.Bool.Decides.{nat_tests}
-use Rattle.std.proofs.lemmas.List.{length-replicate}
-use Rattle.std.proofs.lemmas.Slice.Eq.{bytes_eq-Decides}
-use Rattle.ip_defs.specs.Files.{Files, file_of, Keeps, Takes, Agrees}
-use Rattle.ip_defs.specs.Runs.{Answer, Outside, says, refuses_model, longest_model, AnswersModel, AnswersRequest, IsRunOf, IsAnswered, IsCutOff, RunMeets}
-use Rattle.ip_defs.specs.Texts.{refused_model}
-use Rattle.ip_defs.specs.Words.{Word, request_of, usage_text}
-use Rattle.ip_defs.specs.declared.runs.Request.{Request}
-use Rattle.ip_defs.specs.declared.runs.Request.TheVariants.{Solve, Show}
-use Rattle.ip_defs.specs.declared.runs.Status.{Status}
-use Rattle.ip_defs.specs.declared.runs.Status.TheVariants.{Answered, NotProved, Usage, Refused, Budget, Wide, ReadFault, WriteFault, Memory}
-use Rattle.ips_io.specs.Shelves.{IsTooLong, IsUntold, IsWhole}
+use Rattle.std.specs.declared.alloc.Global.{Global}
+use Rattle.std.specs.Prelude.{◌≡◌, ◌⊎◌, ℕ, ◌<◌, ◌≤◌, nat_lt, Bool, true, false, List, [], ◌∷◌, length, Vec, Option, Some, None, Result, Ok, Err, IfOk, codes}
 use Rattle.std.specs.Option.{MatchOption}
 use Rattle.std.specs.Bool.{MatchBool}
-use Rattle.ip_defs.specs.Faults.{IsFirst, mps_fault, model_of}
-use Rattle.ip_defs.specs.declared.texts.MpsError.TheVariants as Out
-use Rattle.ip_defs.specs.Runs.{how_of}
-use Rattle.ip_defs.specs.Texts.{canonical_text, is_printable, refusal_text}
+use Rattle.std.proofs.Common.{refl, arith, ap, sym, ◌∙◌, subst, inl, inr}
+use Rattle.std.proofs.lemmas.Bool.Decides.{nat_tests}
 use Rattle.ip_defs.specs.declared.programs.Parts.{Parts}
-use Rattle.ip_defs.specs.declared.texts.MpsError.{MpsError}
-use Rattle.branching.specs.declared.outcomes.Outcome.{Outcome}
-use Rattle.branching.specs.declared.outcomes.Outcome.TheVariants.{Best, Empty, Budget as Stop}
-use Rattle.ipsens_core.specs.Answers.{IsAnswerTo, IsAnswerWith, outcome_answer}
-use Rattle.ipsens_core.specs.Outcomes.{Writes, model_of_request, shows}
+use Rattle.ips_io.specs.Causes.{Rose}
+use Rattle.ips_io.specs.Files.{Files, Keeps, Takes}
+use Rattle.ips_words.specs.Commands.{Word, request_of}
+use Rattle.ips_words.specs.Requests.{usage_text}
+use Rattle.ips_words.specs.declared.requests.Request.{Request}
+use Rattle.mps_defs.specs.Faults.{IsFirst, mps_fault, model_of}
+use Rattle.mps_defs.specs.declared.texts.How.{How}
+use Rattle.mps_defs.specs.declared.texts.MpsError.{MpsError}
+use Rattle.mps_defs.specs.declared.texts.MpsError.TheVariants as Out
+use Rattle.ipsens_core.specs.Answers.{Answer, says, ReadsNoMore}
+use Rattle.ipsens_core.specs.Models.{ReadsModel, longest_model, refuses_model}
+use Rattle.ipsens_core.specs.Reads.{Reads, Agrees}
+use Rattle.ipsens_core.specs.RefusalTexts.{refusal_text, refused_model}
+use Rattle.ipsens_core.specs.Runs.{Outside, shows, IsOwed, IsAnswered, IsCutOff, IsRunOf, RunMeets, AnswersRequest}
+use Rattle.ipsens_core.specs.Internal.Made.{IsWritten, IsMade, IsModelRead, IsModelText, IsModelFile, IsFileRefused, IsRefusalOf, IsWithoutModel}
+use Rattle.ipsens_core.specs.Internal.Writes.{Writes, IsSent}
+use Rattle.ipsens_core.specs.declared.answers.Stop.{Stop}
+use Rattle.ipsens_core.specs.declared.answers.Stop.TheVariants as Stops
+use Rattle.ipsens_core.specs.declared.models.NoModel.{NoModel}
+use Rattle.ipsens_core.specs.declared.models.NoModel.TheVariants as No
+use Rattle.ipsens_core.specs.declared.statuses.Status.{Status}
+use Rattle.ipsens_core.specs.declared.statuses.Status.TheVariants.{Answered, NotProved, Usage, Refused, Budget, Wide, ReadFault, WriteFault, Memory}
+use Rattle.ipsens_core.proofs.ReadLaws.{none_read, HasLongFile}
 
--- ---- tables of files
-
-same_bytes : (bs : List ℕ) → bytes_eq bs bs ≡ true
-same_bytes bs = (bytes_eq-Decides bs bs).1 refl
-
-equal_bytes : (bs cs : List ℕ) → bytes_eq bs cs ≡ true → bs ≡ cs
-equal_bytes bs cs e = (bytes_eq-Decides bs cs).0 e
-
--- a table that agrees with what is told, and has a file of the name with these bytes
-pub record HasTable (before after : Option Files) (name bytes : List ℕ) : Type 0 where
-  pub fs : Files
-  pub agrees : Agrees before after fs
-  pub file : file_of fs name ≡ Some bytes
-
--- the first file of a table with one more in front
-first_file : (t : Files) (name bytes : List ℕ) → file_of ((name, bytes) ∷ t) name ≡ Some bytes
-first_file t name bytes = rw (same_bytes name) refl
-
-later_file : (t : Files) (name bytes other found : List ℕ) → file_of t name ≡ None → file_of t other ≡ Some found → file_of ((name, bytes) ∷ t) other ≡ Some found
-later_file t name bytes other found none some = by (bytes_eq name other) refl
-  where
-    by : (b : Bool) → bytes_eq name other ≡ b → file_of ((name, bytes) ∷ t) other ≡ Some found
-    by true e = let same = equal_bytes name other e in let both : None ≡ Some found = sym none ∙ ap (file_of t) same ∙ some in absurd cc
-    by false e = rw e some
-
-pub table_for : (before after : Option Files) (name bytes : List ℕ) → Keeps before after → IsUntold before after name → IsWhole after name bytes → HasTable before after name bytes
-table_for before (Some t) name bytes keeps untold whole = record {
-  fs = t;
-  agrees = record {
-    told = λ u is other found some. let both : Some t ≡ Some u = sym (keeps t refl) ∙ is in let same : t ≡ u = cc in rw same some;
-    whole = λ u is h. let both : Some t ≡ Some u = sym (keeps t refl) ∙ is in let same : t ≡ u = cc in same;
-  };
-  file = whole t refl;
-}
-table_for None None name bytes keeps untold whole = record {
-  fs = (name, bytes) ∷ [];
-  agrees = record { told = λ u is. absurd (cc is); whole = λ u is. absurd (cc is) };
-  file = first_file [] name bytes;
-}
-table_for (Some t) None name bytes keeps untold whole = record {
-  fs = (name, bytes) ∷ t;
-  agrees = record {
-    told = λ u is other found some. let same : t ≡ u = cc in later_file t name bytes other found (untold t refl refl) (rw same some);
-    whole = λ u is h. absurd (cc h);
-  };
-  file = first_file t name bytes;
-}
-
--- the same for a file that is too long
-pub record HasLongTable (before after : Option Files) (name : List ℕ) (most : ℕ) : Type 0 where
-  pub bytes : List ℕ
-  pub long : most < length bytes
-  pub table : HasTable before after name bytes
-
-longer : (n : ℕ) → n < length {A = ℕ} (replicate (n + 1) 0)
-longer n = let e : length {A = ℕ} (replicate (n + 1) 0) ≡ n + 1 = length-replicate (n + 1) 0 in rw e (omega arith)
-
-pub long_table_for : (before after : Option Files) (name : List ℕ) (most : ℕ) → Keeps before after → IsUntold before after name → IsTooLong after name most → HasLongTable before after name most
-long_table_for before (Some t) name most keeps untold long =
-    let p = long t refl in
-    record { bytes = p.0; long = p.2; table = table_for before (Some t) name p.0 keeps untold (λ u is. let same : t ≡ u = cc in subst (λ (v : Files). file_of v name ≡ Some p.0) same p.1) }
-long_table_for before None name most keeps untold long =
-    record { bytes = replicate (most + 1) 0; long = longer most; table = table_for before None name (replicate (most + 1) 0) keeps untold (λ u is. absurd (cc is)) }
-
--- the files of a call that touches none
-pub untouched : (before : Option Files) → (fs : Files) × Agrees before before fs
-untouched None = ([], record { told = λ u is. absurd (cc is); whole = λ u is. absurd (cc is) })
-untouched (Some t) = (t, record { told = λ u is other found some. let same : t ≡ u = cc in rw same some; whole = λ u is h. let same : t ≡ u = cc in same })
-
--- ---- written texts
-
--- statuses whose text is written
-abbrev pub IsTold : Status → Type 0
-IsTold status = (status ≡ Answered) ⊎ ((status ≡ Refused) ⊎ ((status ≡ Usage) ⊎ (status ≡ Budget)))
-
-whole_text : (IsRun : Files → Answer → Type 0) (before after : Option Files) (taken taken' : Option (List ℕ)) (status : Status) (text : List ℕ) (fs : Files)
-    → Agrees before after fs → IsRun fs (says status text) → Keeps before after → Takes taken taken' text → IsAnswered IsRun (shows before after taken taken') status
-whole_text IsRun before after taken taken' status text fs' agrees' run' keeps takes = record { fs = fs'; answer = says status text; agrees = agrees'; run = run'; status_is = refl; text = takes; saved = keeps }
-
--- an answer whose text is written, whole or cut off
-pub meets : (IsRun : Files → Answer → Type 0) (before after : Option Files) (taken taken' : Option (List ℕ)) (f f' : ℕ) (status : Status) (text : List ℕ) (result : Status) (fs : Files)
-    → Agrees before after fs → IsRun fs (says status text) → Keeps before after → IsTold status → Writes taken taken' f f' status text result → RunMeets IsRun (shows before after taken taken') result
-meets IsRun before after taken taken' f f' status text result fs' agrees' run' keeps told (inr w) =
-    subst (RunMeets IsRun (shows before after taken taken')) (sym w.0) (record { fs = fs'; answer = says status text; agrees = agrees'; run = run'; most = w.2.0; text = w.2.1; saved = keeps })
-meets IsRun before after taken taken' f f' status text result fs' agrees' run' keeps told (inl w) = subst (RunMeets IsRun (shows before after taken taken')) (sym w.0) (by told)
-  where
-    all : IsAnswered IsRun (shows before after taken taken') status
-    all = whole_text IsRun before after taken taken' status text fs' agrees' run' keeps w.1
-
-    at_status : (s : Status) → status ≡ s → IsAnswered IsRun (shows before after taken taken') s
-    at_status s e = subst (IsAnswered IsRun (shows before after taken taken')) e all
-
-    by : IsTold status → RunMeets IsRun (shows before after taken taken') status
-    by (inl e) = subst (RunMeets IsRun (shows before after taken taken')) (sym e) (at_status Answered e)
-    by (inr (inl e)) = subst (RunMeets IsRun (shows before after taken taken')) (sym e) (at_status Refused e)
-    by (inr (inr (inl e))) = subst (RunMeets IsRun (shows before after taken taken')) (sym e) (at_status Usage e)
-    by (inr (inr (inr e))) = subst (RunMeets IsRun (shows before after taken taken')) (sym e) (at_status Budget e)
-
--- ---- from a request to the words of it
-
-answered_more : (P Q : Files → Answer → Type 0) (o : Outside) (s : Status) → ((fs : Files) (a : Answer) → P fs a → Q fs a) → IsAnswered P o s → IsAnswered Q o s
-answered_more P Q o s h a = record { fs = a.fs; answer = a.answer; agrees = a.agrees; run = h a.fs a.answer a.run; status_is = a.status_is; text = a.text; saved = a.saved }
-
-cut_more : (P Q : Files → Answer → Type 0) (o : Outside) → ((fs : Files) (a : Answer) → P fs a → Q fs a) → IsCutOff P o → IsCutOff Q o
-cut_more P Q o h a = record { fs = a.fs; answer = a.answer; agrees = a.agrees; run = h a.fs a.answer a.run; most = a.most; text = a.text; saved = a.saved }
-
-pub meets_more : (P Q : Files → Answer → Type 0) (o : Outside) (s : Status) → ((fs : Files) (a : Answer) → P fs a → Q fs a) → RunMeets P o s → RunMeets Q o s
-meets_more P Q o Answered h m = answered_more P Q o Answered h m
-meets_more P Q o NotProved h m = answered_more P Q o NotProved h m
-meets_more P Q o Usage h m = answered_more P Q o Usage h m
-meets_more P Q o Refused h m = answered_more P Q o Refused h m
-meets_more P Q o Budget h m = answered_more P Q o Budget h m
-meets_more P Q o Wide h m = answered_more P Q o Wide h m
-meets_more P Q o ReadFault h m = m
-meets_more P Q o WriteFault h m = cut_more P Q o h m
-meets_more P Q o Memory h m = m
-
--- the run of words with this request
-pub run_of_request : (IsRight : Request → List ℕ → Answer → Type 0) (words : List Word) (q : Request) (fs : Files) (a : Answer) → request_of words ≡ Some q → AnswersRequest IsRight fs a q → IsRunOf IsRight words fs a
-run_of_request IsRight words q fs a e h = rw e h
-
--- the run of words without one
-pub run_of_none : (IsRight : Request → List ℕ → Answer → Type 0) (words : List Word) (fs : Files) → request_of words ≡ None → IsRunOf IsRight words fs (says Usage usage_text)
-run_of_none IsRight words fs e = rw e refl
-
--- an answer to the model file of a request
-pub answers_request : (IsRight : Request → List ℕ → Answer → Type 0) (q : Request) (fs : Files) (a : Answer) → AnswersModel (IsRight q) fs (model_of_request q) a → AnswersRequest IsRight fs a q
-answers_request IsRight (Solve model tree nodes depth pivots digits box_side) fs a h = h
-answers_request IsRight (Show model digits box_side) fs a h = h
-
--- ---- the two ways in which a command ends with a text on a model file
+-- ---- the model file
 
 is_above : (n m : ℕ) → n < m → nat_lt n m ≡ true
 is_above n m h = grind (arith, nat_tests)
@@ -164,66 +38,50 @@ is_above n m h = grind (arith, nat_tests)
 is_within : (n m : ℕ) → m ≤ n → nat_lt n m ≡ false
 is_within n m h = grind (arith, nat_tests)
 
--- the file is too long
-pub too_long_meets : (IsRight : Request → List ℕ → Answer → Type 0) (q : Request) (name : List ℕ) (before after : Option Files) (taken taken' : Option (List ℕ)) (f f' : ℕ) (result : Status)
-    → name ≡ model_of_request q → Keeps before after → IsUntold before after name → IsTooLong after name longest_model
-    → Writes taken taken' f f' Refused (refused_model (codes "too long")) result
-    → RunMeets (λ fs a. AnswersRequest IsRight fs a q) (shows before after taken taken') result
-too_long_meets IsRight q name before after taken taken' f f' result is keeps untold long writes =
-    let t = long_table_for before after name longest_model keeps untold long in
-    let a = refuses_model (codes "too long") in
-    let model : AnswersModel (IsRight q) t.table.fs name a = (t.bytes, t.table.file, rw (is_above longest_model (length t.bytes) t.long) refl) in
-    let answer = answers_request IsRight q t.table.fs a (subst (λ (nm : List ℕ). AnswersModel (IsRight q) t.table.fs nm a) is model) in
-    meets (λ fs a. AnswersRequest IsRight fs a q) before after taken taken' f f' Refused (refused_model (codes "too long")) result t.table.fs t.table.agrees answer keeps (inr (inl refl)) writes
+-- what is owed where the model file is refused is owed whatever a command owes to models
+refused_text : (bytes : List ℕ) (how : How) (Rest : Parts → Reads → Answer → Type 0) (rs : Reads) (a : Answer) (o : Option MpsError)
+    → MatchOption o ⊥ (λ e. ReadsNoMore (λ b. b ≡ refuses_model (refusal_text e)) rs a)
+    → MatchOption o (Rest (model_of bytes how) rs a) (λ e. ReadsNoMore (λ b. b ≡ refuses_model (refusal_text e)) rs a)
+refused_text bytes how Rest rs a None h = absurd h
+refused_text bytes how Rest rs a (Some e) h = h
 
--- the file was read and has an answer
-pub read_meets : (IsRight : Request → List ℕ → Answer → Type 0) (q : Request) (name bytes : List ℕ) (before after : Option Files) (taken taken' : Option (List ℕ)) (f f' : ℕ) (status : Status) (text : List ℕ) (result : Status)
-    → name ≡ model_of_request q → Keeps before after → IsUntold before after name → IsWhole after name bytes → length bytes ≤ longest_model
-    → IsTold status → IsRight q bytes (says status text)
-    → Writes taken taken' f f' status text result
-    → RunMeets (λ fs a. AnswersRequest IsRight fs a q) (shows before after taken taken') result
-read_meets IsRight q name bytes before after taken taken' f f' status text result is keeps untold whole short told right writes =
-    let t = table_for before after name bytes keeps untold whole in
-    let a = says status text in
-    let model : AnswersModel (IsRight q) t.fs name a = (bytes, t.file, rw (is_within longest_model (length bytes) short) right) in
-    let answer = answers_request IsRight q t.fs a (subst (λ (nm : List ℕ). AnswersModel (IsRight q) t.fs nm a) is model) in
-    meets (λ fs a. AnswersRequest IsRight fs a q) before after taken taken' f f' status text result t.fs t.agrees answer keeps told writes
-
--- words that are no request
-pub usage_meets : (IsRight : Request → List ℕ → Answer → Type 0) (words : List Word) (files : Option Files) (taken taken' : Option (List ℕ)) (f f' : ℕ) (result : Status)
-    → request_of words ≡ None → Writes taken taken' f f' Usage usage_text result
-    → RunMeets (IsRunOf IsRight words) (shows files files taken taken') result
-usage_meets IsRight words files taken taken' f f' result none writes =
-    let t = untouched files in
-    meets (IsRunOf IsRight words) files files taken taken' f f' Usage usage_text result t.0 t.1 (run_of_none IsRight words t.0 none) (λ u is. is) (inr (inr (inl refl))) writes
-
--- what is owed to a model file has a status whose text is written
-outcome_told : (m : Parts) (o : Outcome) (status : Status) (text : List ℕ) → says status text ≡ outcome_answer m o → IsTold status
-outcome_told m (Best p whys) status text e = inl (ap (λ (a : Answer). a.status) e)
-outcome_told m (Empty p whys) status text e = inl (ap (λ (a : Answer). a.status) e)
-outcome_told m (Stop what grown best) status text e = inr (inr (inr (ap (λ (a : Answer). a.status) e)))
-
-shown_told : (t : Bool) (m : Parts) (status : Status) (text : List ℕ) → MatchBool t (says status text ≡ says Answered (canonical_text m)) (says status text ≡ refuses_model (codes "unprintable")) → IsTold status
-shown_told true m status text e = inl (ap (λ (a : Answer). a.status) e)
-shown_told false m status text e = inr (inl (ap (λ (a : Answer). a.status) e))
-
-answered_told : (q : Request) (m : Parts) (status : Status) (text : List ℕ) → IsAnswerWith q m (says status text) → IsTold status
-answered_told (Solve model tree nodes depth pivots digits box_side) m status text h = outcome_told m h.outcome status text h.text
-answered_told (Show model digits box_side) m status text h = shown_told (is_printable m) m status text h
-
-pub told_of : (q : Request) (bytes : List ℕ) (status : Status) (text : List ℕ) → IsAnswerTo q bytes (says status text) → IsTold status
-told_of q bytes status text = by (mps_fault bytes (how_of q))
+refused_file : (name : List ℕ) (how : How) (Rest : Parts → Reads → Answer → Type 0) (rs : Reads) (a : Answer) → ReadsModel name how (λ m rs a. ⊥) rs a → ReadsModel name how Rest rs a
+refused_file name how Rest [] a h = h
+refused_file name how Rest (r ∷ rs) a h = (h.0, by (nat_lt longest_model (length r.1)) h.1)
   where
-    by : (o : Option MpsError) → MatchOption o (IsAnswerWith q (model_of bytes (how_of q)) (says status text)) (λ e. says status text ≡ refuses_model (refusal_text e)) → IsTold status
-    by None h = answered_told q (model_of bytes (how_of q)) status text h
-    by (Some e) h = inr (inl (ap (λ (a : Answer). a.status) h))
+    by : (t : Bool)
+        → MatchBool t ((rs ≡ []) × (a ≡ refuses_model (codes "too long"))) (MatchOption (mps_fault r.1 how) ⊥ (λ e. ReadsNoMore (λ b. b ≡ refuses_model (refusal_text e)) rs a))
+        → MatchBool t ((rs ≡ []) × (a ≡ refuses_model (codes "too long"))) (MatchOption (mps_fault r.1 how) (Rest (model_of r.1 how) rs a) (λ e. ReadsNoMore (λ b. b ≡ refuses_model (refusal_text e)) rs a))
+    by true g = g
+    by false g = refused_text r.1 how Rest rs a (mps_fault r.1 how) g
 
--- the answer with the model of a text that has no fault, and the first refusal of one that has
-pub answered_with : (q : Request) (bytes : List ℕ) (m : Parts) (a : Answer) → mps_fault bytes (how_of q) ≡ None → m ≡ model_of bytes (how_of q) → IsAnswerWith q m a → IsAnswerTo q bytes a
-answered_with q bytes m a none is h = rw none (subst (λ (n : Parts). IsAnswerWith q n a) is h)
+pub refused_more : (name : List ℕ) (how : How) (Rest : Parts → Reads → Answer → Type 0) (before after : Option Files) (text : List ℕ)
+    → IsFileRefused before after name how text → IsOwed (ReadsModel name how Rest) before after (says Refused text)
+refused_more name how Rest before after text owed =
+    record { reads = owed.reads; agrees = owed.agrees; run = refused_file name how Rest owed.reads (says Refused text) owed.run }
 
-pub refused_with : (q : Request) (bytes : List ℕ) (e : MpsError) (a : Answer) → mps_fault bytes (how_of q) ≡ Some e → a ≡ refuses_model (refusal_text e) → IsAnswerTo q bytes a
-refused_with q bytes e a first h = rw first h
+-- the file is too long
+pub long_refused : (name : List ℕ) (how : How) (before after : Option Files) (no_model : NoModel) → HasLongFile before after name longest_model
+    → IsRefusalOf (codes "too long") no_model → IsModelFile before after name how (Err no_model)
+long_refused name how before after (No.Refused text) long is =
+    record { reads = (name, long.bytes) ∷ []; agrees = long.agrees; run = (refl, rw (is_above longest_model (length long.bytes) long.long) (refl, ap (says Refused) is)) }
+long_refused name how before after No.ReadFault long is = absurd is
+long_refused name how before after No.Memory long is = tt
+
+-- the file was read, and its text is understood or refused
+pub text_read : (name bytes : List ℕ) (how : How) (before after : Option Files) (result : Result Parts NoModel) → Agrees before after ((name, bytes) ∷ [])
+    → length bytes ≤ longest_model → IsModelText bytes how result → IsModelFile before after name how result
+text_read name bytes how before after (Ok m) agrees short is = record { bytes = bytes; agrees = agrees; short = short; sound = is.0; model = is.1 }
+text_read name bytes how before after (Err (No.Refused text)) agrees short is =
+    record { reads = (name, bytes) ∷ []; agrees = agrees; run = (refl, rw (is_within longest_model (length bytes) short) (rw is.1 (refl, ap (says Refused) is.2))) }
+text_read name bytes how before after (Err No.ReadFault) agrees short is = tt
+text_read name bytes how before after (Err No.Memory) agrees short is = tt
+
+-- what a command owes to the model of its one file is owed to the file
+pub model_owed : (name : List ℕ) (how : How) (Owed : Parts → Answer → Type 0) (before after : Option Files) (m : Parts) (a : Answer)
+    → IsModelRead before after name how m → Owed m a → IsOwed (ReadsModel name how (λ n. ReadsNoMore (Owed n))) before after a
+model_owed name how Owed before after m a read owed =
+    record { reads = (name, read.bytes) ∷ []; agrees = read.agrees; run = (refl, rw (is_within longest_model (length read.bytes) read.short) (rw read.sound (refl, subst (λ n. Owed n a) read.model owed))) }
 
 -- an error that is not want of memory is the first fault
 pub told_first : (o : Option MpsError) (e : MpsError) → IsFirst o e → (e ≡ Out.Memory → ⊥) → o ≡ Some e
@@ -248,3 +106,104 @@ told_first o Out.NoObjective h some = h
 told_first o Out.NoEnd h some = h
 told_first o (Out.Digits a) h some = h
 told_first o Out.Memory h some = absurd (some refl)
+
+-- ---- written answers
+
+-- statuses at which a whole answer is shown
+abbrev IsShownAt : Status → Type 0
+IsShownAt status = (status ≡ Usage) ⊎ IsWritten status
+
+shown_whole : (P : Reads → Answer → Type 0) (o : Outside) (status : Status) → IsShownAt status → IsAnswered P o status → RunMeets P o status
+shown_whole P o status (inl e) all = subst (RunMeets P o) (sym e) (subst (IsAnswered P o) e all)
+shown_whole P o status (inr (inl e)) all = subst (RunMeets P o) (sym e) (subst (IsAnswered P o) e all)
+shown_whole P o status (inr (inr (inl e))) all = subst (RunMeets P o) (sym e) (subst (IsAnswered P o) e all)
+shown_whole P o status (inr (inr (inr e))) all = subst (RunMeets P o) (sym e) (subst (IsAnswered P o) e all)
+
+-- an answer whose text is written, whole or cut off
+meets : (P : Reads → Answer → Type 0) (before after : Option Files) (taken taken' : Option (List ℕ)) (f f' : ℕ) (status : Status) (text : List ℕ) (result : Status)
+    → IsShownAt status → IsOwed P before after (says status text) → Writes taken taken' f f' status text result → RunMeets P (shows before after taken taken') result
+meets P before after taken taken' f f' status text result told owed' (inl w) =
+    subst (RunMeets P (shows before after taken taken')) (sym w.0)
+    (shown_whole P (shows before after taken taken') status told (record { answer = says status text; read = after; owed = owed'; status_is = refl; text = w.1; saved = refl }))
+meets P before after taken taken' f f' status text result told owed' (inr w) =
+    subst (RunMeets P (shows before after taken taken')) (sym w.0) (record { answer = says status text; read = after; owed = owed'; most = w.2.0; text = w.2.1; saved = refl })
+
+-- ---- answers that were made and sent
+
+pub sent_meets : (P : Reads → Answer → Type 0) (before after : Option Files) (taken taken' : Option (List ℕ)) (f f' : ℕ) (made : Result (Status × Vec ℕ Global) Stop) (result : Status)
+    → IfOk made (IsMade P before after) → Keeps before after → IsSent taken taken' f f' made result → RunMeets P (shows before after taken taken') result
+sent_meets P before after taken taken' f f' (Ok r) result made keeps sent = meets P before after taken taken' f f' r.0 r.1.items result (inr made.written) made.owed sent
+sent_meets P before after taken taken' f f' (Err Stops.ReadFault) result made keeps sent =
+    subst (RunMeets P (shows before after taken taken')) (sym sent.0) (record { files = keeps; taken = sent.1 })
+sent_meets P before after taken taken' f f' (Err Stops.Memory) result made keeps sent =
+    subst (RunMeets P (shows before after taken taken')) (sym sent.0) (record { files = keeps; taken = sent.1 })
+
+-- a written status is none of the others
+not_fault : (status : Status) → IsWritten status → status ≡ ReadFault → ⊥
+not_fault status (inl e) is = let both : Answered ≡ ReadFault = sym e ∙ is in cc
+not_fault status (inr (inl e)) is = let both : Refused ≡ ReadFault = sym e ∙ is in cc
+not_fault status (inr (inr e)) is = let both : Budget ≡ ReadFault = sym e ∙ is in cc
+
+not_write_fault : (status : Status) → IsWritten status → status ≡ WriteFault → ⊥
+not_write_fault status (inl e) is = let both : Answered ≡ WriteFault = sym e ∙ is in cc
+not_write_fault status (inr (inl e)) is = let both : Refused ≡ WriteFault = sym e ∙ is in cc
+not_write_fault status (inr (inr e)) is = let both : Budget ≡ WriteFault = sym e ∙ is in cc
+
+not_usage : (status : Status) → IsWritten status → status ≡ Usage → ⊥
+not_usage status (inl e) is = let both : Answered ≡ Usage = sym e ∙ is in cc
+not_usage status (inr (inl e)) is = let both : Refused ≡ Usage = sym e ∙ is in cc
+not_usage status (inr (inr e)) is = let both : Budget ≡ Usage = sym e ∙ is in cc
+
+-- the causes of a status
+pub sent_read : (P : Reads → Answer → Type 0) (before after : Option Files) (taken taken' : Option (List ℕ)) (f f' g g' : ℕ) (made : Result (Status × Vec ℕ Global) Stop) (result : Status)
+    → IfOk made (IsMade P before after) → (made ≡ Err Stops.ReadFault → Rose g g') → IsSent taken taken' f f' made result → result ≡ ReadFault → Rose g g'
+sent_read P before after taken taken' f f' g g' (Ok r) result made cause (inl w) is = absurd (not_fault r.0 made.written (sym w.0 ∙ is))
+sent_read P before after taken taken' f f' g g' (Ok r) result made cause (inr w) is = let both : WriteFault ≡ ReadFault = sym w.0 ∙ is in absurd (cc both)
+sent_read P before after taken taken' f f' g g' (Err Stops.ReadFault) result made cause sent is = cause refl
+sent_read P before after taken taken' f f' g g' (Err Stops.Memory) result made cause sent is = let both : Memory ≡ ReadFault = sym sent.0 ∙ is in absurd (cc both)
+
+pub sent_write : (P : Reads → Answer → Type 0) (before after : Option Files) (taken taken' : Option (List ℕ)) (f f' : ℕ) (made : Result (Status × Vec ℕ Global) Stop) (result : Status)
+    → IfOk made (IsMade P before after) → IsSent taken taken' f f' made result → result ≡ WriteFault → Rose f f'
+sent_write P before after taken taken' f f' (Ok r) result made (inl w) is = absurd (not_write_fault r.0 made.written (sym w.0 ∙ is))
+sent_write P before after taken taken' f f' (Ok r) result made (inr w) is = w.1
+sent_write P before after taken taken' f f' (Err Stops.ReadFault) result made sent is = let both : ReadFault ≡ WriteFault = sym sent.0 ∙ is in absurd (cc both)
+sent_write P before after taken taken' f f' (Err Stops.Memory) result made sent is = let both : Memory ≡ WriteFault = sym sent.0 ∙ is in absurd (cc both)
+
+pub sent_usage : (P : Reads → Answer → Type 0) (before after : Option Files) (taken taken' : Option (List ℕ)) (f f' : ℕ) (made : Result (Status × Vec ℕ Global) Stop) (result : Status)
+    → IfOk made (IsMade P before after) → IsSent taken taken' f f' made result → result ≡ Usage → ⊥
+sent_usage P before after taken taken' f f' (Ok r) result made (inl w) is = not_usage r.0 made.written (sym w.0 ∙ is)
+sent_usage P before after taken taken' f f' (Ok r) result made (inr w) is = let both : WriteFault ≡ Usage = sym w.0 ∙ is in cc both
+sent_usage P before after taken taken' f f' (Err Stops.ReadFault) result made sent is = let both : ReadFault ≡ Usage = sym sent.0 ∙ is in cc both
+sent_usage P before after taken taken' f f' (Err Stops.Memory) result made sent is = let both : Memory ≡ Usage = sym sent.0 ∙ is in cc both
+
+-- ---- from a request to the words of it
+
+owed_more : (P Q : Reads → Answer → Type 0) (before after : Option Files) (a : Answer) → ((rs : Reads) (b : Answer) → P rs b → Q rs b) → IsOwed P before after a → IsOwed Q before after a
+owed_more P Q before after a h o = record { reads = o.reads; agrees = o.agrees; run = h o.reads a o.run }
+
+answered_more : (P Q : Reads → Answer → Type 0) (o : Outside) (s : Status) → ((rs : Reads) (a : Answer) → P rs a → Q rs a) → IsAnswered P o s → IsAnswered Q o s
+answered_more P Q o s h a = record { answer = a.answer; read = a.read; owed = owed_more P Q o.files a.read a.answer h a.owed; status_is = a.status_is; text = a.text; saved = a.saved }
+
+cut_more : (P Q : Reads → Answer → Type 0) (o : Outside) → ((rs : Reads) (a : Answer) → P rs a → Q rs a) → IsCutOff P o → IsCutOff Q o
+cut_more P Q o h a = record { answer = a.answer; read = a.read; owed = owed_more P Q o.files a.read a.answer h a.owed; most = a.most; text = a.text; saved = a.saved }
+
+pub meets_more : (P Q : Reads → Answer → Type 0) (o : Outside) (s : Status) → ((rs : Reads) (a : Answer) → P rs a → Q rs a) → RunMeets P o s → RunMeets Q o s
+meets_more P Q o Answered h m = answered_more P Q o Answered h m
+meets_more P Q o NotProved h m = answered_more P Q o NotProved h m
+meets_more P Q o Usage h m = answered_more P Q o Usage h m
+meets_more P Q o Refused h m = answered_more P Q o Refused h m
+meets_more P Q o Budget h m = answered_more P Q o Budget h m
+meets_more P Q o Wide h m = answered_more P Q o Wide h m
+meets_more P Q o ReadFault h m = m
+meets_more P Q o WriteFault h m = cut_more P Q o h m
+meets_more P Q o Memory h m = m
+
+-- the run of words with this request
+pub request_run : (words : List Word) (q : Request) (rs : Reads) (a : Answer) → request_of words ≡ Some q → AnswersRequest q rs a → IsRunOf words rs a
+request_run words q rs a e h = rw e h
+
+-- words that are no request
+pub usage_meets : (words : List Word) (files : Option Files) (taken taken' : Option (List ℕ)) (f f' : ℕ) (result : Status) → request_of words ≡ None
+    → Writes taken taken' f f' Usage usage_text result → RunMeets (IsRunOf words) (shows files files taken taken') result
+usage_meets words files taken taken' f f' result none writes =
+    meets (IsRunOf words) files files taken taken' f f' Usage usage_text result (inl refl) (record { reads = []; agrees = none_read files; run = rw none (refl, refl) }) writes

@@ -2,22 +2,20 @@
 use Rattle.std.specs.Prelude.{◌≡◌, ℕ, zero, suc, ◌/◌, ◌%◌, ◌<◌, ◌≤◌, List, [], ◌∷◌, ◌++◌, length, take, zip, flat_map, Some, slice_get, ℤ, pos, negsuc, decimal, codes, refl}
 use Rattle.std.specs.Fmt.{signed_decimal}
 use Rattle.std.proofs.Common.{arith, ap, sym, ◌∙◌, append_assoc}
-use Rattle.ip_defs.specs.Numbers.{decimal_text, size_text}
+use Rattle.mps_defs.specs.Numbers.{decimal_text, size_text}
 use Rattle.ip_defs.specs.Program.{at}
-use Rattle.ip_defs.specs.Texts.{on_column, refused_model, side_text, value_line}
-use Rattle.ip_defs.specs.declared.texts.Side.TheVariants.{Lower, Upper}
+use Rattle.ipsens_core.specs.RefusalTexts.{on_column, refused_model, side_text}
+use Rattle.ipsens_core.specs.AnswerTexts.{value_line}
+use Rattle.mps_defs.specs.declared.texts.Side.TheVariants.{Lower, Upper}
 use Rattle.ip_defs.specs.declared.programs.Column.{Column}
-
-append_nil : {A : Type 0} (xs : List A) → xs ++ [] ≡ xs
-append_nil [] = refl
-append_nil (x ∷ xs) = ap (λ l. x ∷ l) (append_nil xs)
+use Rattle.std.proofs.lemmas.List.{append-nil}
 
 -- the values of one more column come last
 pub values_more : (cs : List Column) (xs : List ℤ) (j : ℕ) (c : Column) → slice_get cs j ≡ Some c → j < length xs
     → flat_map value_line (take (suc j) (zip cs xs)) ≡ flat_map value_line (take j (zip cs xs)) ++ value_line (c, at xs j)
 values_more [] xs j c e l = absurd cc
 values_more (d ∷ cs) [] j c e l = absurd (omega arith)
-values_more (d ∷ cs) (x ∷ xs) zero c e l = let same : d ≡ c = cc in append_nil (value_line (d, x)) ∙ ap (λ b. value_line (b, x)) same
+values_more (d ∷ cs) (x ∷ xs) zero c e l = let same : d ≡ c = cc in append-nil (value_line (d, x)) ∙ ap (λ b. value_line (b, x)) same
 values_more (d ∷ cs) (x ∷ xs) (suc j) c e l = ap (λ bs. value_line (d, x) ++ bs) (values_more cs xs j c e (omega arith)) ∙ sym (append_assoc (value_line (d, x)) (flat_map value_line (take j (zip cs xs))) (value_line (c, at xs j)))
 
 -- a whole amount is written without decimals
@@ -25,7 +23,7 @@ size_of_whole : (n : ℕ) → size_text n 0 ≡ decimal n
 size_of_whole n =
     let whole : n / 1 ≡ n = omega arith in
     let rest : n % 1 ≡ 0 = omega arith in
-    rw (whole, rest) (append_nil (decimal n))
+    rw (whole, rest) (append-nil (decimal n))
 
 pub whole_text : (z : ℤ) → decimal_text z 0 ≡ signed_decimal z
 whole_text (pos n) = size_of_whole n

@@ -1,3 +1,10 @@
+pub mod Statuses
+pub mod Reads
+pub mod AnswerTexts
+pub mod RefusalTexts
 pub mod Answers
-pub mod Outcomes
-pub mod WordOptions
+pub mod Models
+pub mod Solve
+pub mod Show
+pub mod Runs
+pub mod Internal

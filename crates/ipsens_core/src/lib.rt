@@ -1,15 +1,18 @@
-//! The top call: from the words of a command line and the files of a shelf to the text that a sink takes.
+//! The top call: from the words of a command line and the files of a shelf to the text that a sink takes. Each command has a module.
 #![tactic(auto)]
 
+mod answers;
 mod messages;
+mod models;
 mod runs;
+mod show;
+mod solve;
+mod statuses;
 #[cfg(test)]
 mod tests;
-mod words;
-#[cfg(test)]
-mod words_tests;
 
-pub use branching::solve;
-pub use ip_defs::{Request, Status};
-pub use runs::{answer_at, code, run};
-pub use words::{WordsError, request};
+pub use ips_words::{Request, WordsError, request};
+pub use runs::run;
+pub use show::show_at;
+pub use solve::solve_at;
+pub use statuses::{Status, code};

@@ -1,28 +1,28 @@
 ghost use Rattle.std.specs.Prelude.{◌≡◌, ◌≢◌, ◌≤◌, ◌++◌, IfOk, OnOk, Some, codes, decimal, flat_map, length, string_bytes, zip};
 ghost use Rattle.std.specs.Fmt.{signed_decimal};
 ghost use Rattle.std.specs.Option.{ForSome};
-ghost use Rattle.ip_defs.specs.Numbers.{decimal_text};
+ghost use Rattle.mps_defs.specs.Numbers.{decimal_text};
 ghost use Rattle.branching.specs.Outcomes.{IsTrueOutcome};
 ghost use Rattle.ip_defs.specs.Program.{cost as cost_of};
-ghost use Rattle.ip_defs.specs.Runs.{says};
-ghost use Rattle.ip_defs.specs.Texts.{value_text as amount_text};
+ghost use Rattle.ipsens_core.specs.Answers.{says};
+ghost use Rattle.mps_defs.specs.CanonicalText.{value_text as amount_text};
 ghost use Rattle.branching.specs.Counts.{nodes_of, skipped_of};
-ghost use Rattle.ip_defs.specs.Texts.{best_lines, count_lines, newline, value_lines};
-ghost use Rattle.ipsens_core.specs.Answers.{claimed, limit_word, outcome_answer};
-ghost use Rattle.ip_defs.specs.Texts.{on_column, optimum_lines, refusal_text, refused_model, side_text, value_line, what_text};
+ghost use Rattle.ipsens_core.specs.AnswerTexts.{best_lines, count_lines, value_lines};
+ghost use Rattle.mps_defs.specs.CanonicalText.{newline};
+ghost use Rattle.ipsens_core.specs.Solve.{claimed, limit_word, outcome_answer};
+ghost use Rattle.ipsens_core.specs.RefusalTexts.{on_column, refusal_text, refused_model, side_text, what_text};
+ghost use Rattle.ipsens_core.specs.AnswerTexts.{optimum_lines, value_line};
 
+use crate::statuses::Status;
 use branching::{BudgetWhat, Claim, Outcome, node_count, skipped_count};
 use decimals::decimal_text;
-use ip_defs::{Column, Limit, Memory, MpsError, Point, Side, Status, What};
+use ip_defs::{Column, Limit, Memory, Point, What};
 use ip_model::{IntModel, cost};
+use mps_defs::{MpsError, Side};
 use std::alloc::{AllocError, Global};
 
-/// What is printed for words that are no request.
-pub const USAGE: &[u8] =
-    b"usage: ipsens solve MODEL | check MODEL TREE | ask MODEL TREE QUESTIONS | sweep MODEL SWEEP | recheck MODEL SWEEP PROOF | show MODEL | trial N\n";
-
 /// What is printed for a model file that is too long.
-pub const TOO_LONG: &[u8] = b"refused model too long\n";
+pub const TOO_LONG: &str = "refused model too long\n";
 
 /// What is printed for a model without a canonical text.
 pub const UNPRINTABLE: &str = "refused model unprintable\n";

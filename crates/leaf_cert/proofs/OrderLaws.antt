@@ -4,7 +4,7 @@ use Rattle.std.specs.Int.RustNames.{unsigned_abs}
 use Rattle.std.proofs.Common.{arith, refl, subst, ap, sym, add-one, below_more}
 use Rattle.std.proofs.lemmas.Bool.{eqb-true, eqb-false}
 use Rattle.ip_defs.specs.Limits.{number_at, value_at}
-use Rattle.leaf_cert.specs.Multipliers.{IsNext}
+use Rattle.leaf_cert.specs.Internal.Multipliers.{IsNext}
 
 -- the first row that is free after so many pairs
 abbrev pub least_after : List (ℕ × ℤ) → ℕ → ℕ

@@ -1,3 +1,2 @@
-pub mod Columns
-pub mod Multipliers
 pub mod Room
+pub mod Internal

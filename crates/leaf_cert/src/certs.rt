@@ -1,6 +1,7 @@
+//! Whether a certificate is within its limits.
 ghost use Rattle.std.specs.Prelude.{◌↔◌, ◌^◌, IsTrue};
 ghost use Rattle.ip_defs.specs.Limits.{AreOrdered, AreSmall, IsCert};
-ghost use Rattle.leaf_cert.specs.Multipliers.{IsNext};
+ghost use Rattle.leaf_cert.specs.Internal.Multipliers.{IsNext};
 
 use ip_defs::Cert;
 

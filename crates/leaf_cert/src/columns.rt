@@ -1,3 +1,4 @@
+//! What the columns of a box add to a dual value.
 ghost use Rattle.std.specs.Prelude.{◌≡◌, ◌*◌, ◌^◌, ◌<◌, ◌≤◌, ℕ, length, pos, ◌+ℤ◌, ◌*ℤ◌, ◌-ℤ◌};
 ghost use Rattle.std.specs.Int.{int_min};
 ghost use Rattle.std.specs.Int.RustNames.{unsigned_abs};
@@ -6,10 +7,11 @@ ghost use Rattle.ip_defs.specs.Program.{at, low_at, high_at, coefficient, costs_
 ghost use Rattle.ip_defs.specs.Certificates.{is_empty_side};
 ghost use Rattle.ip_defs.specs.Limits.{AreOrdered, AreSmall, IsWithinLimits, IsArea};
 ghost use Rattle.ip_defs.specs.Sums.{sum_below};
-ghost use Rattle.leaf_cert.specs.Columns.{AllSmall, taken_of, least_part};
+ghost use Rattle.leaf_cert.specs.Internal.Columns.{AllSmall, taken_of, least_part};
 
-use crate::wide::{difference, product, total_of};
+use crate::wide::{difference, product};
 use ip_defs::Parts;
+use ip_model::total_of;
 
 /// Whether some column has no number between its sides.
 pub fn has_empty(area: &[(i64, i64)]) -> bool

@@ -1,3 +1,4 @@
+//! The bound of a leaf, by its certificate.
 ghost use Rattle.std.specs.Prelude.{◌≡◌, ◌^◌, ◌≤◌, ◌*ℤ◌, IfSome, length, List, ℤ};
 ghost use Rattle.std.specs.Int.RustNames.{unsigned_abs};
 ghost use Rattle.ip_defs.specs.Program.{IsFeasible, IsIn, cost};
@@ -8,9 +9,9 @@ ghost use Rattle.leaf_cert.specs.Room.{FitsScratch, room_of};
 use crate::columns::{clear, column_sum, has_empty, take_rows};
 use crate::payments::paid;
 use crate::room::Scratch;
-use crate::wide::{ceil_div, product, total_of};
+use crate::wide::{ceil_div, product};
 use ip_defs::{Area, Bound, Cert, Parts};
-use ip_model::IntModel;
+use ip_model::{IntModel, total_of};
 
 /// The constant, q times.
 fn weighed(q: i64, constant: i64) -> i128

@@ -1,10 +1,12 @@
+//! What the multipliers of a certificate pay.
 ghost use Rattle.std.specs.Prelude.{◌≡◌, ◌^◌, ◌<◌, ◌≤◌, length, pos, ◌*ℤ◌, IfSome};
 ghost use Rattle.std.specs.Int.RustNames.{unsigned_abs};
 ghost use Rattle.ip_defs.specs.Certificates.{side_for, payment, pay};
 ghost use Rattle.ip_defs.specs.Limits.{AreOrdered, AreSmall, IsWithinLimits};
 
-use crate::wide::{product, total_of};
+use crate::wide::product;
 use ip_defs::{Parts, Row};
+use ip_model::total_of;
 
 /// The side that a multiplier pays.
 fn side_of(multiplier: i64, row: &Row) -> Option<i64>

@@ -1,3 +1,4 @@
+//! The scratch in which a bound is computed.
 use ip_defs::Area;
 
 /// Memory that leaf bounds work in, so that a bound takes none. It fits every model with as many columns; what its numbers are

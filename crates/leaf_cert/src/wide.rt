@@ -1,7 +1,10 @@
-ghost use Rattle.std.specs.Prelude.{◌≡◌, pos, ◌+ℤ◌, ◌-ℤ◌, ◌*ℤ◌, ◌<ℤ◌};
+//! Products, differences and quotients of 128 bits that fit.
+ghost use Rattle.std.specs.Prelude.{◌≡◌, pos, ◌-ℤ◌, ◌*ℤ◌, ◌<ℤ◌};
 ghost use Rattle.std.specs.Int.{w128};
 ghost use Rattle.std.specs.Int.RustNames.{FitsSigned, int_div, unsigned_abs};
 ghost use Rattle.ip_defs.specs.Certificates.{ceiling};
+
+use ip_model::total_of;
 
 /// A product that fits.
 #[inline]
@@ -10,15 +13,6 @@ pub fn product(a: i128, b: i128) -> i128
     ensures { result ≡ a *ℤ b }
 {
     a * b
-}
-
-/// A sum that fits.
-#[inline]
-pub fn total_of(a: i128, b: i128) -> i128
-    requires { FitsSigned w128 (a +ℤ b) }
-    ensures { result ≡ a +ℤ b }
-{
-    a + b
 }
 
 /// A difference that fits.

@@ -1,13 +1,8 @@
 -- What a certificate bounds whose multipliers are multiples of others, by their dual value.
-use Rattle.std.specs.Prelude.{◌≡◌, ℕ, zero, suc, Bool, true, false, cond, if◌then◌else◌, List, [], ◌∷◌, length, Option, Some, None, option_map, ℤ, pos, negsuc, ◌*ℤ◌, ◌≤ℤ◌, ◌<ℤ◌}
-use Rattle.std.specs.Int.Signed.{lt_z}
+use Rattle.std.specs.Prelude.{◌≡◌, ℕ, zero, suc, Bool, true, false, cond, if◌then◌else◌, List, [], ◌∷◌, length, Option, Some, None, option_map, ℤ, pos, negsuc, ◌*ℤ◌, ◌<ℤ◌}
 use Rattle.std.specs.List.{list_any}
 use Rattle.std.proofs.Common.{arith, refl, ap, sym, ◌∙◌, subst}
 use Rattle.std.proofs.lemmas.Int.{ints}
-use Rattle.std.proofs.lemmas.List.Elements.{All-from_get_or}
-use Rattle.std.proofs.lemmas.List.Folds.{list_any_none}
-use Rattle.ip_defs.specs.Boxes.{IsOpen}
-use Rattle.ip_defs.specs.Program.{low_at, high_at}
 use Rattle.ip_defs.specs.Certificates.{dual_value, box_sum, is_empty_side, bound_by}
 use Rattle.ip_defs.specs.Limits.{AreOrdered}
 use Rattle.ip_defs.specs.declared.programs.Parts.{Parts}
@@ -25,12 +20,8 @@ use Rattle.lp_duality.proofs.SignLaws.{Sign, up, down, none, sign_of, of_positiv
 use Rattle.lp_duality.proofs.ScaleLaws.{dual_same, dual_scaled}
 use Rattle.lp_duality.proofs.CertificateLaws.{dual_whole}
 use Rattle.lp_duality.proofs.CeilingLaws.{ceiling_same}
-
-not_below : (a b : ℤ) → b ≤ℤ a → lt_z a b ≡ false
-not_below a b h = grind (arith, ints)
-
-below : (z : ℤ) → pos 0 <ℤ z → lt_z (pos 0) z ≡ true
-below z h = grind (arith, ints)
+use Rattle.ip_defs.proofs.BoxLaws.{open_sides}
+use Rattle.ip_defs.proofs.OrderLaws.{less_true}
 
 whole_positive : (z : ℤ) → pos 0 <ℤ (of z).top → pos 0 <ℤ z
 whole_positive z h = by (sign_of z)
@@ -39,10 +30,6 @@ whole_positive z h = by (sign_of z)
     by (up s) = s
     by (down s) = let d = of_negative z s in absurd (omega (arith, ints))
     by (none s) = let d : (of z).top ≡ pos 0 = ap (λ w. (of w).top) s ∙ zero_top in absurd (omega (arith, ints))
-
--- no side of an open box is empty
-open_sides : (b : List (ℤ × ℤ)) → IsOpen b → list_any is_empty_side b ≡ false
-open_sides b o = list_any_none is_empty_side b (All-from_get_or (λ s. is_empty_side s ≡ false) b (pos 0, pos 0) (λ j l. not_below (high_at b j) (low_at b j) (o j l)))
 
 -- a whole number that is q times a rational one, crosswise
 cross_multiple : (z q : ℤ) (g : Rational) → of z ≡ mul (of q) g → z *ℤ bottom g ≡ g.top *ℤ q
@@ -87,7 +74,7 @@ rays_bound m b c a y g o size zero' positive multiples e above = by (list_any is
     positive_value (Some z) h =
         let is : of z ≡ mul a g = cc in
         let greater = whole_positive z (subst (λ (p : Rational). pos 0 <ℤ p.top) (sym is) (mul_positive a g positive above)) in
-        ap (λ t. if t then Infinite else At (box_sum m b)) (below z greater)
+        ap (λ t. if t then Infinite else At (box_sum m b)) (less_true (pos 0) z greater)
 
     by : (t : Bool) → cond t Infinite (bound_by c.q (box_sum m b) (dual_value m b c.q c.y)) ≡ Infinite
     by true = refl

@@ -2,6 +2,7 @@ pub mod BoundLaws
 pub mod CeilingLaws
 pub mod CertificateLaws
 pub mod OptionSumLaws
+pub mod PointLaws
 pub mod ScaleLaws
 pub mod SignLaws
 pub mod SparseLaws

@@ -9,13 +9,7 @@ use Rattle.ring_laws.proofs.Named.{ring2, ring3}
 use Rattle.frac128.proofs.Rationals.{Rational, S, bottom, over, over-is, over_parts, same, both, of, sub, mul, neg, of_add, rationals}
 use Rattle.frac128.proofs.Order.{NotNegative, AtMost, over_up, cross_at_most, at_most_antisym, mul_at_most}
 use Rattle.lp_duality.specs.Duals.{is_below, lesser, paid}
-
--- ---- tests of whole numbers
-pub lt_false : (a b : ℤ) → lt_z a b ≡ false → b ≤ℤ a
-lt_false a b e = grind (arith, ints)
-
-pub lt_true : (a b : ℤ) → lt_z a b ≡ true → a <ℤ b
-lt_true a b e = grind (arith, ints)
+use Rattle.ip_defs.proofs.OrderLaws.{less_is, not_less}
 
 -- the three signs
 pub data Sign (z : ℤ) : Type 0 where
@@ -93,14 +87,14 @@ mul_negative a p h g = over_negative (a.top *ℤ p.top) (both a.less p.less) (ne
 
 -- ---- order
 pub below_false : (p q : Rational) → is_below p q ≡ false → AtMost q p
-below_false p q e = cross_at_most q p (lt_false (p.top *ℤ bottom q) (q.top *ℤ bottom p) e)
+below_false p q e = cross_at_most q p (not_less (p.top *ℤ bottom q) (q.top *ℤ bottom p) e)
 
 pub below_true : (p q : Rational) → is_below p q ≡ true → AtMost p q
-below_true p q e = cross_at_most p q (let l = lt_true (p.top *ℤ bottom q) (q.top *ℤ bottom p) e in omega (arith, ints))
+below_true p q e = cross_at_most p q (let l = less_is (p.top *ℤ bottom q) (q.top *ℤ bottom p) e in omega (arith, ints))
 
 pub below_positive : (p q : Rational) → is_below p q ≡ true → pos 0 <ℤ (sub q p).top
 unfolding sub
-below_positive p q e = over_positive (q.top *ℤ bottom p -ℤ p.top *ℤ bottom q) (both q.less p.less) (let l = lt_true (p.top *ℤ bottom q) (q.top *ℤ bottom p) e in omega (arith, ints))
+below_positive p q e = over_positive (q.top *ℤ bottom p -ℤ p.top *ℤ bottom q) (both q.less p.less) (let l = less_is (p.top *ℤ bottom q) (q.top *ℤ bottom p) e in omega (arith, ints))
 
 pub of_at_most : (l h : ℤ) → l ≤ℤ h → AtMost (of l) (of h)
 of_at_most l h le =
@@ -135,22 +129,22 @@ paid_up p l h rises = by (lt_z (pos 0) p.top) refl
   where
     by : (t : Bool) → lt_z (pos 0) p.top ≡ t → cond t (option_map (λ z. mul p (of z)) l) (cond (lt_z p.top (pos 0)) (option_map (λ z. mul p (of z)) h) (Some (of (pos 0)))) ≡ option_map (λ z. mul p (of z)) l
     by true e = refl
-    by false e = absurd (let q = lt_false (pos 0) p.top e in omega (arith, ints))
+    by false e = absurd (let q = not_less (pos 0) p.top e in omega (arith, ints))
 
 pub paid_down : (p : Rational) (l h : Option ℤ) → p.top <ℤ pos 0 → paid p l h ≡ option_map (λ z. mul p (of z)) h
 paid_down p l h falls = by (lt_z (pos 0) p.top) (lt_z p.top (pos 0)) refl refl
   where
     by : (t u : Bool) → lt_z (pos 0) p.top ≡ t → lt_z p.top (pos 0) ≡ u → cond t (option_map (λ z. mul p (of z)) l) (cond u (option_map (λ z. mul p (of z)) h) (Some (of (pos 0)))) ≡ option_map (λ z. mul p (of z)) h
-    by true u e f = absurd (let q = lt_true (pos 0) p.top e in omega (arith, ints))
+    by true u e f = absurd (let q = less_is (pos 0) p.top e in omega (arith, ints))
     by false true e f = refl
-    by false false e f = absurd (let q = lt_false p.top (pos 0) f in omega (arith, ints))
+    by false false e f = absurd (let q = not_less p.top (pos 0) f in omega (arith, ints))
 
 pub paid_nought : (p : Rational) (l h : Option ℤ) → p.top ≡ pos 0 → paid p l h ≡ Some (of (pos 0))
 paid_nought p l h nought = by (lt_z (pos 0) p.top) (lt_z p.top (pos 0)) refl refl
   where
     by : (t u : Bool) → lt_z (pos 0) p.top ≡ t → lt_z p.top (pos 0) ≡ u → cond t (option_map (λ z. mul p (of z)) l) (cond u (option_map (λ z. mul p (of z)) h) (Some (of (pos 0)))) ≡ Some (of (pos 0))
-    by true u e f = absurd (let q = lt_true (pos 0) p.top e in omega (arith, ints))
-    by false true e f = absurd (let q = lt_true p.top (pos 0) f in omega (arith, ints))
+    by true u e f = absurd (let q = less_is (pos 0) p.top e in omega (arith, ints))
+    by false true e f = absurd (let q = less_is p.top (pos 0) f in omega (arith, ints))
     by false false e f = refl
 
 -- of two sides in order, what is paid is the lesser product

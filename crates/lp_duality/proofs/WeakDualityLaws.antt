@@ -1,19 +1,16 @@
 -- Weak duality over relaxations, and feasible points as points of relaxations.
-use Rattle.std.specs.Prelude.{◌≡◌, ℕ, zero, suc, ◌<◌, List, [], ◌∷◌, length, All, Option, Some, None, IfSome, slice_get, option_map, option_and_then, ℤ, pos, ◌*ℤ◌, ◌≤ℤ◌, ◌<ℤ◌}
+use Rattle.std.specs.Prelude.{◌≡◌, ℕ, zero, suc, ◌<◌, List, [], ◌∷◌, length, Option, Some, None, IfSome, slice_get, option_map, option_and_then, ℤ, pos, ◌≤ℤ◌, ◌<ℤ◌}
 use Rattle.std.proofs.Common.{arith, refl, ap, sym, ◌∙◌, subst, ◌⊎◌, inl, inr}
 use Rattle.std.proofs.lemmas.Int.{ints}
-use Rattle.std.proofs.lemmas.Option.{get_or_from_slice_get, slice_get_within}
-use Rattle.std.proofs.lemmas.List.Elements.{All-get_or}
-use Rattle.ip_defs.specs.Sums.{sum_below}
-use Rattle.ip_defs.specs.Program.{at, coefficient, costs_of, low_at, high_at, row_sum, Meets, IsIn, IsFeasible, cost}
-use Rattle.ip_defs.specs.Certificates.{coefs_of, entry as coefficient_of}
+use Rattle.ip_defs.specs.Program.{at, low_at, high_at, row_sum, Meets, IsIn, IsFeasible, cost}
+use Rattle.ip_defs.specs.Certificates.{entry as coefficient_of}
 use Rattle.ip_defs.specs.declared.programs.Parts.{Parts}
 use Rattle.ip_defs.specs.declared.programs.Row.{Row}
 use Rattle.ring_laws.proofs.Rings.{zero_mul}
 use Rattle.ring_laws.proofs.Normal.{num, var, ◌⊕◌, ◌⊖◌, ◌⊗◌, identity}
 use Rattle.ring_laws.proofs.Named.{ring4}
 use Rattle.ring_laws.proofs.Sums.{sum, sum_same, sum_scale, exchange}
-use Rattle.frac128.proofs.Rationals.{Rational, of, of_add, of_mul, add, sub, mul, rationals}
+use Rattle.frac128.proofs.Rationals.{Rational, of, add, sub, mul, rationals}
 use Rattle.frac128.proofs.Order.{AtMost, NotNegative, at_most_total, at_most_trans, add_at_most, mul_at_most, not_negative_add}
 use Rattle.lp_duality.specs.Relaxations.{row_low, row_high, cost_of, row_total, total_cost, IsBetween, IsRelaxed}
 use Rattle.lp_duality.specs.Duals.{paid, sum_of_all, lesser, left_of, dual}
@@ -21,7 +18,8 @@ use Rattle.lp_duality.specs.Laws.{RelaxedWeakDuality, FeasiblePointsAreRelaxed}
 use Rattle.lp_duality.proofs.SignLaws.{Sign, up, down, none, sign_of, top_zero, of_at_most, at_most_self, mul_at_least, paid_up, paid_down, paid_nought, lesser_first, lesser_second}
 use Rattle.lp_duality.proofs.OptionSumLaws.{plus}
 use Rattle.lp_duality.proofs.ScaleLaws.{column_sum, paid_sum, dual_of}
-use Rattle.lp_duality.proofs.CertificateLaws.{of_sum}
+use Rattle.lp_duality.proofs.PointLaws.{row_whole, whole_cost}
+use Rattle.ip_defs.proofs.DualityLaws.{meets_at}
 
 -- ---- sums
 sum_at_most : (f g : ℕ → Rational) (n : ℕ) → ((k : ℕ) → k < n → AtMost (f k) (g k)) → AtMost (sum rationals f n) (sum rationals g n)
@@ -132,30 +130,24 @@ pub relaxed_weak_duality : RelaxedWeakDuality
 relaxed_weak_duality m b q y x g relaxed e = at_most m b q y x g relaxed e
 
 -- ---- feasible points
-meets_at : (rows : List Row) (x : List ℤ) (k : ℕ) (r : Row) → All (Meets x) rows → slice_get rows k ≡ Some r → Meets x r
-meets_at rows x k r all e = subst (Meets x) (get_or_from_slice_get rows k r r e) (All-get_or (Meets x) rows k r (slice_get_within rows k r e) all)
-
-sum_whole : (a : ℕ → ℤ) (x : List ℤ) (n : ℕ) → sum rationals (λ j. mul (of (a j)) (of (at x j))) n ≡ of (sum_below (λ j. a j *ℤ at x j) n)
-sum_whole a x n = sum_same rationals (λ j. mul (of (a j)) (of (at x j))) (λ j. of (a j *ℤ at x j)) n (λ j l. sym (of_mul (a j) (at x j))) ∙ sym (of_sum (λ j. a j *ℤ at x j) n)
-
 module _ (m : Parts) (b : List (ℤ × ℤ)) (x : List ℤ) (size : length b ≡ length m.columns) (feasible : IsFeasible m x) (inside : IsIn b x) where
-  row_whole : (k : ℕ) (r : Row) → slice_get m.rows k ≡ Some r → row_total m (λ j. of (at x j)) k ≡ of (row_sum r.coefs x)
-  row_whole k r e =
-      sum_whole (λ j. coefficient_of m.rows k j) x (length m.columns)
-      ∙ ap (λ o. of (sum_below (λ j. coefficient (coefs_of o) j *ℤ at x j) (length m.columns))) e
-      ∙ ap (λ n. of (sum_below (λ j. coefficient r.coefs j *ℤ at x j) n)) (sym size ∙ sym inside.size)
+  row_is : (k : ℕ) (r : Row) → slice_get m.rows k ≡ Some r → row_total m (λ j. of (at x j)) k ≡ of (row_sum r.coefs x)
+  row_is = row_whole m (λ j. of (at x j)) x (inside.size ∙ size) (λ j l. refl)
+
+  meets : (k : ℕ) (r : Row) → slice_get m.rows k ≡ Some r → Meets x r
+  meets k r e = subst (λ o. IfSome o (Meets x)) e (meets_at m.rows x k feasible.rows)
 
   low_holds : (k : ℕ) (o : Option Row) → slice_get m.rows k ≡ o → (side : ℤ) → option_and_then (λ r. r.low) o ≡ Some side → AtMost (of side) (row_total m (λ j. of (at x j)) k)
   low_holds k None e side d = absurd cc
   low_holds k (Some r) e side d =
-      let holds : side ≤ℤ row_sum r.coefs x = subst (λ o. IfSome o (λ side. side ≤ℤ row_sum r.coefs x)) d (meets_at m.rows x k r feasible.rows e).low in
-      subst (AtMost (of side)) (sym (row_whole k r e)) (of_at_most side (row_sum r.coefs x) holds)
+      let holds : side ≤ℤ row_sum r.coefs x = subst (λ o. IfSome o (λ side. side ≤ℤ row_sum r.coefs x)) d (meets k r e).low in
+      subst (AtMost (of side)) (sym (row_is k r e)) (of_at_most side (row_sum r.coefs x) holds)
 
   high_holds : (k : ℕ) (o : Option Row) → slice_get m.rows k ≡ o → (side : ℤ) → option_and_then (λ r. r.high) o ≡ Some side → AtMost (row_total m (λ j. of (at x j)) k) (of side)
   high_holds k None e side d = absurd cc
   high_holds k (Some r) e side d =
-      let holds : row_sum r.coefs x ≤ℤ side = subst (λ o. IfSome o (λ side. row_sum r.coefs x ≤ℤ side)) d (meets_at m.rows x k r feasible.rows e).high in
-      subst (λ w. AtMost w (of side)) (sym (row_whole k r e)) (of_at_most (row_sum r.coefs x) side holds)
+      let holds : row_sum r.coefs x ≤ℤ side = subst (λ o. IfSome o (λ side. row_sum r.coefs x ≤ℤ side)) d (meets k r e).high in
+      subst (λ w. AtMost w (of side)) (sym (row_is k r e)) (of_at_most (row_sum r.coefs x) side holds)
 
   relaxed : IsRelaxed m b (λ j. of (at x j))
   relaxed = record {
@@ -164,11 +156,8 @@ module _ (m : Parts) (b : List (ℤ × ℤ)) (x : List ℤ) (size : length b ≡
     rows = λ k l. record { low = low_holds k (slice_get m.rows k) refl; high = high_holds k (slice_get m.rows k) refl };
   }
 
-  cost_whole : total_cost m (λ j. of (at x j)) ≡ of (cost m x)
-  cost_whole =
-      let s = sum_below (λ j. at (costs_of m) j *ℤ at x j) (length x) in
-      ap (add (of m.constant)) (sum_whole (at (costs_of m)) x (length m.columns) ∙ ap (λ n. of (sum_below (λ j. at (costs_of m) j *ℤ at x j) n)) (sym size ∙ sym inside.size))
-      ∙ sym (of_add m.constant s)
+  cost_is : total_cost m (λ j. of (at x j)) ≡ of (cost m x)
+  cost_is = whole_cost m (λ j. of (at x j)) x (inside.size ∙ size) (λ j l. refl)
 
 pub feasible_points_are_relaxed : FeasiblePointsAreRelaxed
-feasible_points_are_relaxed m b x size feasible inside = (relaxed m b x size feasible inside, cost_whole m b x size feasible inside)
+feasible_points_are_relaxed m b x size feasible inside = (relaxed m b x size feasible inside, cost_is m b x size feasible inside)

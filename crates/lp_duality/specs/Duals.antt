@@ -5,9 +5,7 @@ use Rattle.std.specs.Int.Signed.{lt_z}
 use Rattle.ip_defs.specs.Program.{low_at, high_at}
 use Rattle.ip_defs.specs.Certificates.{entry as coefficient_of}
 use Rattle.ip_defs.specs.declared.programs.Parts.{Parts}
-use Rattle.frac128.specs.Rationals.{Rational, bottom, of, add, sub, mul}
-use Rattle.frac128.proofs.Rationals.{rationals}
-use Rattle.ring_laws.proofs.Sums.{sum}
+use Rattle.frac128.specs.Rationals.{Rational, bottom, of, add, sub, mul, sum}
 use Rattle.lp_duality.specs.Relaxations.{row_low, row_high, cost_of}
 
 -- a number is below another one: their cross products say so
@@ -28,10 +26,10 @@ sum_of_all f (suc n) = option_and_then (λ a. option_map (λ c. add a c) (f n)) 
 
 -- what is left of q times a column's cost after the multipliers
 abbrev pub left_of : Parts → Rational → (ℕ → Rational) → ℕ → Rational
-left_of m q y j = sub (mul q (cost_of m j)) (sum rationals (λ k. mul (y k) (of (coefficient_of m.rows k j))) (length m.rows))
+left_of m q y j = sub (mul q (cost_of m j)) (sum (λ k. mul (y k) (of (coefficient_of m.rows k j))) (length m.rows))
 
 -- the dual value of q and multipliers over a box, none where a side that is paid is absent
 abbrev pub dual : Parts → List (ℤ × ℤ) → Rational → (ℕ → Rational) → Option Rational
 dual m b q y =
-    option_map (λ pay. add (add pay (mul q (of m.constant))) (sum rationals (λ j. lesser (mul (left_of m q y j) (of (low_at b j))) (mul (left_of m q y j) (of (high_at b j)))) (length m.columns)))
+    option_map (λ pay. add (add pay (mul q (of m.constant))) (sum (λ j. lesser (mul (left_of m q y j) (of (low_at b j))) (mul (left_of m q y j) (of (high_at b j)))) (length m.columns)))
     (sum_of_all (λ k. paid (y k) (row_low m k) (row_high m k)) (length m.rows))

@@ -5,9 +5,7 @@ use Rattle.ip_defs.specs.Certificates.{entry as coefficient_of}
 use Rattle.ip_defs.specs.declared.programs.Parts.{Parts}
 use Rattle.frac128.specs.Fractions.{Fraction}
 use Rattle.frac128.specs.Values.{value_of}
-use Rattle.frac128.specs.Rationals.{Rational, of, add, mul, AtMost}
-use Rattle.frac128.proofs.Rationals.{rationals}
-use Rattle.ring_laws.proofs.Sums.{sum}
+use Rattle.frac128.specs.Rationals.{Rational, of, add, mul, AtMost, sum}
 
 -- a list of fractions as rational numbers, 0 past its end
 abbrev pub numbers_of : List Fraction → ℕ → Rational
@@ -26,11 +24,11 @@ cost_of m j = of (at (costs_of m) j)
 
 -- the value of a row at a point
 abbrev pub row_total : Parts → (ℕ → Rational) → ℕ → Rational
-row_total m x k = sum rationals (λ j. mul (of (coefficient_of m.rows k j)) (x j)) (length m.columns)
+row_total m x k = sum (λ j. mul (of (coefficient_of m.rows k j)) (x j)) (length m.columns)
 
 -- what a point costs
 abbrev pub total_cost : Parts → (ℕ → Rational) → Rational
-total_cost m x = add (of m.constant) (sum rationals (λ j. mul (cost_of m j) (x j)) (length m.columns))
+total_cost m x = add (of m.constant) (sum (λ j. mul (cost_of m j) (x j)) (length m.columns))
 
 -- a number lies between two sides, where they are there
 pub record IsBetween (l h : Option ℤ) (x : Rational) : Type 0 where

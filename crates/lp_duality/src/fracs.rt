@@ -1,3 +1,4 @@
+//! A growing list of fractions.
 use frac128::Frac;
 use ip_defs::Listed;
 

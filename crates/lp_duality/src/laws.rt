@@ -1,3 +1,4 @@
+//! The laws of duality, each as the contract of a call.
 ghost use Rattle.lp_duality.specs.Laws.{DualsAreScaled, CertificatesHaveTheirDuals, PricesBound, RaysBound, RelaxedWeakDuality, FeasiblePointsAreRelaxed};
 
 /// A positive multiple of a divisor and multipliers has that multiple of their dual value.

@@ -1,4 +1,3 @@
-pub mod NameLaws
 pub mod EntryLaws
 pub mod LineLaws
 pub mod SectionLaws

@@ -3,15 +3,16 @@ use Rattle.std.specs.Prelude.{◌≡◌, ℕ, zero, suc, ◌≤◌, List, [], �
 use Rattle.std.proofs.Common.{ap, sym, ◌∙◌, append_assoc}
 use Rattle.std.proofs.lemmas.Grind.{flat_map-append}
 use Rattle.std.proofs.lemmas.List.{append-nil, take_all}
-use Rattle.ip_defs.specs.Texts.{Written, written_text}
-use Rattle.mps_printer.specs.Sections.{lines_text}
+use Rattle.mps_defs.specs.CanonicalText.{Written, written_text}
+use Rattle.mps_printer.specs.Internal.Sections.{lines_text}
 
 -- a line by itself
 pub one_line : (start : List ℕ) (line : Written) → start ++ written_text line ≡ start ++ lines_text (line ∷ [])
 one_line start line = ap (λ bs. start ++ bs) (sym (append-nil (written_text line)))
 
 -- what is written for one more element comes last
-pub lines_more : {A : Type 0} (f : A → List Written) (xs : List A) (i : ℕ) (x : A) → slice_get xs i ≡ Some x → lines_text (flat_map f (take i xs)) ++ lines_text (f x) ≡ lines_text (flat_map f (take (suc i) xs))
+pub lines_more : {A : Type 0} (f : A → List Written) (xs : List A) (i : ℕ) (x : A) → slice_get xs i ≡ Some x
+    → lines_text (flat_map f (take i xs)) ++ lines_text (f x) ≡ lines_text (flat_map f (take (suc i) xs))
 lines_more f [] i x e = absurd cc
 lines_more f (y ∷ xs) zero x e = let same : x ≡ y = cc in ap (λ z. lines_text (f z)) same ∙ ap lines_text (sym (append-nil (f y)))
 lines_more f (y ∷ xs) (suc i) x e =
@@ -21,13 +22,17 @@ lines_more f (y ∷ xs) (suc i) x e =
     ∙ ap (λ bs. lines_text (f y) ++ bs) (lines_more f xs i x e)
     ∙ sym (flat_map-append written_text (f y) (flat_map f (take (suc i) xs)))
 
-pub text_more : {A : Type 0} (f : A → List Written) (start : List ℕ) (xs : List A) (i : ℕ) (x : A) → slice_get xs i ≡ Some x → (start ++ lines_text (flat_map f (take i xs))) ++ lines_text (f x) ≡ start ++ lines_text (flat_map f (take (suc i) xs))
-text_more f start xs i x e = append_assoc start (lines_text (flat_map f (take i xs))) (lines_text (f x)) ∙ ap (λ bs. start ++ bs) (lines_more f xs i x e)
+pub text_more : {A : Type 0} (f : A → List Written) (start : List ℕ) (xs : List A) (i : ℕ) (x : A) → slice_get xs i ≡ Some x
+    → (start ++ lines_text (flat_map f (take i xs))) ++ lines_text (f x) ≡ start ++ lines_text (flat_map f (take (suc i) xs))
+text_more f start xs i x e =
+    append_assoc start (lines_text (flat_map f (take i xs))) (lines_text (f x)) ∙ ap (λ bs. start ++ bs) (lines_more f xs i x e)
 
 -- past the last element all lines are there
-pub text_all : {A : Type 0} (f : A → List Written) (xs : List A) (i : ℕ) → length xs ≤ i → lines_text (flat_map f (take i xs)) ≡ lines_text (flat_map f xs)
+pub text_all : {A : Type 0} (f : A → List Written) (xs : List A) (i : ℕ) → length xs ≤ i
+    → lines_text (flat_map f (take i xs)) ≡ lines_text (flat_map f xs)
 text_all f xs i h = ap (λ l. lines_text (flat_map f l)) (take_all i xs h)
 
 -- lines after lines
 pub text_longer : (start : List ℕ) (xs ys : List Written) → (start ++ lines_text xs) ++ lines_text ys ≡ start ++ lines_text (xs ++ ys)
-text_longer start xs ys = append_assoc start (lines_text xs) (lines_text ys) ∙ ap (λ bs. start ++ bs) (sym (flat_map-append written_text xs ys))
+text_longer start xs ys =
+    append_assoc start (lines_text xs) (lines_text ys) ∙ ap (λ bs. start ++ bs) (sym (flat_map-append written_text xs ys))

@@ -1,9 +1,9 @@
 ghost use Rattle.std.specs.Prelude.{◌≡◌, ◌<◌, ◌++◌, ◌∷◌, OnOk, flat_map, string_bytes, length, ℕ};
 ghost use Rattle.std.specs.List.{enumerate_from};
 ghost use Rattle.ip_defs.specs.Limits.{IsWithinLimits, number_at};
-ghost use Rattle.ip_defs.specs.Texts.{column_block, triple, value_text};
-ghost use Rattle.mps_printer.specs.Entries.{column_entries, entry_line};
-ghost use Rattle.mps_printer.specs.Sections.{bound_lines, bound_section, column_section, lines_text};
+ghost use Rattle.mps_defs.specs.CanonicalText.{column_block, triple, value_text};
+ghost use Rattle.mps_printer.specs.Internal.Entries.{column_entries, entry_line};
+ghost use Rattle.mps_printer.specs.Internal.Sections.{bound_lines, bound_section, column_section, lines_text};
 
 use crate::gather::entries_by_column;
 use crate::lines::{push_amount, push_bound, push_head, push_triple};

@@ -1,6 +1,6 @@
 ghost use Rattle.std.specs.Prelude.{◌≡◌, ◌++◌, ◌<◌, ◌≤◌, ◌^◌, ℕ, IfOk, OnOk, [], length, slice_index_or};
 ghost use Rattle.ip_defs.specs.Limits.{AreOrdered, IsWithinLimits};
-ghost use Rattle.mps_printer.specs.Entries.{column_entries, listed_for};
+ghost use Rattle.mps_printer.specs.Internal.Entries.{column_entries, listed_for};
 
 use ip_defs::{Coefs, Memory, Parts};
 use std::alloc::Global;
@@ -30,7 +30,7 @@ fn push_row(lists: &mut Vec<Coefs>, row: u32, coefs: &[(u32, i64)]) -> Result<()
 }
 
 /// The coefficients of each column, each with the number of its row, in order of rows: one walk through the rows. The only error is
-/// want of memory.
+/// being out of memory.
 pub fn entries_by_column(alloc: Global, parts: &Parts) -> Result<Vec<Coefs>, Memory>
     requires { IsWithinLimits parts.now }
     ensures size { IfOk result (λ v. length v.items ≡ length parts.now.columns) }

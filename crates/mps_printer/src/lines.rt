@@ -1,7 +1,7 @@
 ghost use Rattle.std.specs.Prelude.{◌≡◌, ◌++◌, ◌∷◌, [], IfOk, OnOk, string_bytes};
 ghost use Rattle.std.specs.Fmt.{signed_decimal};
-ghost use Rattle.ip_defs.specs.Numbers.{decimal_text};
-ghost use Rattle.ip_defs.specs.Texts.{bound, head, pair, triple, written_text};
+ghost use Rattle.mps_defs.specs.Numbers.{decimal_text};
+ghost use Rattle.mps_defs.specs.CanonicalText.{bound, head, pair, triple, written_text};
 
 use decimals::decimal_text;
 use ip_defs::Memory;

@@ -1,6 +1,7 @@
 ghost use Rattle.std.specs.Prelude.{◌≡◌, ◌==◌, ◌&&◌, ◌||◌};
 ghost use Rattle.std.specs.List.{list_all, list_any};
-ghost use Rattle.ip_defs.specs.Texts.{is_crossed, is_printable, is_printable_name};
+ghost use Rattle.ip_defs.specs.Program.{is_crossed};
+ghost use Rattle.mps_defs.specs.CanonicalText.{is_printable, is_printable_name};
 
 use ip_defs::{Column, Parts, Row};
 use ip_model::{IntModel, crossed};

@@ -1,6 +1,6 @@
 ghost use Rattle.std.specs.Prelude.{◌≡◌, IfOk, string_bytes};
 ghost use Rattle.ip_defs.specs.Limits.{IsWithinLimits};
-ghost use Rattle.ip_defs.specs.Texts.{canonical_text};
+ghost use Rattle.mps_defs.specs.CanonicalText.{canonical_text};
 
 use crate::columns::{push_bound_section, push_column_section};
 use crate::lines::push_head;

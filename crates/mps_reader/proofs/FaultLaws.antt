@@ -1,22 +1,23 @@
 -- First faults of lists that are put together.
-use Rattle.std.specs.Prelude.{◌≡◌, ℕ, true, if◌then◌else◌, not, flat_map, List, [], ◌∷◌, ◌++◌, Option, Some, None, Result, Ok, Err}
-use Rattle.std.proofs.Common.{refl, ap, sym, ◌∙◌, subst}
+use Rattle.std.specs.Prelude.{◌≡◌, ℕ, true, if◌then◌else◌, not, flat_map, List, [], ◌∷◌, ◌++◌, Option, Some, None, Result, Ok, Err, drop, map, length, string_bytes, ◌<◌, ◌+◌}
+use Rattle.std.proofs.Common.{refl, ap, sym, ◌∙◌, subst, String, Global, get_or, arith}
 use Rattle.std.specs.Option.{is_none}
 use Rattle.ip_defs.specs.Lists.{first_of, when}
-use Rattle.ip_defs.specs.Records.{Line, lines_of, objective, column_names}
+use Rattle.mps_defs.specs.Records.{Line, lines_of, objective, column_names}
 use Rattle.std.specs.Str.{is_utf8}
-use Rattle.ip_defs.specs.Runs.{ReadMeets}
+use Rattle.mps_defs.specs.Faults.{ReadMeets}
 use Rattle.ip_defs.specs.declared.programs.Parts.{Parts}
-use Rattle.mps_reader.specs.Finished.{IsFinished}
-use Rattle.ip_defs.specs.TextModels.{model_from}
-use Rattle.ip_defs.specs.declared.texts.How.{How}
-use Rattle.ip_defs.specs.declared.texts.MpsError.{MpsError}
-use Rattle.ip_defs.specs.declared.texts.MpsError.TheVariants as Out
-use Rattle.ip_defs.specs.Faults.{IsFirst, all_line_faults, bound_missing, continuous_faults, faults_of_lines, is_ended, limit_faults, upper_faults}
-use Rattle.mps_reader.specs.Drafted.{AnswersFaults, column_faults}
+use Rattle.mps_reader.specs.Internal.Finished.{IsFinished}
+use Rattle.mps_defs.specs.TextModels.{model_from}
+use Rattle.mps_defs.specs.declared.texts.How.{How}
+use Rattle.mps_defs.specs.declared.texts.MpsError.{MpsError}
+use Rattle.mps_defs.specs.declared.texts.MpsError.TheVariants as Out
+use Rattle.mps_defs.specs.Faults.{IsFirst, all_line_faults, bound_missing, continuous_faults, faults_of_lines, is_ended, limit_faults, upper_faults}
+use Rattle.mps_reader.specs.Internal.Drafted.{AnswersFaults, column_faults}
 use Rattle.mps_reader.specs.declared.draft.ColumnDraft.{ColumnDraft}
+use Rattle.mps_reader.proofs.FinishLaws.{drop_at, drop_mapped}
 
--- where there is no fault, an error is want of memory
+-- where there is no fault, an error is that of memory
 pub from_none : (e : MpsError) → IsFirst None e → (o : Option MpsError) → IsFirst o e
 from_none Out.NotUtf8 h o = absurd cc
 from_none (Out.SectionOrder a) h o = absurd cc
@@ -51,16 +52,29 @@ first_later [] rest e = refl
 first_later (x ∷ xs) rest e = absurd cc
 
 -- the faults of columns from one on
-pub faults_at : (f : List ℕ → ColumnDraft → List MpsError) (names others : List (List ℕ)) (cs later : List ColumnDraft) (name : List ℕ) (c : ColumnDraft)
+pub faults_at : (f : List ℕ → ColumnDraft → List MpsError) (names others : List (List ℕ)) (cs later : List ColumnDraft) (name : List ℕ)
+    (c : ColumnDraft)
     → names ≡ name ∷ others → cs ≡ c ∷ later → column_faults f names cs ≡ f name c ++ column_faults f others later
 faults_at f names others cs later name c named is = ap (λ ns. column_faults f ns cs) named ∙ ap (column_faults f (name ∷ others)) is
 
+-- so for the names of a table and its columns from a number on
+pub faults_from : (f : List ℕ → ColumnDraft → List MpsError) (keys : List (String Global)) (cs : List ColumnDraft) (j : ℕ)
+    (key : String Global)
+    (none : ColumnDraft) → length keys ≡ length cs → j < length cs → key ≡ get_or keys j key
+    → column_faults f (drop j (map string_bytes keys)) (drop j cs)
+    ≡ f (string_bytes key) (get_or cs j none) ++ column_faults f (drop (j + 1) (map string_bytes keys)) (drop (j + 1) cs)
+faults_from f keys cs j key none same within at =
+    let names = map string_bytes keys in
+    faults_at f (drop j names) (drop (j + 1) names) (drop j cs) (drop (j + 1) cs) (string_bytes key) (get_or cs j none)
+    (drop_mapped string_bytes keys j key (omega (arith, same, within)) at) (drop_at cs j none within)
+
 -- an answer to the faults after a list without one
-pub answers_later : (here rest : List MpsError) (r : Result (Unit {0}) MpsError) → first_of here ≡ None → AnswersFaults rest r → AnswersFaults (here ++ rest) r
+pub answers_later : (here rest : List MpsError) (r : Result (Unit {0}) MpsError) → first_of here ≡ None → AnswersFaults rest r
+    → AnswersFaults (here ++ rest) r
 answers_later here rest (Ok done) none h = first_later here rest none ∙ h
 answers_later here rest (Err e) none h = subst (λ o. IsFirst o e) (sym (first_later here rest none)) h
 
--- the first fault is an answer, and so is want of memory
+-- the first fault is an answer, and so is being out of memory
 pub first_is : (o : Option MpsError) (e : MpsError) → o ≡ Some e → IsFirst o e
 first_is o Out.NotUtf8 h = h
 first_is o (Out.SectionOrder a) h = h
@@ -85,7 +99,8 @@ first_is o (Out.Digits a) h = h
 first_is o Out.Memory h = tt
 
 -- the first fault of the lines is that of a text
-pub line_first : (ls : List Line) (how : How) (e : MpsError) → IsFirst (first_of (all_line_faults ls)) e → IsFirst (first_of (faults_of_lines ls how)) e
+pub line_first : (ls : List Line) (how : How) (e : MpsError) → IsFirst (first_of (all_line_faults ls)) e
+    → IsFirst (first_of (faults_of_lines ls how)) e
 line_first ls how e h =
     let a = all_line_faults ls in
     let b = when (not (is_ended ls)) Out.NoEnd in
@@ -94,13 +109,20 @@ line_first ls how e h =
     let f = flat_map (bound_missing ls how) (column_names ls) in
     let g = flat_map (upper_faults ls) (column_names ls) in
     first_here (a ++ b ++ c ++ d ++ f ++ g) (limit_faults (model_from ls how)) e
-    (first_here (a ++ b ++ c ++ d ++ f) g e (first_here (a ++ b ++ c ++ d) f e (first_here (a ++ b ++ c) d e (first_here (a ++ b) c e (first_here a b e h)))))
+    (first_here (a ++ b ++ c ++ d ++ f) g e
+    (first_here (a ++ b ++ c ++ d) f e (first_here (a ++ b ++ c) d e (first_here (a ++ b) c e (first_here a b e h)))))
 
 -- what the lines of a text in UTF-8 answer is what the text answers
-pub read_model : (text : List ℕ) (how : How) (result : Result Parts MpsError) → is_utf8 text ≡ true → IsFinished (lines_of text) how result → ReadMeets text how result
-read_model text how (Ok m) good h = (ap (λ t. if t then first_of (faults_of_lines (lines_of text) how) else Some Out.NotUtf8) good ∙ h.0, h.1)
-read_model text how (Err e) good h = subst (λ t. IsFirst (if t then first_of (faults_of_lines (lines_of text) how) else Some Out.NotUtf8) e) (sym good) h
+pub read_model : (text : List ℕ) (how : How) (result : Result Parts MpsError) → is_utf8 text ≡ true → IsFinished (lines_of text) how result
+    → ReadMeets text how result
+read_model text how (Ok m) good h =
+    (ap (λ t. if t then first_of (faults_of_lines (lines_of text) how) else Some Out.NotUtf8) good ∙ h.0, h.1)
+read_model text how (Err e) good h =
+    subst (λ t. IsFirst (if t then first_of (faults_of_lines (lines_of text) how) else Some Out.NotUtf8) e) (sym good) h
 
 -- and so is the first fault of its lines
-pub read_fault : (text : List ℕ) (how : How) (e : MpsError) → is_utf8 text ≡ true → IsFirst (first_of (all_line_faults (lines_of text))) e → ReadMeets text how (Err e)
-read_fault text how e good h = subst (λ t. IsFirst (if t then first_of (faults_of_lines (lines_of text) how) else Some Out.NotUtf8) e) (sym good) (line_first (lines_of text) how e h)
+pub read_fault : (text : List ℕ) (how : How) (e : MpsError) → is_utf8 text ≡ true → IsFirst (first_of (all_line_faults (lines_of text))) e
+    → ReadMeets text how (Err e)
+read_fault text how e good h =
+    subst (λ t. IsFirst (if t then first_of (faults_of_lines (lines_of text) how) else Some Out.NotUtf8) e) (sym good)
+    (line_first (lines_of text) how e h)

@@ -4,7 +4,7 @@ use Rattle.std.specs.List.{slice_split, onto_first}
 use Rattle.std.proofs.Common.{arith, ap, sym, ◌∙◌}
 use Rattle.std.proofs.lemmas.Bool.{eqb-true}
 use Rattle.std.proofs.lemmas.List.Splits.{slice_split-cons_yes, slice_split-cons_no}
-use Rattle.ip_defs.specs.Records.{fields_of, is_blank, without_return}
+use Rattle.mps_defs.specs.Records.{fields_of, is_blank, without_return}
 
 abbrev pub is_space : ℕ → Bool
 is_space b = b == 32
@@ -32,7 +32,8 @@ record Cut (line : List ℕ) : Type 0 where
   rest_is : filter is_there others ≡ filter is_there parts ++ flat_map parts_of words
 
 -- one more piece in front of both
-one_more : (a : List ℕ) (xs ys zs : List (List ℕ)) → filter is_there xs ≡ filter is_there ys ++ zs → filter is_there (a ∷ xs) ≡ filter is_there (a ∷ ys) ++ zs
+one_more : (a : List ℕ) (xs ys zs : List (List ℕ)) → filter is_there xs ≡ filter is_there ys ++ zs
+    → filter is_there (a ∷ xs) ≡ filter is_there (a ∷ ys) ++ zs
 one_more a xs ys zs e = by (is_there a)
   where
     by : (t : Bool) → cond t (a ∷ filter is_there xs) (filter is_there xs) ≡ cond t (a ∷ filter is_there ys) (filter is_there ys) ++ zs
@@ -40,7 +41,8 @@ one_more a xs ys zs e = by (is_there a)
     by false = e
 
 cut : (line : List ℕ) → Cut line
-cut [] = record { first = []; others = []; word = []; words = []; parts = []; cut_is = refl; words_are = refl; parts_are = refl; rest_is = refl }
+cut [] =
+    record { first = []; others = []; word = []; words = []; parts = []; cut_is = refl; words_are = refl; parts_are = refl; rest_is = refl }
 cut (x ∷ xs) = by (is_space x) (is_tab x) refl refl (cut xs)
   where
     by : (s t : Bool) → is_space x ≡ s → is_tab x ≡ t → Cut xs → Cut (x ∷ xs)
@@ -53,7 +55,8 @@ cut (x ∷ xs) = by (is_space x) (is_tab x) refl refl (cut xs)
       cut_is = slice_split-cons_yes is_blank x xs (ap (λ b. b || is_tab x) e) ∙ ap (λ l. [] ∷ l) c.cut_is;
       words_are = slice_split-cons_yes is_space x xs e ∙ ap (λ l. [] ∷ l) c.words_are;
       parts_are = refl;
-      rest_is = one_more c.first c.others c.parts (flat_map parts_of c.words) c.rest_is ∙ ap (λ l. filter is_there l ++ flat_map parts_of c.words) (sym c.parts_are);
+      rest_is = one_more c.first c.others c.parts (flat_map parts_of c.words) c.rest_is
+          ∙ ap (λ l. filter is_there l ++ flat_map parts_of c.words) (sym c.parts_are);
     }
     by false true e f c = record {
       first = [];
@@ -101,5 +104,9 @@ stays (b ∷ bs) none = by (slice_index_or (b ∷ bs) (length bs) 0 == 13) refl
     size = omega arith
 
     by : (t : Bool) → (slice_index_or (b ∷ bs) (length bs) 0 == 13) ≡ t → b ∷ bs ≡ without_return (b ∷ bs)
-    by true e = absurd (none (take (length bs) (b ∷ bs)) (last_apart b bs ∙ ap (λ n. take (length bs) (b ∷ bs) ++ n ∷ []) (eqb-true (slice_index_or (b ∷ bs) (length bs) 0) 13 e)))
-    by false e = sym (ap (λ n. if slice_index_or (b ∷ bs) n 0 == 13 then take n (b ∷ bs) else b ∷ bs) size ∙ ap (λ t. if t then take (length bs) (b ∷ bs) else b ∷ bs) e)
+    by true e =
+        absurd (none (take (length bs) (b ∷ bs)) (last_apart b bs
+        ∙ ap (λ n. take (length bs) (b ∷ bs) ++ n ∷ []) (eqb-true (slice_index_or (b ∷ bs) (length bs) 0) 13 e)))
+    by false e =
+        sym (ap (λ n. if slice_index_or (b ∷ bs) n 0 == 13 then take n (b ∷ bs) else b ∷ bs) size
+        ∙ ap (λ t. if t then take (length bs) (b ∷ bs) else b ∷ bs) e)

@@ -2,7 +2,7 @@
 use Rattle.std.specs.Prelude.{◌≡◌, ℕ, zero, suc, ◌+◌, ◌<◌, ◌==◌, Bool, true, false, cond, not, List, [], ◌∷◌, ◌++◌, length, map, drop, if◌then◌else◌, Some, None, slice_get, unsigned_abs, ℤ, pos, negsuc}
 use Rattle.std.specs.Option.{is_some}
 use Rattle.ip_defs.specs.Lists.{when}
-use Rattle.ip_defs.specs.declared.texts.How.{How}
+use Rattle.mps_defs.specs.declared.texts.How.{How}
 use Rattle.ip_defs.specs.declared.programs.Column.{Column}
 use Rattle.ip_defs.specs.declared.programs.Row.{Row}
 use Rattle.mps_reader.specs.declared.draft.RowDraft.{RowDraft}
@@ -10,10 +10,10 @@ use Rattle.mps_reader.specs.declared.draft.ColumnDraft.{ColumnDraft}
 use Rattle.std.proofs.Common.{arith, refl, sym, ap, ◌∙◌, get_or, append_assoc, drop-cons}
 use Rattle.std.proofs.lemmas.Int.{ints, clamps}
 use Rattle.std.proofs.Math.Dec.{eqb-suc-zero}
-use Rattle.ip_defs.specs.TextModels.{units}
-use Rattle.ip_defs.specs.declared.texts.Number.{Number}
-use Rattle.mps_reader.specs.Clamps.{clamped, clamped_coefs, clamped_column, clamped_row}
-use Rattle.mps_reader.specs.Drafted.{drafted_coefs, drafted_column, drafted_columns, drafted_row, drafted_rows, cost_head, cost_rest, is_free_kind}
+use Rattle.mps_defs.specs.TextModels.{units}
+use Rattle.mps_defs.specs.declared.texts.Number.{Number}
+use Rattle.mps_reader.specs.Internal.Clamps.{clamped, clamped_coefs, clamped_column, clamped_row}
+use Rattle.mps_reader.specs.Internal.Drafted.{drafted_coefs, drafted_column, drafted_columns, drafted_row, drafted_rows, cost_head, cost_rest, is_free_kind}
 
 -- a list from a place on
 pub drop_at : {A : Type 0} (xs : List A) (j : ℕ) (d : A) → j < length xs → drop j xs ≡ get_or xs j d ∷ drop (j + 1) xs
@@ -24,7 +24,8 @@ drop_at xs j d within =
 pub drop_read : {A : Type 0} (xs : List A) (j : ℕ) (x : A) → j < length xs → x ≡ get_or xs j x → drop j xs ≡ x ∷ drop (j + 1) xs
 drop_read xs j x within is = drop_at xs j x within ∙ ap (λ y. y ∷ drop (j + 1) xs) (sym is)
 
-pub drop_mapped : {A B : Type 0} (f : A → B) (xs : List A) (j : ℕ) (x : A) → j < length xs → x ≡ get_or xs j x → drop j (map f xs) ≡ f x ∷ drop (j + 1) (map f xs)
+pub drop_mapped : {A B : Type 0} (f : A → B) (xs : List A) (j : ℕ) (x : A) → j < length xs → x ≡ get_or xs j x
+    → drop j (map f xs) ≡ f x ∷ drop (j + 1) (map f xs)
 drop_mapped f [] j x within is = absurd (omega arith)
 drop_mapped f (y ∷ ys) zero x within is = ap (λ z. f z ∷ map f ys) (sym is)
 drop_mapped f (y ∷ ys) (suc j) x within is =
@@ -47,7 +48,8 @@ coefs_skip k p ps done z is none =
     let nothing = clamped_nothing (units k p.1) (sym is ∙ none) in
     ap (λ t. done ++ clamped_coefs (cond (not t) ((p.0, units k p.1) ∷ drafted_coefs k ps) (drafted_coefs k ps))) (sym nothing)
 
-pub coefs_take : (k : ℕ) (p : ℕ × Number) (ps : List (ℕ × Number)) (done : List (ℕ × ℤ)) (z : ℤ) → z ≡ clamped (units k p.1) → (z ≡ pos 0 → ⊥)
+pub coefs_take : (k : ℕ) (p : ℕ × Number) (ps : List (ℕ × Number)) (done : List (ℕ × ℤ)) (z : ℤ) → z ≡ clamped (units k p.1)
+    → (z ≡ pos 0 → ⊥)
     → (done ++ (p.0, z) ∷ []) ++ clamped_coefs (drafted_coefs k ps) ≡ done ++ clamped_coefs (drafted_coefs k (p ∷ ps))
 coefs_take k p ps done z is some =
     let something = clamped_something (units k p.1) (λ e. some (is ∙ e)) in
@@ -56,9 +58,11 @@ coefs_take k p ps done z is some =
     ∙ ap (λ t. done ++ clamped_coefs (cond (not t) ((p.0, units k p.1) ∷ drafted_coefs k ps) (drafted_coefs k ps))) (sym something)
 
 -- one more column
-pub columns_more : (how : How) (k j : ℕ) (costs : List (ℕ × Number)) (names others : List (List ℕ)) (cs later : List ColumnDraft) (name : List ℕ) (c : ColumnDraft) (done : List Column) (x : Column)
+pub columns_more : (how : How) (k j : ℕ) (costs : List (ℕ × Number)) (names others : List (List ℕ)) (cs later : List ColumnDraft)
+    (name : List ℕ) (c : ColumnDraft) (done : List Column) (x : Column)
     → names ≡ name ∷ others → cs ≡ c ∷ later → x ≡ clamped_column (drafted_column how k name (cost_head j costs) c)
-    → (done ++ x ∷ []) ++ map clamped_column (drafted_columns how k (suc j) (cost_rest j costs) others later) ≡ done ++ map clamped_column (drafted_columns how k j costs names cs)
+    → (done ++ x ∷ []) ++ map clamped_column (drafted_columns how k (suc j) (cost_rest j costs) others later)
+    ≡ done ++ map clamped_column (drafted_columns how k j costs names cs)
 columns_more how k j costs names others cs later name c done x named is made =
     append_assoc done (x ∷ []) (map clamped_column (drafted_columns how k (suc j) (cost_rest j costs) others later))
     ∙ ap (λ y. done ++ y ∷ map clamped_column (drafted_columns how k (suc j) (cost_rest j costs) others later)) made
@@ -66,7 +70,8 @@ columns_more how k j costs names others cs later name c done x named is made =
     ∙ ap (λ l. done ++ map clamped_column (drafted_columns how k j costs names l)) (sym is)
 
 -- the costs that are left after a column with one, and after a column without one
-pub cost_taken : (j : ℕ) (costs : List (ℕ × Number)) (n : ℕ) → is_some (cost_head j (drop n costs)) ≡ true → (cost_rest j (drop n costs) ≡ drop (n + 1) costs) × (n < length costs)
+pub cost_taken : (j : ℕ) (costs : List (ℕ × Number)) (n : ℕ) → is_some (cost_head j (drop n costs)) ≡ true
+    → (cost_rest j (drop n costs) ≡ drop (n + 1) costs) × (n < length costs)
 cost_taken j [] n e = by n e
   where
     by : (i : ℕ) → is_some (cost_head j (drop {A = ℕ × Number} i [])) ≡ true → (cost_rest j (drop i []) ≡ drop (i + 1) []) × (i < 0)
@@ -91,7 +96,8 @@ cost_left j (p ∷ ps) e = by (p.0 == j) e
     by false h = refl
 
 -- one more row, which is left out where it is free
-pub rows_take : (how : How) (names others : List (List ℕ)) (rs later : List RowDraft) (name : List ℕ) (r : RowDraft) (done : List Row) (x : Row)
+pub rows_take : (how : How) (names others : List (List ℕ)) (rs later : List RowDraft) (name : List ℕ) (r : RowDraft) (done : List Row)
+    (x : Row)
     → names ≡ name ∷ others → rs ≡ r ∷ later → is_free_kind r.kind ≡ false → x ≡ clamped_row (drafted_row how name r)
     → (done ++ x ∷ []) ++ map clamped_row (drafted_rows how others later) ≡ done ++ map clamped_row (drafted_rows how names rs)
 rows_take how names others rs later name r done x named is bound made =
@@ -110,14 +116,11 @@ rows_skip how names others rs later name r done named is free =
     ∙ ap (λ l. done ++ map clamped_row (drafted_rows how names l)) (sym is)
 
 -- an element is what its place in the mapped list says
-pub mapped_at : {A B : Type 0} (f : A → B) (xs : List A) (i : ℕ) (x : A) (y : B) → i < length xs → x ≡ get_or xs i x → slice_get (map f xs) i ≡ Some y → f x ≡ y
+pub mapped_at : {A B : Type 0} (f : A → B) (xs : List A) (i : ℕ) (x : A) (y : B) → i < length xs → x ≡ get_or xs i x
+    → slice_get (map f xs) i ≡ Some y → f x ≡ y
 mapped_at f [] i x y within is at = absurd (omega arith)
 mapped_at f (z ∷ zs) zero x y within is at = ap f is ∙ some_same (f z) y at
   where
     some_same : {B : Type 0} (a b : B) → Some a ≡ Some b → a ≡ b
     some_same a b e = cc
 mapped_at f (z ∷ zs) (suc i) x y within is at = mapped_at f zs i x y (omega arith) is at
-
-pub mapped_count : {A B : Type 0} (f : A → B) (xs : List A) → length (map f xs) ≡ length xs
-mapped_count f [] = refl
-mapped_count f (x ∷ xs) = ap suc (mapped_count f xs)

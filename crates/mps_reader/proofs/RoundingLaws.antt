@@ -3,18 +3,16 @@ use Rattle.std.specs.Prelude.{◌≡◌, ℕ, zero, suc, ◌+◌, ◌-◌, ◌/�
 use Rattle.std.specs.Int.{int_div_euclid}
 use Rattle.std.specs.Int.RustNames.{unsigned_abs}
 use Rattle.std.proofs.Common.{sym, ◌∙◌, ap, subst, arith}
-use Rattle.std.proofs.Math.Nat.{add-div_right, div-eq_of_lt, div-lt_iff_lt-mul, one-le-pow}
+use Rattle.std.proofs.Math.Nat.{add-div_right, div-eq_of_lt, div-lt_iff_lt-mul}
 use Rattle.std.proofs.lemmas.Int.{ints}
 use Rattle.std.proofs.lemmas.Nat.{pow-add}
 use Rattle.ip_defs.specs.Certificates.{ceiling}
-use Rattle.ip_defs.specs.Numbers.{signed}
-
-pub tens_positive : (d : ℕ) → 0 < 10 ^ d
-tens_positive d = one-le-pow d 10 (omega arith)
+use Rattle.mps_defs.specs.Numbers.{signed}
+use Rattle.mps_defs.proofs.NumberLaws.{ten_positive}
 
 -- a number below 10^20 has a whole part below 10^20
 pub whole_is_small : (size d : ℕ) → size < 10 ^ (20 + d) → size / 10 ^ d < 10 ^ 20
-whole_is_small size d h = (div-lt_iff_lt-mul (tens_positive d)).1 (subst (λ n. size < n) (pow-add 10 20 d) h)
+whole_is_small size d h = (div-lt_iff_lt-mul (ten_positive d)).1 (subst (λ n. size < n) (pow-add 10 20 d) h)
 
 one_more_part : (a n : ℕ) → 0 < n → (suc a + n - 1) / n ≡ a / n + 1
 one_more_part a n h = ap (λ k. k / n) (omega arith) ∙ add-div_right a h

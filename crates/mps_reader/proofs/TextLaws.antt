@@ -1,22 +1,27 @@
 -- The lines of a text, taken one by one.
-use Rattle.std.specs.Prelude.{◌≡◌, ℕ, ◌+◌, ◌<◌, ◌≤◌, Bool, true, false, cond, List, [], ◌∷◌, ◌++◌, length, map, filter, flat_map, Some, option_map, ◌&&◌, take, drop, slice_get, if◌then◌else◌, refl}
+use Rattle.std.specs.Prelude.{◌≡◌, ℕ, ◌+◌, ◌<◌, ◌≤◌, Bool, true, false, List, [], ◌∷◌, ◌++◌, length, map, filter, Some, option_map, ◌&&◌, take, drop, slice_get, if◌then◌else◌, refl, Result, Ok, Err}
 use Rattle.std.specs.Option.{option_or}
 use Rattle.std.specs.List.{list_any, slice_split, enumerate_from}
 use Rattle.std.proofs.Common.{sym, ◌∙◌, ap, subst, arith, get_or}
-use Rattle.std.proofs.lemmas.List.{take_more, take-append-drop, length-map, length-take-le}
+use Rattle.std.proofs.lemmas.List.{take_more, take-append-drop, length-map, length-take-le, append-nil, append_assoc, map-append}
 use Rattle.std.proofs.lemmas.Option.{slice_get_within, slice_get-map, slice_get-get_or, get_or_from_slice_get}
 use Rattle.std.proofs.lemmas.List.Splits.{length-slice_split}
 use Rattle.std.proofs.lemmas.List.Sums.{count_by-le-length}
 use Rattle.std.proofs.lemmas.List.Folds.{list_any-append}
-use Rattle.ip_defs.specs.Lists.{first_of, when, with_earlier, after_those, through_first}
-use Rattle.ip_defs.specs.Records.{Line, opens_end, line_of, is_end, without_return}
-use Rattle.ip_defs.specs.Faults.{all_line_faults, line_faults}
-use Rattle.ip_defs.specs.declared.texts.MpsError.{MpsError}
-use Rattle.ip_defs.specs.declared.texts.MpsError.TheVariants as Out
-use Rattle.mps_reader.specs.Progress.{IsFirstFault}
-use Rattle.mps_reader.specs.Reading.{is_read, lines_by}
-use Rattle.mps_reader.proofs.GrowthLaws.{append_nil, append_assoc, filter-append, map-append, through-append, flat_map-append, enumerate-append, first_of-append}
-use Rattle.mps_reader.proofs.SectionLaws.{and_left, and_right, or_false}
+use Rattle.ip_defs.specs.Lists.{first_of, when}
+use Rattle.mps_defs.specs.Lists.{with_earlier, after_those, through_first}
+use Rattle.mps_defs.specs.Records.{Line, opens_end, line_of, without_return, is_line_end, is_read}
+use Rattle.mps_defs.specs.Faults.{all_line_faults, faults_after}
+use Rattle.mps_defs.specs.declared.texts.MpsError.{MpsError}
+use Rattle.mps_defs.specs.declared.texts.MpsError.TheVariants as Out
+use Rattle.mps_reader.specs.Internal.Progress.{IsFirstFault, Stands}
+use Rattle.mps_reader.specs.Internal.Reading.{lines_by, IsLineTaken}
+use Rattle.ip_defs.proofs.BoolLaws.{left_true, right_true}
+use Rattle.ip_defs.proofs.ListLaws.{filter-append, enumerate-append}
+use Rattle.mps_defs.proofs.ListLaws.{through-append, first_of-append, after_append, one_kept}
+use Rattle.std.proofs.lemmas.Bool.{or_from}
+use Rattle.mps_defs.proofs.FaultLaws.{faults_append}
+use Rattle.mps_reader.specs.declared.draft.Draft.{Draft}
 
 -- the lines that are read of the lines of a text, from a number on
 abbrev pub read_from : ℕ → List (List ℕ) → List (ℕ × List ℕ)
@@ -26,23 +31,17 @@ pub read_append : (n : ℕ) (xs ys : List (List ℕ)) → read_from n (xs ++ ys)
 read_append n xs ys =
     ap (λ k. filter is_read (enumerate_from n k)) (map-append without_return xs ys)
     ∙ ap (filter is_read) (enumerate-append n (map without_return xs) (map without_return ys))
-    ∙ filter-append is_read (enumerate_from n (map without_return xs)) (enumerate_from (n + length (map without_return xs)) (map without_return ys))
+    ∙ filter-append is_read (enumerate_from n (map without_return xs))
+    (enumerate_from (n + length (map without_return xs)) (map without_return ys))
     ∙ ap (λ k. read_from n xs ++ filter is_read (enumerate_from (n + k) (map without_return ys))) (length-map xs without_return)
 
 pub read_one : (n : ℕ) (x : List ℕ) → read_from n (x ∷ []) ≡ when (is_read (n, without_return x)) (n, without_return x)
-read_one n x = by (is_read p)
-  where
-    p : ℕ × List ℕ
-    p = (n, without_return x)
-
-    by : (t : Bool) → cond t (p ∷ []) [] ≡ when t p
-    by true = refl
-    by false = refl
+read_one n x = one_kept (is_read (n, without_return x)) (n, without_return x)
 
 -- ---- up to the ENDATA line
 
 through_none : {A : Type 0} (test : A → Bool) (xs : List A) → list_any test xs ≡ false → through_first test xs ≡ xs
-through_none test xs none = ap (through_first test) (sym (append_nil xs)) ∙ through-append test xs [] none ∙ append_nil xs
+through_none test xs none = ap (through_first test) (sym (append-nil xs)) ∙ through-append test xs [] none ∙ append-nil xs
 
 -- what comes after an element, or nothing where it is the last one
 through_next : {A : Type 0} (test : A → Bool) (x : A) (xs : List A) → (ys : List A) × (through_first test (x ∷ xs) ≡ x ∷ ys)
@@ -54,25 +53,21 @@ through_next {A} test x xs = by (test x) refl
 
 -- ---- the first fault of lines is that of those before
 
-after_append : {A : Type 0} (before xs ys : List A) → after_those before (xs ++ ys) ≡ after_those before xs ++ after_those (before ++ xs) ys
-after_append before [] ys = ap (λ b. after_those b ys) (sym (append_nil before))
-after_append before (x ∷ xs) ys = ap (λ l. (before, x) ∷ l) (after_append (before ++ x ∷ []) xs ys ∙ ap (λ b. after_those (before ++ x ∷ []) xs ++ after_those b ys) (append_assoc before (x ∷ []) xs))
-
 lines_append : (ps qs : List (ℕ × List ℕ)) → lines_by (ps ++ qs) ≡ lines_by ps ++ map line_of (after_those ps qs)
 lines_append ps qs = ap (map line_of) (after_append [] ps qs) ∙ map-append line_of (with_earlier ps) (after_those ps qs)
 
-faults_append : (ls ks : List Line) → all_line_faults (ls ++ ks) ≡ all_line_faults ls ++ flat_map (λ p. line_faults p.0 p.1) (after_those ls ks)
-faults_append ls ks = ap (flat_map (λ p. line_faults p.0 p.1)) (after_append [] ls ks) ∙ flat_map-append (λ p. line_faults p.0 p.1) (with_earlier ls) (after_those ls ks)
-
 -- a first fault stays, whatever lines follow
-fault_stays : (ps qs : List (ℕ × List ℕ)) (e : MpsError) → first_of (all_line_faults (lines_by ps)) ≡ Some e → first_of (all_line_faults (lines_by (ps ++ qs))) ≡ Some e
+fault_stays : (ps qs : List (ℕ × List ℕ)) (e : MpsError) → first_of (all_line_faults (lines_by ps)) ≡ Some e
+    → first_of (all_line_faults (lines_by (ps ++ qs))) ≡ Some e
 fault_stays ps qs e h =
+    let later = faults_after (lines_by ps) (map line_of (after_those ps qs)) in
     ap (λ ls. first_of (all_line_faults ls)) (lines_append ps qs)
-    ∙ ap first_of (faults_append (lines_by ps) (map line_of (after_those ps qs)))
-    ∙ first_of-append (all_line_faults (lines_by ps)) (flat_map (λ p. line_faults p.0 p.1) (after_those (lines_by ps) (map line_of (after_those ps qs))))
-    ∙ ap (λ o. option_or o (first_of (flat_map (λ p. line_faults p.0 p.1) (after_those (lines_by ps) (map line_of (after_those ps qs)))))) h
+    ∙ ap first_of (faults_append [] (lines_by ps) (map line_of (after_those ps qs)))
+    ∙ first_of-append (all_line_faults (lines_by ps)) later
+    ∙ ap (λ o. option_or o (first_of later)) h
 
-refusal_stays : (ps qs : List (ℕ × List ℕ)) (e : MpsError) → IsFirstFault (all_line_faults (lines_by ps)) e → IsFirstFault (all_line_faults (lines_by (ps ++ qs))) e
+refusal_stays : (ps qs : List (ℕ × List ℕ)) (e : MpsError) → IsFirstFault (all_line_faults (lines_by ps)) e
+    → IsFirstFault (all_line_faults (lines_by (ps ++ qs))) e
 refusal_stays ps qs Out.Memory h = tt
 refusal_stays ps qs e h = fault_stays ps qs e h
 
@@ -85,21 +80,32 @@ one_more xs i x at =
     let within = slice_get_within xs i x at in
     ap (read_from 1) (take_more xs i x within ∙ ap (λ y. take i xs ++ y ∷ []) (get_or_from_slice_get xs i x x at))
     ∙ read_append 1 (take i xs) (x ∷ [])
-    ∙ ap (λ k. read_from 1 (take i xs) ++ read_from k (x ∷ [])) (ap (λ n. 1 + n) (length-take-le i xs (omega (arith, within))) ∙ omega arith)
+    ∙ ap (λ k. read_from 1 (take i xs) ++ read_from k (x ∷ []))
+    (ap (λ n. 1 + n) (length-take-le i xs (omega (arith, within))) ∙ omega arith)
     ∙ ap (λ ps. read_from 1 (take i xs) ++ ps) (read_one (i + 1) x)
 
 -- the lines so far and others are all
 pub some_and_others : (xs : List (List ℕ)) (j : ℕ) → (ys : List (ℕ × List ℕ)) × (read_from 1 xs ≡ read_from 1 (take j xs) ++ ys)
-some_and_others xs j = (read_from (1 + length (take j xs)) (drop j xs), ap (read_from 1) (sym (take-append-drop j xs)) ∙ read_append 1 (take j xs) (drop j xs))
+some_and_others xs j =
+    (read_from (1 + length (take j xs)) (drop j xs), ap (read_from 1) (sym (take-append-drop j xs)) ∙ read_append 1 (take j xs) (drop j xs))
 
 -- lines are read up to the ENDATA line, so far as it did not come
 up_to : (done : List (ℕ × List ℕ)) (p : ℕ × List ℕ) (t : Bool) (ys : List (ℕ × List ℕ)) → list_any opens_end done ≡ false
     → (zs : List (ℕ × List ℕ)) × (through_first opens_end ((done ++ when t p) ++ ys) ≡ (done ++ when t p) ++ zs)
 up_to done p true ys going =
-    let next = through_next opens_end p ys in
-    (next.0, ap (through_first opens_end) (append_assoc done (p ∷ []) ys) ∙ through-append opens_end done (p ∷ ys) going ∙ ap (λ k. done ++ k) next.1 ∙ sym (append_assoc done (p ∷ []) next.0))
-up_to done p false ys going =
-    (through_first opens_end ys, ap (λ k. through_first opens_end (k ++ ys)) (append_nil done) ∙ through-append opens_end done ys going ∙ ap (λ k. k ++ through_first opens_end ys) (sym (append_nil done)))
+    let next = through_next opens_end p ys in (
+      next.0,
+      ap (through_first opens_end) (append_assoc done (p ∷ []) ys)
+          ∙ through-append opens_end done (p ∷ ys) going
+          ∙ ap (λ k. done ++ k) next.1
+          ∙ sym (append_assoc done (p ∷ []) next.0),
+    )
+up_to done p false ys going = (
+  through_first opens_end ys,
+  ap (λ k. through_first opens_end (k ++ ys)) (append-nil done)
+      ∙ through-append opens_end done ys going
+      ∙ ap (λ k. k ++ through_first opens_end ys) (sym (append-nil done)),
+)
 
 -- what the lines of a text say
 abbrev pub said_by : List (List ℕ) → List Line
@@ -127,18 +133,21 @@ at_end xs i x at going ended =
     others = some_and_others xs (i + 1)
 
     read : is_read p ≡ true
-    read = and_left (is_read p) (opens_end p) ended
+    read = left_true (is_read p) (opens_end p) ended
 
     ends : opens_end p ≡ true
-    ends = and_right (is_read p) (opens_end p) ended
+    ends = right_true (is_read p) (opens_end p) ended
 
 -- without one all lines are read
 pub all_read : (xs : List (List ℕ)) → list_any opens_end (read_from 1 xs) ≡ false → lines_by (read_from 1 xs) ≡ said_by xs
 all_read xs going = ap lines_by (sym (through_none opens_end (read_from 1 xs) going))
 
 -- the fault of a line is the first one of the text
-pub refused_at : (xs : List (List ℕ)) (i : ℕ) (x : List ℕ) (e : MpsError) → slice_get xs i ≡ Some x → list_any opens_end (read_from 1 (take i xs)) ≡ false
-    → IsFirstFault (all_line_faults (lines_by (read_from 1 (take i xs) ++ when (is_read (i + 1, without_return x)) (i + 1, without_return x)))) e → IsFirstFault (all_line_faults (said_by xs)) e
+pub refused_at : (xs : List (List ℕ)) (i : ℕ) (x : List ℕ) (e : MpsError) → slice_get xs i ≡ Some x
+    → list_any opens_end (read_from 1 (take i xs)) ≡ false
+    → IsFirstFault
+    (all_line_faults (lines_by (read_from 1 (take i xs) ++ when (is_read (i + 1, without_return x)) (i + 1, without_return x)))) e
+    → IsFirstFault (all_line_faults (said_by xs)) e
 refused_at xs i x e at going fault =
     subst (λ ps. IsFirstFault (all_line_faults (lines_by ps)) e)
     (sym rest.1 ∙ ap (through_first opens_end) (sym (others.1 ∙ ap (λ k. k ++ others.0) (one_more xs i x at))))
@@ -153,16 +162,60 @@ refused_at xs i x e at going fault =
     others : (ys : List (ℕ × List ℕ)) × (read_from 1 xs ≡ read_from 1 (take (i + 1) xs) ++ ys)
     others = some_and_others xs (i + 1)
 
-    rest : (zs : List (ℕ × List ℕ)) × (through_first opens_end ((done ++ when (is_read p) p) ++ others.0) ≡ (done ++ when (is_read p) p) ++ zs)
+    rest : (zs : List (ℕ × List ℕ)) ×
+        (through_first opens_end ((done ++ when (is_read p) p) ++ others.0) ≡ (done ++ when (is_read p) p) ++ zs)
     rest = up_to done p (is_read p) others.0 going
 
 -- it goes on where the line is not the ENDATA line
-pub goes_on : (done : List (ℕ × List ℕ)) (p : ℕ × List ℕ) → list_any opens_end done ≡ false → (is_read p && opens_end p) ≡ false → list_any opens_end (done ++ when (is_read p) p) ≡ false
-goes_on done p going here = list_any-append opens_end done (when (is_read p) p) ∙ or_false (list_any opens_end done) (list_any opens_end (when (is_read p) p)) going (by (is_read p) here)
+pub goes_on : (done : List (ℕ × List ℕ)) (p : ℕ × List ℕ) → list_any opens_end done ≡ false → (is_read p && opens_end p) ≡ false
+    → list_any opens_end (done ++ when (is_read p) p) ≡ false
+goes_on done p going here =
+    list_any-append opens_end done (when (is_read p) p)
+    ∙ or_from (list_any opens_end done) (list_any opens_end (when (is_read p) p)) going (by (is_read p) here)
   where
     by : (t : Bool) → (t && opens_end p) ≡ false → list_any opens_end (when t p) ≡ false
-    by true e = or_false (opens_end p) false e refl
+    by true e = or_from (opens_end p) false e refl
     by false e = refl
+
+-- ---- what taking the next line says of the text
+
+-- the answer on the next line, by the number of the lines before it
+abbrev NextTaken : List (List ℕ) → ℕ → ℕ → List ℕ → Draft → Result Bool MpsError → Type 0
+NextTaken xs i n x new r =
+    (slice_get xs i ≡ Some x) × (n ≡ i) × (list_any opens_end (read_from 1 (take i xs)) ≡ false)
+    × IsLineTaken (read_from 1 (take i xs)) (n + 1, without_return x) new r
+
+pub next_ended : (xs : List (List ℕ)) (i n : ℕ) (x : List ℕ) (new : Draft) (r : Result Bool MpsError) (ended : Bool)
+    → NextTaken xs i n x new r
+    → r ≡ Ok ended → ended ≡ true → Stands (said_by xs) new
+next_ended xs i n x new r ended next is over =
+    let here : IsLineTaken (read_from 1 (take i xs)) (i + 1, without_return x) new (Ok ended) =
+    subst (λ k. IsLineTaken (read_from 1 (take i xs)) (k + 1, without_return x) new (Ok ended)) next.1
+    (subst (IsLineTaken (read_from 1 (take i xs)) (n + 1, without_return x) new) is next.3) in
+    subst (λ ls. Stands ls new) (at_end xs i x next.0 next.2 (sym here.0 ∙ over)) here.1
+
+pub next_refused : (xs : List (List ℕ)) (i n : ℕ) (x : List ℕ) (new : Draft) (r : Result Bool MpsError) (e : MpsError)
+    → NextTaken xs i n x new r
+    → r ≡ Err e → IsFirstFault (all_line_faults (said_by xs)) e
+next_refused xs i n x new r e next is =
+    refused_at xs i x e next.0 next.2
+    (subst (λ k. IsLineTaken (read_from 1 (take i xs)) (k + 1, without_return x) new (Err e)) next.1
+    (subst (IsLineTaken (read_from 1 (take i xs)) (n + 1, without_return x) new) is next.3))
+
+pub next_goes_on : (xs : List (List ℕ)) (i n : ℕ) (x : List ℕ) (new : Draft) (r : Result Bool MpsError) (ended : Bool)
+    → NextTaken xs i n x new r
+    → r ≡ Ok ended → ended ≡ false
+    → (n + 1 ≡ i + 1) × (list_any opens_end (read_from 1 (take (i + 1) xs)) ≡ false) × Stands (lines_by (read_from 1 (take (i + 1) xs))) new
+next_goes_on xs i n x new r ended next is on =
+    let here : IsLineTaken (read_from 1 (take i xs)) (i + 1, without_return x) new (Ok ended) =
+    subst (λ k. IsLineTaken (read_from 1 (take i xs)) (k + 1, without_return x) new (Ok ended)) next.1
+    (subst (IsLineTaken (read_from 1 (take i xs)) (n + 1, without_return x) new) is next.3) in
+    let more = sym (one_more xs i x next.0) in (
+      ap (λ k. k + 1) next.1,
+      subst (λ ps. list_any opens_end ps ≡ false) more
+          (goes_on (read_from 1 (take i xs)) (i + 1, without_return x) next.2 (sym here.0 ∙ on)),
+      subst (λ ps. Stands (lines_by ps) new) more here.1,
+    )
 
 -- ---- places in a list that a function is applied to
 
@@ -170,5 +223,5 @@ pub item_at : {A B : Type 0} (f : A → B) (xs : List A) (i : ℕ) (d : A) → i
 item_at f xs i d within = slice_get-map f xs i ∙ ap (option_map f) (slice_get-get_or xs i d within)
 
 -- a text has at most one line more than it has bytes
-pub few_lines : (text : List ℕ) → length (slice_split is_end text) ≤ length text + 1
-few_lines text = omega (arith, length-slice_split is_end text, count_by-le-length is_end text)
+pub few_lines : (text : List ℕ) → length (slice_split is_line_end text) ≤ length text + 1
+few_lines text = omega (arith, length-slice_split is_line_end text, count_by-le-length is_line_end text)

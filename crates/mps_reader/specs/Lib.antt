@@ -1,8 +1,1 @@
-pub mod Below
-pub mod BoundWords
-pub mod Clamps
-pub mod Drafted
-pub mod Finished
-pub mod Progress
-pub mod Reading
-pub mod Taking
+pub mod Internal

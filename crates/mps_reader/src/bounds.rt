@@ -1,19 +1,19 @@
 ghost use Rattle.std.specs.Prelude.{◌≡◌, ℕ, ◌||◌, ◌&&◌, [], List, None, Some, true, false, codes, map, not, slice_get, slice_set, IfSome};
 ghost use Rattle.std.specs.Option.{MatchOption};
 ghost use Rattle.decimals.specs.Decimals.{IsBelowLarge};
-ghost use Rattle.ip_defs.specs.Lists.{is_among, last_of, where_true};
-ghost use Rattle.ip_defs.specs.Numbers.{is_large, number_of};
-ghost use Rattle.ip_defs.specs.Records.{Line, bound_kind, takes_none, takes_number as takes_number_of, words_of};
-ghost use Rattle.ip_defs.specs.TextModels.{is_negative_number, no_number, rounded_down as rounded_down_of, rounded_up as rounded_up_of};
-ghost use Rattle.mps_reader.specs.BoundWords.{IsBound, Says, after_bound as after_bound_of, bound_word, has_right_count, integer_words, lower_of, numbered_words, plain_words, upper_of};
+ghost use Rattle.mps_defs.specs.Lists.{is_among, last_of, where_true};
+ghost use Rattle.mps_defs.specs.Numbers.{is_large, number_of};
+ghost use Rattle.mps_defs.specs.Records.{Line, bound_kind, takes_none, takes_number as takes_number_of, words_of, item};
+ghost use Rattle.mps_defs.specs.TextModels.{is_negative_number, no_number, rounded_down as rounded_down_of, rounded_up as rounded_up_of};
+ghost use Rattle.mps_reader.specs.Internal.BoundWords.{IsBound, Says, after_bound as after_bound_of, bound_word, has_right_count, integer_words, lower_of, numbered_words, plain_words, upper_of};
 ghost use Rattle.mps_reader.specs.declared.draft.ColumnDraft.{ColumnDraft as ColumnDraftOf};
-ghost use Rattle.mps_reader.specs.Progress.{IsTaken, Stands, item};
+ghost use Rattle.mps_reader.specs.Internal.Progress.{IsTaken, Stands};
 
 use crate::draft::{ColumnDraft, Draft, UpperBound};
 use crate::rounding::{rounded_down, rounded_up};
 use crate::sets::keep_set;
 use decimals::read_number;
-use ip_defs::{MpsError, Number};
+use mps_defs::{MpsError, Number};
 use std::alloc::Global;
 
 /// The kind of a bound.

@@ -1,5 +1,5 @@
 ghost use Rattle.std.specs.Prelude.{◌≡◌, ◌-ℤ◌, ◌+ℤ◌, neg_ℤ, pos, unsigned_abs};
-ghost use Rattle.mps_reader.specs.Clamps.{clamped as clamped_of};
+ghost use Rattle.mps_reader.specs.Internal.Clamps.{clamped as clamped_of};
 
 /// The least number that passes every limit of a model.
 const BEYOND: i128 = (1 << 62) + 1;

@@ -1,17 +1,18 @@
 ghost use Rattle.std.specs.Prelude.{◌≡◌, ◌≤◌, ◌≤ℤ◌, ◌^◌, IfOk, drop, length, map, option_map, pos, string_bytes, unwrap_or};
 ghost use Rattle.std.specs.Option.{ForSome};
 ghost use Rattle.decimals.specs.Decimals.{IsBelowLarge};
-ghost use Rattle.ip_defs.specs.TextModels.{box_high as box_high_of, box_low as box_low_of, no_number, units as units_of};
-ghost use Rattle.mps_reader.specs.Below.{AreBelowLarge};
-ghost use Rattle.mps_reader.specs.Clamps.{clamped as clamped_of, clamped_column};
-ghost use Rattle.mps_reader.specs.Drafted.{cost_head, cost_rest, drafted_column, drafted_columns, drafted_lower, drafted_upper};
-ghost use Rattle.ip_defs.specs.TextModels.{IsHow};
+ghost use Rattle.mps_defs.specs.TextModels.{box_high as box_high_of, box_low as box_low_of, no_number, units as units_of};
+ghost use Rattle.mps_reader.specs.Internal.Below.{AreBelowLarge};
+ghost use Rattle.mps_reader.specs.Internal.Clamps.{clamped as clamped_of, clamped_column};
+ghost use Rattle.mps_reader.specs.Internal.Drafted.{cost_head, cost_rest, drafted_column, drafted_columns, drafted_lower, drafted_upper};
+ghost use Rattle.mps_defs.specs.TextModels.{IsHow};
 
 use crate::clamps::clamped;
 use crate::draft::ColumnDraft;
 use crate::row_list::{NO_NUMBER, name_of};
 use decimals::units;
-use ip_defs::{Column, How, Number};
+use ip_defs::Column;
+use mps_defs::{How, Number};
 use std::alloc::{AllocError, Global};
 
 /// The lower side of a column: 0 where no bound is for it, and none where its last bound takes it away.

@@ -1,9 +1,9 @@
 ghost use Rattle.std.specs.Prelude.{[]};
-ghost use Rattle.mps_reader.specs.Progress.{Stands};
+ghost use Rattle.mps_reader.specs.Internal.Progress.{Stands};
 
 use crate::sections::Section;
 use indexmap::IndexSet;
-use ip_defs::Number;
+use mps_defs::Number;
 use std::alloc::Global;
 
 /// The kind of a row.

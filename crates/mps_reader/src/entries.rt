@@ -1,15 +1,16 @@
 ghost use Rattle.std.specs.Prelude.{ℕ, ◌≡◌, ◌==◌, ◌++◌, nat_lt, false, List, OnOk, map, string_bytes, bytes_eq, codes};
 ghost use Rattle.std.specs.Option.{option_map_or};
-ghost use Rattle.ip_defs.specs.Lists.{last_of, when};
-ghost use Rattle.ip_defs.specs.Numbers.{decimals_of as decimals_in};
-ghost use Rattle.ip_defs.specs.Records.{Line, Entry, entries_from};
-ghost use Rattle.ip_defs.specs.declared.texts.MpsError.TheVariants as Out;
-ghost use Rattle.mps_reader.specs.Progress.{kind_word};
-ghost use Rattle.mps_reader.specs.Taking.{IsDone, IsPut, IsRead, IsEntryTaken, AreEntriesTaken, RowsHave, Owns, counts_on, has_number, entry};
+ghost use Rattle.mps_defs.specs.Lists.{last_of};
+ghost use Rattle.ip_defs.specs.Lists.{when};
+ghost use Rattle.mps_defs.specs.Numbers.{decimals_of as decimals_in};
+ghost use Rattle.mps_defs.specs.Records.{Line, Entry, entries_from, entry};
+ghost use Rattle.mps_defs.specs.declared.texts.MpsError.TheVariants as Out;
+ghost use Rattle.mps_reader.specs.Internal.Progress.{kind_word};
+ghost use Rattle.mps_reader.specs.Internal.Taking.{IsDone, IsPut, IsRead, IsEntryTaken, AreEntriesTaken, RowsHave, Owns, counts_on, has_number};
 
 use crate::draft::{RowDraft, RowKind, RowTable};
 use decimals::read_number;
-use ip_defs::{MpsError, Number};
+use mps_defs::{MpsError, Number};
 use std::alloc::AllocError;
 
 /// Whose numbers a line writes: those of the last column, by its number, or those of a set of RHS or RANGES, which is the kept one

@@ -1,6 +1,6 @@
 ghost use Rattle.std.specs.Prelude.{◌≡◌, ◌==◌, ◌++◌, IfOk, OnOk, filter, length, map, nat_le};
 ghost use Rattle.std.specs.List.{slice_split};
-ghost use Rattle.ip_defs.specs.Records.{fields_of};
+ghost use Rattle.mps_defs.specs.Records.{fields_of};
 
 use std::alloc::{AllocError, Global};
 

@@ -22,5 +22,5 @@ mod tests;
 mod texts;
 mod whole;
 
-pub use ip_defs::{How, MpsError, Side};
+pub use mps_defs::{How, MpsError, Side};
 pub use texts::read;

@@ -1,12 +1,12 @@
 ghost use Rattle.std.specs.Prelude.{◌≡◌, ◌==◌, IfOk, map};
 ghost use Rattle.std.specs.List.{slice_split};
-ghost use Rattle.ip_defs.specs.Records.{begins_with, is_blank, is_end, is_star, without_return};
+ghost use Rattle.mps_defs.specs.Records.{begins_with, is_blank, is_star, without_return, is_line_end};
 
 use std::alloc::{AllocError, Global};
 
 /// The lines of a text, in order: what stands between its line feeds.
 pub fn lines_in(alloc: Global, text: &str) -> Result<Vec<&str>, AllocError>
-    ensures { IfOk result (λ v. map (λ x. x.now) v.items ≡ slice_split is_end text.now) }
+    ensures { IfOk result (λ v. map (λ x. x.now) v.items ≡ slice_split is_line_end text.now) }
 {
     text.split('\n').collect(alloc)
 }

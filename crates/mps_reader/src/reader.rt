@@ -1,9 +1,9 @@
 ghost use Rattle.std.specs.Prelude.{◌≡◌, ℕ, ◌≤◌, ◌^◌, List, false, codes, length, map};
 ghost use Rattle.std.specs.List.{list_any};
-ghost use Rattle.ip_defs.specs.Lists.{is_among};
-ghost use Rattle.ip_defs.specs.Records.{Line, lines_of, opens_end, without_return, words_of};
-ghost use Rattle.mps_reader.specs.Progress.{IsTaken, Stands, item};
-ghost use Rattle.mps_reader.specs.Reading.{IsDraftOf, IsLineTaken, last_section as last_word_of, lines_by};
+ghost use Rattle.mps_defs.specs.Lists.{is_among};
+ghost use Rattle.mps_defs.specs.Records.{Line, lines_of, opens_end, without_return, words_of, item};
+ghost use Rattle.mps_reader.specs.Internal.Progress.{IsTaken, Stands};
+ghost use Rattle.mps_reader.specs.Internal.Reading.{IsDraftOf, IsLineTaken, last_section as last_word_of, lines_by};
 
 use crate::bounds::take_bound_line;
 use crate::columns::take_column_line;
@@ -13,7 +13,7 @@ use crate::lines::{cut_return, is_comment, is_indented, lines_in};
 use crate::right_sides::take_set_line;
 use crate::rows::take_row_line;
 use crate::sections::{Section, last_section, take_section};
-use ip_defs::MpsError;
+use mps_defs::MpsError;
 use std::alloc::Global;
 
 /// Takes a data line, which belongs to the last section. `SectionOrder` comes where ROWS is missing; the other faults are those of its

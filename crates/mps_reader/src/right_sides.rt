@@ -1,15 +1,15 @@
 ghost use Rattle.std.specs.Prelude.{◌≡◌, IfOk, OnOk, ◌&&◌, ◌∷◌, [], nat_le, true, false, List, length, map, codes};
 ghost use Rattle.std.specs.Option.{MatchOption};
-ghost use Rattle.ip_defs.specs.Lists.{is_among};
-ghost use Rattle.ip_defs.specs.Records.{Line, words_of};
-ghost use Rattle.mps_reader.specs.Progress.{IsTaken, Stands, item, section_word};
-ghost use Rattle.mps_reader.specs.Taking.{IsSetKept, IsSetLine, set_owner};
+ghost use Rattle.mps_defs.specs.Lists.{is_among};
+ghost use Rattle.mps_defs.specs.Records.{Line, words_of, item};
+ghost use Rattle.mps_reader.specs.Internal.Progress.{IsTaken, Stands, section_word};
+ghost use Rattle.mps_reader.specs.Internal.Taking.{IsSetKept, IsSetLine, set_owner};
 
 use crate::draft::{Draft, Sets};
 use crate::entries::{Owner, take_entries};
 use crate::sections::Section;
 use crate::sets::keep_set;
-use ip_defs::MpsError;
+use mps_defs::MpsError;
 use std::alloc::{AllocError, Global};
 
 /// The set that a line names, the empty one where it names none, and its fields for entries. None comes where the number of fields

@@ -1,9 +1,9 @@
 ghost use Rattle.std.specs.Prelude.{◌≡◌, ◌+◌, ◌^◌, ◌/◌, ◌<◌};
 ghost use Rattle.decimals.specs.Decimals.{IsBelowLarge};
-ghost use Rattle.ip_defs.specs.Numbers.{signed as signed_of};
-ghost use Rattle.ip_defs.specs.TextModels.{rounded_down as rounded_down_of, rounded_up as rounded_up_of};
+ghost use Rattle.mps_defs.specs.Numbers.{signed as signed_of};
+ghost use Rattle.mps_defs.specs.TextModels.{rounded_down as rounded_down_of, rounded_up as rounded_up_of};
 
-use ip_defs::Number;
+use mps_defs::Number;
 
 /// 10^20 written units, which a Large number stands for.
 const LARGE: u128 = 100_000_000_000_000_000_000;

@@ -1,17 +1,18 @@
 ghost use Rattle.std.specs.Prelude.{◌≡◌, ◌<◌, ◌≤◌, IfOk, length, map, slice_get, string_bytes, unsigned_abs, unwrap_or, pos};
 ghost use Rattle.std.specs.Option.{ForSome};
 ghost use Rattle.decimals.specs.Decimals.{IsBelowLarge};
-ghost use Rattle.ip_defs.specs.Numbers.{is_large as is_large_of};
-ghost use Rattle.ip_defs.specs.TextModels.{is_open as is_open_of, no_number, plain_sides as plain_sides_of, range_sides, row_sides as row_sides_of};
-ghost use Rattle.mps_reader.specs.Below.{AreBelowLarge, AreRowsBelow, AreWithin, IsRowBelow};
-ghost use Rattle.mps_reader.specs.Clamps.{clamped_coefs, clamped_row, clamped_sides};
-ghost use Rattle.mps_reader.specs.Drafted.{drafted_coefs, drafted_decimals, drafted_row, drafted_rows, is_free_kind};
-ghost use Rattle.mps_reader.specs.Progress.{kind_word};
+ghost use Rattle.mps_defs.specs.Numbers.{is_large as is_large_of};
+ghost use Rattle.mps_defs.specs.TextModels.{is_open as is_open_of, no_number, plain_sides as plain_sides_of, range_sides, row_sides as row_sides_of};
+ghost use Rattle.mps_reader.specs.Internal.Below.{AreBelowLarge, AreRowsBelow, AreWithin, IsRowBelow};
+ghost use Rattle.mps_reader.specs.Internal.Clamps.{clamped_coefs, clamped_row, clamped_sides};
+ghost use Rattle.mps_reader.specs.Internal.Drafted.{drafted_coefs, drafted_decimals, drafted_row, drafted_rows, is_free_kind};
+ghost use Rattle.mps_reader.specs.Internal.Progress.{kind_word};
 
 use crate::clamps::{clamped, clamped_above, clamped_below};
 use crate::draft::{RowDraft, RowKind};
 use decimals::units;
-use ip_defs::{How, Listed, Name, Number, Row};
+use ip_defs::{Listed, Name, Row};
+use mps_defs::{How, Number};
 use std::alloc::{AllocError, Global};
 
 /// A name of a model.

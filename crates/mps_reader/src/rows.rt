@@ -1,12 +1,13 @@
 ghost use Rattle.std.specs.Prelude.{◌≡◌, ◌∷◌, [], List, None, Some, OnOk, true, false, codes, map, bytes_eq, position, string_bytes};
 ghost use Rattle.std.specs.Option.{MatchOption};
-ghost use Rattle.ip_defs.specs.Lists.{is_among, last_of, or_else, where_true};
-ghost use Rattle.ip_defs.specs.Records.{Line, words_of};
+ghost use Rattle.mps_defs.specs.Lists.{is_among, last_of, where_true};
+ghost use Rattle.std.specs.Option.{option_or};
+ghost use Rattle.mps_defs.specs.Records.{Line, words_of, item};
 ghost use Rattle.mps_reader.specs.declared.draft.Draft.{Draft as DraftOf};
-ghost use Rattle.mps_reader.specs.Progress.{IsNewRow, IsTaken, IsWithRow, Stands, item, kind_word};
+ghost use Rattle.mps_reader.specs.Internal.Progress.{IsNewRow, IsTaken, IsWithRow, Stands, kind_word};
 
 use crate::draft::{Draft, RowDraft, RowKind, RowTable};
-use ip_defs::MpsError;
+use mps_defs::MpsError;
 use std::alloc::{AllocError, Global};
 
 /// The kind of a row that a word names.
@@ -37,7 +38,7 @@ fn new_row(alloc: Global, kind: RowKind) -> RowDraft
 
 /// The objective once a row of a kind comes at a place: the first free row.
 fn objective_with(objective: Option<usize>, kind: RowKind, place: usize) -> Option<usize>
-    ensures { result ≡ or_else objective (where_true (bytes_eq (kind_word kind) (codes "N")) place) }
+    ensures { result ≡ option_or objective (where_true (bytes_eq (kind_word kind) (codes "N")) place) }
 {
     match (objective, kind) {
         (None, RowKind::Free) => Some(place),

@@ -1,13 +1,13 @@
 ghost use Rattle.std.specs.Prelude.{◌≡◌, ℕ, ◌∷◌, ◌||◌, List, None, Some, bytes_eq, map, not};
 ghost use Rattle.std.specs.Option.{MatchOption};
 ghost use Rattle.std.specs.List.{list_all};
-ghost use Rattle.ip_defs.specs.Lists.{is_among, last_of};
-ghost use Rattle.ip_defs.specs.Records.{Line};
-ghost use Rattle.ip_defs.specs.Faults.{is_before as is_before_of, may_come as may_come_of, place_of};
-ghost use Rattle.mps_reader.specs.Progress.{IsTaken, Stands, opening, section_word};
+ghost use Rattle.mps_defs.specs.Lists.{is_among, last_of};
+ghost use Rattle.mps_defs.specs.Records.{Line, opening};
+ghost use Rattle.mps_defs.specs.Faults.{is_before as is_before_of, may_come as may_come_of, place_of};
+ghost use Rattle.mps_reader.specs.Internal.Progress.{IsTaken, Stands, section_word};
 
 use crate::draft::Draft;
-use ip_defs::MpsError;
+use mps_defs::MpsError;
 
 /// The sections of a text, in their order.
 #[derive(Clone, Copy, Debug, PartialEq, Eq, PartialOrd, Ord)]

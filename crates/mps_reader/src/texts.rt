@@ -1,12 +1,12 @@
 ghost use Rattle.std.specs.Prelude.{◌≡◌, ◌≤◌, ◌^◌, IfOk, None, length};
-ghost use Rattle.ip_defs.specs.Runs.{ReadMeets};
-ghost use Rattle.ip_defs.specs.TextModels.{IsHow};
+ghost use Rattle.mps_defs.specs.Faults.{ReadMeets};
+ghost use Rattle.mps_defs.specs.TextModels.{IsHow};
 ghost use Rattle.ip_model.specs.Sizes.{first_crossed};
 
 use crate::finish::model_of;
 use crate::reader::draft_of;
-use ip_defs::{How, MpsError};
 use ip_model::IntModel;
+use mps_defs::{How, MpsError};
 use std::alloc::Global;
 
 /// The model of an MPS text, or its first refusal. A text that is not UTF-8 is refused first; then the first line with a fault, then a

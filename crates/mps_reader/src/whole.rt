@@ -1,12 +1,12 @@
 ghost use Rattle.std.specs.Prelude.{◌≡◌, length, map, string_bytes};
-ghost use Rattle.ip_defs.specs.Faults.{lower_is_missing as lower_is_missing_of, upper_is_missing as upper_is_missing_of};
-ghost use Rattle.mps_reader.specs.Drafted.{AnswersFaults, asked, missing_sides, column_faults, is_negative_bound as is_negative_bound_of};
-ghost use Rattle.ip_defs.specs.TextModels.{IsHow};
+ghost use Rattle.mps_defs.specs.Faults.{lower_is_missing as lower_is_missing_of, upper_is_missing as upper_is_missing_of};
+ghost use Rattle.mps_reader.specs.Internal.Drafted.{AnswersFaults, asked, missing_sides, column_faults, is_negative_bound as is_negative_bound_of};
+ghost use Rattle.mps_defs.specs.TextModels.{IsHow};
 
 use crate::column_list::{lower_of, upper_of};
 use crate::draft::{ColumnDraft, UpperBound};
 use crate::row_list::name_of;
-use ip_defs::{How, MpsError, Side};
+use mps_defs::{How, MpsError, Side};
 use std::alloc::Global;
 
 /// What is asked of each column once the text is read.

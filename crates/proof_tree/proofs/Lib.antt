@@ -1,5 +1,5 @@
 pub mod CertLaws
-pub mod EachLaws
+pub mod LabelledTreeLaws
 pub mod NumberedLaws
 pub mod TreeExamples
 pub mod TreeLaws

@@ -17,19 +17,15 @@ use Rattle.proof_tree.specs.declared.verdicts.Verdict.TheVariants.{Proved, Short
 use Rattle.proof_tree.specs.Trees.{PlainTree, plain, FitsColumns, tree_bound}
 use Rattle.proof_tree.specs.Verdicts.{IsAtLeast, AreProvedBy, is_at_least, on_point, judged, IsProvedVerdict, IsTrueClaim, ProofsAreTrue, HasLength, VerdictsAreExact}
 use Rattle.proof_tree.proofs.TreeLaws.{trees_bound}
-
-not_less : (a b : ℤ) → lt_z a b ≡ false → b ≤ℤ a
-not_less a b e = omega (arith, ints)
-
-less_not : (a b : ℤ) → b ≤ℤ a → lt_z a b ≡ false
-less_not a b h = grind (arith, ints)
+use Rattle.ip_defs.proofs.OrderLaws.{less_false, not_less}
 
 between : (v : Bound) (low high : ℤ) → IsAtLeast v low → IsAtMost v high → low ≤ℤ high
 between (At v) low high a b = omega (arith, ints)
 between Infinite low high a b = absurd b
 
 claims : (m : Parts) (t : PlainTree) (c : Claim) → FitsColumns (length m.columns) t → AreProvedBy m c (tree_bound m t) → IsTrueClaim m c
-claims m t (Best x) fits p = record { feasible = p.0; least = λ y ok. between (tree_bound m t) (cost m x) (cost m y) p.1 (trees_bound m t y fits ok) }
+claims m t (Best x) fits p = record
+    { feasible = p.0; least = λ y ok. between (tree_bound m t) (cost m x) (cost m y) p.1 (trees_bound m t y fits ok) }
 claims m t Empty fits p = λ x ok. subst (λ (v : Bound). IsAtMost v (cost m x)) p (trees_bound m t x fits ok)
 
 pub proofs_are_true : ProofsAreTrue
@@ -45,14 +41,20 @@ least_of (At v) w e = by (lt_z v w) refl e
 
 least_back : (v : Bound) (w : ℤ) → IsAtLeast v w → is_at_least v w ≡ true
 least_back Infinite w h = refl
-least_back (At v) w h = rw (less_not v w h) refl
+least_back (At v) w h = rw (less_false v w h) refl
 
-verdict_exact : (m : Parts) (c : Claim) (v : Bound) → HasLength (length m.columns) c → (IsProvedVerdict (judged m c v) → AreProvedBy m c v) × (AreProvedBy m c v → IsProvedVerdict (judged m c v))
+verdict_exact : (m : Parts) (c : Claim) (v : Bound) → HasLength (length m.columns) c → (IsProvedVerdict (judged m c v) → AreProvedBy m c v)
+    × (AreProvedBy m c v → IsProvedVerdict (judged m c v))
 verdict_exact m Empty (At v) size = (λ h. absurd h, λ e. absurd cc)
 verdict_exact m Empty Infinite size = (λ h. refl, λ e. tt)
-verdict_exact m (Best x) v size = (to (first_breach m x) (is_at_least v (cost m x)) refl refl, λ p. rw ((breaches_are_exact m x size).1 p.0, least_back v (cost m x) p.1) tt)
+verdict_exact m (Best x) v size = (
+  to (first_breach m x) (is_at_least v (cost m x)) refl refl,
+  λ p. rw ((breaches_are_exact m x size).1 p.0, least_back v (cost m x) p.1)
+      tt,
+)
   where
-    to : (o : Option Breach) (t : Bool) → first_breach m x ≡ o → is_at_least v (cost m x) ≡ t → IsProvedVerdict (on_point o v (cost m x)) → AreProvedBy m (Best x) v
+    to : (o : Option Breach) (t : Bool) → first_breach m x ≡ o → is_at_least v (cost m x) ≡ t → IsProvedVerdict (on_point o v (cost m x))
+        → AreProvedBy m (Best x) v
     to (Some br) t e f h = absurd h
     to None t e f h = ((breaches_are_exact m x size).0 e, least_of v (cost m x) (sure (is_at_least v (cost m x)) h))
       where

@@ -1,6 +1,6 @@
-pub mod Lists
-pub mod Numbered
+pub mod LabelledTrees
 pub mod Room
 pub mod Trees
 pub mod Verdicts
 pub mod Within
+pub mod Internal

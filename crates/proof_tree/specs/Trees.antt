@@ -1,39 +1,37 @@
--- Trees as plain data: their nodes, their leaves with boxes, their bound, and their first faults.
-use Rattle.std.specs.Prelude.{ℕ, suc, ◌^◌, ◌<◌, if◌then◌else◌, ◌&&◌, not, max, List, [], ◌∷◌, ◌++◌, length, slice_get, map, ℤ, pos, Bool, true, nat_lt, Option, Some, None}
+-- Proof trees as plain data: their bound, and their first faults.
+use Rattle.std.specs.Prelude.{ℕ, suc, ◌+◌, ◌^◌, ◌<◌, if◌then◌else◌, ◌&&◌, not, List, [], ◌∷◌, length, map, ℤ, pos, Bool, true, nat_lt, Option, Some, None}
 use Rattle.std.specs.Int.{int_min}
 use Rattle.std.specs.Int.RustNames.{unsigned_abs}
 use Rattle.std.specs.Int.Signed.{lt_z}
 use Rattle.std.specs.List.{list_all}
+use Rattle.std.specs.Option.{option_or}
 use Rattle.ip_defs.specs.declared.certificates.Bound.{Bound}
 use Rattle.ip_defs.specs.declared.certificates.Bound.TheVariants.{At, Infinite}
 use Rattle.ip_defs.specs.declared.certificates.Cert.{Cert}
 use Rattle.ip_defs.specs.declared.programs.Parts.{Parts}
 use Rattle.ip_defs.specs.Program.{box_of, IsFeasible, cost}
-use Rattle.ip_defs.specs.Boxes.{below, above}
 use Rattle.ip_defs.specs.Certificates.{leaf_bound, IsAtMost}
 use Rattle.ip_defs.specs.Limits.{number_at}
-use Rattle.ip_defs.specs.Lists.{first}
+use Rattle.proof_tree.specs.LabelledTrees.{LabelledTree, leaf, split, LabelledNode, leaf_node, split_node, nodes, nodes_from, leaves}
 use Rattle.proof_tree.specs.declared.trees.Tree.{Tree, Leaf, Split'}
 use Rattle.proof_tree.specs.declared.faults.TreeLimit.{TreeLimit}
-use Rattle.proof_tree.specs.declared.faults.TreeLimit.TheVariants as Passed
+use Rattle.proof_tree.specs.declared.faults.TreeLimit.TheVariants as Exceeded
 use Rattle.proof_tree.specs.declared.faults.Shape.{Shape}
 use Rattle.proof_tree.specs.declared.faults.ShapeWhat.{ShapeWhat}
 use Rattle.proof_tree.specs.declared.faults.ShapeWhat.TheVariants.{ColumnNumber, RowNumber}
 
--- a tree without where it lies in memory
-pub data PlainTree : Type 0 where
-  leaf : Cert → PlainTree
-  split : ℕ → ℤ → PlainTree → PlainTree → PlainTree
+-- a tree without where it lies in memory: a certificate at each leaf, and no labels at its splits
+abbrev pub PlainTree : Type 0
+PlainTree = LabelledTree Cert (Unit {0})
+
+-- a node of such a tree
+abbrev pub Node : Type 0
+Node = LabelledNode Cert (Unit {0})
 
 -- the plain tree of a tree
 abbrev pub plain : Tree → PlainTree
 plain (Leaf c) = leaf c
-plain (Split' col cut one left other right) = split col cut (plain left) (plain right)
-
--- the leaves with their boxes
-abbrev pub leaves : PlainTree → List (ℤ × ℤ) → List (List (ℤ × ℤ) × Cert)
-leaves (leaf c) b = (b, c) ∷ []
-leaves (split col cut left right) b = leaves left (below b col cut) ++ leaves right (above b col cut)
+plain (Split' col cut one left other right) = split col cut tt (plain left) (plain right)
 
 -- the lesser of two bounds, where Infinite is above every number
 abbrev pub bound_min : Bound → Bound → Bound
@@ -54,38 +52,15 @@ bound_over m t b = least (map (λ l. leaf_bound m l.0 l.1) (leaves t b))
 abbrev pub tree_bound : Parts → PlainTree → Bound
 tree_bound m t = bound_over m t (box_of m)
 
--- a node without its children
-pub data Node : Type 0 where
-  end_node : Cert → Node
-  split_node : ℕ → ℤ → Node
-
--- the nodes in preorder, each with its depth, where the root has a given depth
-abbrev pub nodes_from : ℕ → PlainTree → List (ℕ × Node)
-nodes_from d (leaf c) = (d, end_node c) ∷ []
-nodes_from d (split col cut left right) = (d, split_node col cut) ∷ (nodes_from (suc d) left ++ nodes_from (suc d) right)
-
--- the nodes of a tree in preorder, each with its depth
-abbrev pub nodes : PlainTree → List (ℕ × Node)
-nodes t = nodes_from 0 t
-
--- how many nodes a tree has
-abbrev pub node_count : PlainTree → ℕ
-node_count t = length (nodes t)
-
--- the depth of the deepest node
-abbrev pub depth : PlainTree → ℕ
-depth (leaf c) = 0
-depth (split col cut left right) = suc (max (depth left) (depth right))
-
 -- each split is at one of n columns
 abbrev pub FitsColumns : ℕ → PlainTree → Type 0
 FitsColumns n (leaf c) = Unit {0}
-FitsColumns n (split col cut left right) = (col < n) × FitsColumns n left × FitsColumns n right
+FitsColumns n (split col cut y left right) = (col < n) × FitsColumns n left × FitsColumns n right
 
 -- each multiplier is of one of n rows
 abbrev pub FitsRows : ℕ → PlainTree → Type 0
 FitsRows n (leaf c) = (i : ℕ) → i < length c.y → number_at c.y i < n
-FitsRows n (split col cut left right) = FitsRows n left × FitsRows n right
+FitsRows n (split col cut y left right) = FitsRows n left × FitsRows n right
 
 -- what a tree names is there: each column and each row
 pub record FitsModel (m : Parts) (t : PlainTree) : Type 0 where
@@ -111,37 +86,42 @@ is_cert rows c = not (lt_z c.q (pos 0)) && not (lt_z (pos (2 ^ 36)) c.q) && rise
 
 -- what is wrong with node i itself
 abbrev pub own_limit : ℕ → Node → Option TreeLimit
-own_limit i (end_node c) = if is_cert 1024 c then None else Some (Passed.Cert i)
-own_limit i (split_node col cut) = if is_at_most col 4095 && is_at_most (unsigned_abs cut) (2 ^ 24) then None else Some (Passed.At i)
+own_limit i (leaf_node c) = if is_cert 1024 c then None else Some (Exceeded.Cert i)
+own_limit i (split_node col cut y) = if is_at_most col 4095 && is_at_most (unsigned_abs cut) (2 ^ 24) then None else Some (Exceeded.At i)
 
--- what is wrong with node i, given the node with its depth
-abbrev pub limit_at : ℕ → Option (ℕ × Node) → Option TreeLimit
-limit_at i None = None
-limit_at i (Some n) = if not (is_at_most n.0 800) then Some Passed.Depth else if not (nat_lt i 1000000) then Some Passed.Nodes else own_limit i n.1
+-- what is wrong with node i, given with its depth
+abbrev pub limit_at : ℕ → ℕ × Node → Option TreeLimit
+limit_at i n = if not (is_at_most n.0 800) then Some Exceeded.Depth else if not (nat_lt i 1000000) then Some Exceeded.Nodes else own_limit
+    i n.1
 
--- the first node in preorder that passes a limit
+-- what f answers at the first element at which it answers, where the elements are numbered from k on
+abbrev pub first_from : {A B : Type 0} → (ℕ → A → Option B) → ℕ → List A → Option B
+first_from f k [] = None
+first_from f k (x ∷ xs) = option_or (f k x) (first_from f (k + 1) xs)
+
+-- the first node in preorder that exceeds a limit
 abbrev pub tree_limit : PlainTree → Option TreeLimit
-tree_limit t = first (λ i. limit_at i (slice_get (nodes t) i)) (node_count t)
+tree_limit t = first_from limit_at 0 (nodes_from 0 t)
 
 -- what a node names that is not there
 abbrev pub own_misfit : ℕ → ℕ → Node → Option ShapeWhat
-own_misfit columns rows (end_node c) = if list_all (λ p. nat_lt p.0 rows) c.y then None else Some RowNumber
-own_misfit columns rows (split_node col cut) = if nat_lt col columns then None else Some ColumnNumber
+own_misfit columns rows (leaf_node c) = if list_all (λ p. nat_lt p.0 rows) c.y then None else Some RowNumber
+own_misfit columns rows (split_node col cut y) = if nat_lt col columns then None else Some ColumnNumber
 
 -- a misfit at a node
 abbrev pub with_number : ℕ → Option ShapeWhat → Option Shape
 with_number i None = None
 with_number i (Some x) = Some (record { node = i; what = x })
 
--- what node i names that is not there, given the node with its depth
-abbrev pub misfit_at : ℕ → ℕ → ℕ → Option (ℕ × Node) → Option Shape
-misfit_at columns rows i None = None
-misfit_at columns rows i (Some n) = with_number i (own_misfit columns rows n.1)
+-- what node i names that is not there
+abbrev pub misfit_at : ℕ → ℕ → ℕ → Node → Option Shape
+misfit_at columns rows i n = with_number i (own_misfit columns rows n)
 
 -- the first node in preorder that names a column or row that is not there
 abbrev pub tree_misfit : ℕ → ℕ → PlainTree → Option Shape
-tree_misfit columns rows t = first (λ i. misfit_at columns rows i (slice_get (nodes t) i)) (node_count t)
+tree_misfit columns rows t = first_from (misfit_at columns rows) 0 (nodes t)
 
 -- every feasible point costs at least the bound of any tree that fits
 abbrev pub TreesBound : Type 0
-TreesBound = (m : Parts) (t : PlainTree) (x : List ℤ) → FitsColumns (length m.columns) t → IsFeasible m x → IsAtMost (tree_bound m t) (cost m x)
+TreesBound = (m : Parts) (t : PlainTree) (x : List ℤ) → FitsColumns (length m.columns) t → IsFeasible m x
+    → IsAtMost (tree_bound m t) (cost m x)

@@ -7,7 +7,7 @@ use Rattle.ip_defs.specs.declared.programs.Parts.{Parts}
 use Rattle.ip_defs.specs.Program.{IsFeasible, IsLeast, cost}
 use Rattle.ip_defs.specs.Breaches.{first_breach}
 use Rattle.ip_defs.specs.declared.programs.Breach.{Breach}
-use Rattle.ip_defs.specs.Lists.{or_else}
+use Rattle.std.specs.Option.{option_or}
 use Rattle.proof_tree.specs.Trees.{plain, FitsColumns, tree_bound, tree_misfit}
 use Rattle.proof_tree.specs.declared.claims.Claim.{Claim}
 use Rattle.proof_tree.specs.declared.claims.Claim.TheVariants.{Best, Empty}
@@ -29,7 +29,7 @@ claim_misfit columns (Best x) = length_misfit (not (length x == columns))
 
 -- what does not fit the model: the point first, with node 0, then the nodes in preorder
 abbrev pub proof_misfit : Parts → Proof → Option Shape
-proof_misfit m p = or_else (claim_misfit (length m.columns) p.claim) (tree_misfit (length m.columns) (length m.rows) (plain p.tree))
+proof_misfit m p = option_or (claim_misfit (length m.columns) p.claim) (tree_misfit (length m.columns) (length m.rows) (plain p.tree))
 
 -- a bound is at least a number
 abbrev pub IsAtLeast : Bound → ℤ → Type 0
@@ -91,4 +91,5 @@ HasLength n Empty = Unit {0}
 
 -- the verdict is proved where the proof is, and nowhere else
 abbrev pub VerdictsAreExact : Type 0
-VerdictsAreExact = (m : Parts) (p : Proof) → HasLength (length m.columns) p.claim → (IsProvedVerdict (verdict_of m p) → IsProved m p) × (IsProved m p → IsProvedVerdict (verdict_of m p))
+VerdictsAreExact = (m : Parts) (p : Proof) → HasLength (length m.columns) p.claim → (IsProvedVerdict (verdict_of m p) → IsProved m p)
+    × (IsProved m p → IsProvedVerdict (verdict_of m p))

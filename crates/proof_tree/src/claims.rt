@@ -1,3 +1,4 @@
+//! Claims of a model, and the trees that are to prove them.
 use crate::Tree;
 use ip_defs::Point;
 

@@ -1,4 +1,5 @@
-/// The first limit that a tree passes. Nodes count in preorder from 0.
+//! What may be wrong with a tree: the limits that it exceeds, and what of it does not fit a model.
+/// The first limit that a tree exceeds. Nodes count in preorder from 0.
 #[derive(Clone, Copy, Debug, PartialEq, Eq)]
 pub enum TreeLimit {
     /// A node lies deeper than 800 splits.
@@ -7,7 +8,7 @@ pub enum TreeLimit {
     Nodes,
     /// The column of a split is above 4,095, or its number above 2^24 in size.
     At { node: u32 },
-    /// The certificate of a leaf is out of order or passes a limit.
+    /// The certificate of a leaf is out of order or exceeds a limit.
     Cert { node: u32 },
 }
 

@@ -1,7 +1,9 @@
+//! Whether a proof fits a model.
 ghost use Rattle.std.specs.Prelude.{◌≡◌, ◌+◌, ◌≤◌, None, Some, IfOk, IfErr, length, nat_lt};
 ghost use Rattle.std.specs.List.{list_all};
-ghost use Rattle.proof_tree.specs.Numbered.{passed_over, top};
-ghost use Rattle.proof_tree.specs.Trees.{plain, FitsModel, end_node, nodes, node_count, own_misfit, misfit_at, tree_misfit};
+ghost use Rattle.proof_tree.specs.Internal.Numbered.{passed_over, top};
+ghost use Rattle.proof_tree.specs.LabelledTrees.{leaf_node, nodes, node_count};
+ghost use Rattle.proof_tree.specs.Trees.{plain, FitsModel, own_misfit, misfit_at, tree_misfit};
 ghost use Rattle.proof_tree.specs.Verdicts.{HasLength, claim_misfit, proof_misfit};
 ghost use Rattle.proof_tree.specs.Within.{IsTreeWithin};
 
@@ -18,7 +20,7 @@ fn are_below(y: &[(u32, i64)], rows: usize) -> bool
 
 /// A row that a certificate names and that is not one of `rows`.
 fn cert_misfit(cert: &Cert, rows: usize) -> Option<ShapeWhat>
-    ensures { result ≡ own_misfit 0 rows (end_node cert.now) }
+    ensures { result ≡ own_misfit 0 rows (leaf_node cert.now) }
 {
     if are_below(cert.y.as_slice(), rows) {
         None

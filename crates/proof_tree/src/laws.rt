@@ -1,3 +1,4 @@
+//! The laws of proof trees, each as the contract of a function that does nothing.
 ghost use Rattle.proof_tree.specs.Trees.{TreesBound};
 ghost use Rattle.proof_tree.specs.Within.{LimitsAreExact, MisfitsAreTrue};
 ghost use Rattle.proof_tree.specs.Verdicts.{ProofsAreTrue, VerdictsAreExact};
@@ -18,7 +19,7 @@ pub fn verdicts_are_exact()
     ensures { VerdictsAreExact }
 {}
 
-/// A tree passes no limit exactly where it is within the limits.
+/// A tree exceeds no limit exactly where it is within the limits.
 pub fn limits_are_exact()
     ensures { LimitsAreExact }
 {}

@@ -1,6 +1,8 @@
-ghost use Rattle.std.specs.Prelude.{◌≡◌, None, Some};
-ghost use Rattle.proof_tree.specs.Numbered.{passed_over, top};
-ghost use Rattle.proof_tree.specs.Trees.{plain, end_node, split_node, nodes_from, own_limit, limit_at, tree_limit};
+//! Whether a tree is within the limits.
+ghost use Rattle.std.specs.Prelude.{◌≡◌, None};
+ghost use Rattle.proof_tree.specs.Internal.Numbered.{passed_over, top};
+ghost use Rattle.proof_tree.specs.LabelledTrees.{leaf_node, split_node, nodes_from};
+ghost use Rattle.proof_tree.specs.Trees.{plain, own_limit, limit_at, tree_limit};
 ghost use Rattle.proof_tree.specs.Within.{IsTreeWithin};
 
 use crate::{Tree, TreeLimit};
@@ -22,9 +24,9 @@ const LARGEST_CUT: u64 = 1 << 24;
 /// For how many rows a certificate is tested.
 const MOST_ROWS: u32 = 1_024;
 
-/// The limit that a certificate passes.
+/// The limit that a certificate exceeds.
 fn cert_limit(cert: &Cert, node: u32) -> Option<TreeLimit>
-    ensures { result ≡ own_limit node (end_node cert.now) }
+    ensures { result ≡ own_limit node (leaf_node cert.now) }
 {
     if cert_ok(cert, MOST_ROWS) {
         None
@@ -33,9 +35,9 @@ fn cert_limit(cert: &Cert, node: u32) -> Option<TreeLimit>
     }
 }
 
-/// The limit that the numbers of a split pass.
+/// The limit that the numbers of a split exceed.
 fn split_limit(col: u32, at: i64, node: u32) -> Option<TreeLimit>
-    ensures { result ≡ own_limit node (split_node col at) }
+    ensures { result ≡ own_limit node (split_node col at tt) }
 {
     if col <= LAST_COLUMN && at.unsigned_abs() <= LARGEST_CUT {
         None
@@ -44,9 +46,9 @@ fn split_limit(col: u32, at: i64, node: u32) -> Option<TreeLimit>
     }
 }
 
-/// The first limit that one node passes, by its depth and its number.
+/// The first limit that one node exceeds, by its depth and its number.
 fn node_limit(tree: &Tree, depth: u32, node: u32) -> Option<TreeLimit>
-    ensures { result ≡ limit_at node (Some (depth, top (plain tree.now))) }
+    ensures { result ≡ limit_at node (depth, top (plain tree.now)) }
 {
     if depth > DEEPEST {
         return Some(TreeLimit::Depth);
@@ -60,7 +62,7 @@ fn node_limit(tree: &Tree, depth: u32, node: u32) -> Option<TreeLimit>
     }
 }
 
-/// The number after the nodes of a subtree, or the first limit that one of them passes. Goes no deeper than a limit allows.
+/// The number after the nodes of a subtree, or the first limit that one of them exceeds. Goes no deeper than a limit allows.
 fn pass(tree: &Tree, depth: u32, node: u32) -> Result<u32, TreeLimit>
     ensures { result ≡ passed_over limit_at node (nodes_from depth (plain tree.now)) }
 {
@@ -77,7 +79,7 @@ fn pass(tree: &Tree, depth: u32, node: u32) -> Result<u32, TreeLimit>
     }
 }
 
-/// The first limit that a tree passes.
+/// The first limit that a tree exceeds.
 fn first_limit(tree: &Tree) -> Option<TreeLimit>
     ensures { result ≡ tree_limit (plain tree.now) }
 {
@@ -87,7 +89,7 @@ fn first_limit(tree: &Tree) -> Option<TreeLimit>
     }
 }
 
-/// The first limit that a tree passes, its nodes in preorder from 0, or none where the tree is within the limits. Of one node the
+/// The first limit that a tree exceeds, its nodes in preorder from 0, or none where the tree is within the limits. Of one node the
 /// depth is tested first, then the number of nodes, then its own numbers. Takes no memory.
 pub fn tree_limits(tree: &Tree) -> Option<TreeLimit>
     ensures first { result ≡ tree_limit (plain tree.now) }

@@ -1,3 +1,4 @@
+//! Bounds, misfits and limits of small trees, and trees as deep as the limit.
 use crate::{
     Bound, Cert, Claim, Point, Proof, Shape, ShapeWhat, Tree, TreeLimit, fits_model, tree_bound,
     tree_limits,

@@ -1,3 +1,4 @@
+//! Proof trees.
 use ip_defs::Cert;
 
 /// A tree of splits with a certificate at each leaf. The left side of a split keeps the points whose number at column `col` is at most

@@ -1,3 +1,4 @@
+//! Verdicts on proofs.
 use ip_defs::{Bound, Breach};
 
 /// What a check says of a proof.

@@ -1,18 +1,15 @@
-ghost use Rattle.std.specs.Prelude.{List, ℤ, ◌≡◌, ◌^◌, ◌<◌, ◌≤◌, length, slice_index_or, pos, ◌+ℤ◌, IsTrue, ◌↔◌, ◌≤ℤ◌, map};
-ghost use Rattle.std.specs.Int.{int_max};
-ghost use Rattle.std.specs.Int.RustNames.{unsigned_abs};
-ghost use Rattle.ip_defs.specs.Boxes.{below, above};
+ghost use Rattle.std.specs.Prelude.{List, ℤ, ◌≡◌, length};
 ghost use Rattle.ip_defs.specs.Limits.{IsArea};
 ghost use Rattle.ip_defs.specs.Certificates.{IsAtMost};
-ghost use Rattle.ip_defs.specs.Program.{low_at, high_at, box_of, cost, IsFeasible};
+ghost use Rattle.ip_defs.specs.Program.{box_of, cost, IsFeasible};
 ghost use Rattle.leaf_cert.specs.Room.{FitsScratch, room_of};
 ghost use Rattle.proof_tree.specs.Room.{HasRoom};
 ghost use Rattle.proof_tree.specs.Trees.{plain, bound_min, bound_over, tree_bound as tree_bound_of, FitsColumns, FitsModel, FitsRows};
 ghost use Rattle.proof_tree.specs.Within.{AreNumbersWithin, IsTreeWithin};
 
 use crate::Tree;
-use ip_defs::{Area, Bound, Column};
-use ip_model::IntModel;
+use ip_defs::{Area, Bound};
+use ip_model::{IntModel, cut_above, cut_below, set_box};
 use leaf_cert::{Scratch, leaf_bound};
 use std::alloc::Global;
 use std::mem;
@@ -26,49 +23,6 @@ fn lesser(first: Bound, second: Bound) -> Bound
         (Bound::At(v), Bound::Infinite) => Bound::At(v),
         (Bound::Infinite, w) => w,
     }
-}
-
-/// Sets an area to the sides of columns.
-fn set_box(columns: &[Column], area: &mut Area)
-    requires { length area.old ≡ length columns.now }
-    ensures { area.new ≡ map (λ c. (c.lo, c.hi)) columns.now }
-{
-    for (j, column) in columns.iter().enumerate() {
-        area.set(j, (column.lo, column.hi));
-    }
-}
-
-/// Lowers the upper side of a column to a cut, and says whether the column still has a number between its sides.
-fn cut_below(area: &mut Area, j: usize, cut: i64) -> bool
-    requires { j < length area.old }
-    ensures cut { area.new ≡ below area.old j cut }
-    ensures open { IsTrue result ↔ low_at area.new j ≤ℤ high_at area.new j }
-{
-    let side = area.as_slice()[j];
-    let high = side.1.min(cut);
-    area.set(j, (side.0, high));
-    side.0 <= high
-}
-
-/// The greater of a lower side and the number after a cut.
-fn raised(low: i64, cut: i64) -> i64
-    requires { unsigned_abs cut ≤ 2 ^ 24 }
-    ensures { result ≡ int_max low (cut +ℤ pos 1) }
-{
-    low.max(cut + 1)
-}
-
-/// Raises the lower side of a column to the number after a cut, and says whether the column still has a number between its sides.
-fn cut_above(area: &mut Area, j: usize, cut: i64) -> bool
-    requires within { j < length area.old }
-    requires small { unsigned_abs cut ≤ 2 ^ 24 }
-    ensures cut { area.new ≡ above area.old j cut }
-    ensures open { IsTrue result ↔ low_at area.new j ≤ℤ high_at area.new j }
-{
-    let side = area.as_slice()[j];
-    let low = raised(side.0, cut);
-    area.set(j, (low, side.1));
-    low <= side.1
 }
 
 /// The bound of a subtree over an area, which is changed on the way and is as it was in the end. A half without a point is infinite,
@@ -120,7 +74,7 @@ fn bound_in(model: &IntModel, tree: &Tree, area: &mut Area, scratch: &mut Scratc
     ensures area { area.new ≡ box_of model.now }
     ensures room { room_of scratch.new ≡ room_of scratch.old }
 {
-    set_box(model.parts().columns.as_slice(), area);
+    set_box(model, area);
     walk(model, tree, area, scratch)
 }
 

@@ -6,9 +6,10 @@ ghost use Rattle.std.specs.Prelude.{◌≡◌, ◌<◌};
 ghost use Rattle.std.specs.List.{list_any};
 ghost use Rattle.ip_defs.specs.Certificates.{is_empty_side};
 
-use ip_defs::{Area, Column, How, Memory};
+use ip_defs::{Area, Column, Memory};
 use ip_model::{IntModel, crossed};
 use ips_io::{FileShelf, file_shelf, read_all};
+use mps_defs::How;
 use mps_reader::read;
 use simplex_exact::{LpAnswer, Steps, solve_lp};
 use std::alloc::Global;

@@ -18,7 +18,7 @@ use Rattle.simplex_laws.proofs.RunLaws.{runs_stand, finals_stay}
 use Rattle.simplex_exact.specs.declared.answers.LpAnswer.{LpAnswer}
 use Rattle.simplex_exact.specs.declared.answers.LpAnswer.TheVariants.{Best, Empty, Stopped, Wide}
 use Rattle.simplex_exact.specs.Answers.{IsLpAnswer, IsBest, IsEmpty, AreNumbers}
-use Rattle.simplex_exact.specs.Reads.{IsRead}
+use Rattle.simplex_exact.specs.Internal.Reads.{IsRead}
 
 module _ (m : Parts) (b : List (ℤ × ℤ)) (k n : ℕ) (T : Table) (limits : IsWithinLimits m) (size : length b ≡ length m.columns) (uncrossed : IsUncrossed m b) (within : k ≤ n) (reached : after m b k ≡ Ok T) where
   of_node : IsTableOf m b T

@@ -1,7 +1,7 @@
 -- What the loops of a step find.
 use Rattle.std.specs.Prelude.{◌≡◌, ◌≢◌, ℕ, suc, ◌+◌, ◌<◌, ◌==◌, Bool, true, false, if◌then◌else◌, List, [], ◌∷◌, ◌++◌, Option, Some, None, option_map, length, slice_index_or, slice_set, nat_lt, cond, not, Result, Ok, Err, OnErr, ℤ, pos}
 use Rattle.std.specs.List.{position, prefix_len}
-use Rattle.std.specs.Option.{is_some}
+use Rattle.std.specs.Option.{is_some, option_or}
 use Rattle.std.specs.Int.Signed.{lt_z}
 use Rattle.std.proofs.Common.{arith, refl, ap, sym, ◌∙◌, take, drop, get_or, get_or-set_same, get_or-set_other}
 use Rattle.std.proofs.Math.Seq.{take-append_seam}
@@ -9,17 +9,17 @@ use Rattle.std.proofs.lemmas.Bool.{eqb-true, eqb-false}
 use borrow.Author.Tests.{ltb-true, ltb-false}
 use Rattle.std.proofs.lemmas.List.{take_more, length-take-le}
 use Rattle.frac128.specs.Rationals.{Rational, of}
-use Rattle.frac128.specs.Fractions.{Fraction, difference_of, quotient_of}
+use Rattle.frac128.specs.Fractions.{Fraction, difference_of, quotient_of, whole}
 use Rattle.frac128.specs.declared.fraction.Wide.{Wide}
 use Rattle.frac128.proofs.Order.{zero_top}
 use Rattle.tableau.specs.declared.rests.Rest.{Rest}
 use Rattle.tableau.specs.declared.rests.Rest.TheVariants.{Basic}
-use Rattle.tableau.specs.Tables.{Table, entry, basic_at, rest_at, variable_at, whole}
+use Rattle.tableau.specs.Tables.{Table, entry, basic_at, rest_at, variable_at}
 use Rattle.tableau.specs.Numbers.{side_or_zero, side_at, and_then, value, ratio}
 use Rattle.tableau.proofs.ListLaws.{is_wide}
-use Rattle.tableau.proofs.StartLaws.{is_below, is_past}
+use Rattle.ip_defs.proofs.OrderLaws.{lt_true, lt_false}
 use Rattle.tableau.specs.Meanings.{price_number}
-use Rattle.simplex_laws.specs.Steps.{or_else, way, entering, side_met, side_towards}
+use Rattle.simplex_laws.specs.Steps.{way, entering, side_met, side_towards}
 use Rattle.simplex_laws.proofs.StepLaws.{way_is}
 use Rattle.simplex_laws.proofs.AnswerLaws.{entering_is}
 
@@ -39,8 +39,8 @@ next_place : (n k : ℕ) → cond (nat_lt (1 + n) (suc k)) (Some (1 + n)) None �
 next_place n k = by (nat_lt n k) refl
   where
     by : (t : Bool) → nat_lt n k ≡ t → cond (nat_lt (1 + n) (suc k)) (Some (1 + n)) None ≡ option_map suc (cond t (Some n) None)
-    by true e = let l = ltb-true n k e in ap (λ t. cond t (Some (1 + n)) None) (is_below (1 + n) (suc k) (omega arith)) ∙ ap (λ z. Some z) (omega arith)
-    by false e = let l = ltb-false n k e in ap (λ t. cond t (Some (1 + n)) None) (is_past (1 + n) (suc k) (omega arith))
+    by true e = let l = ltb-true n k e in ap (λ t. cond t (Some (1 + n)) None) (lt_true (1 + n) (suc k) (omega arith)) ∙ ap (λ z. Some z) (omega arith)
+    by false e = let l = ltb-false n k e in ap (λ t. cond t (Some (1 + n)) None) (lt_false (1 + n) (suc k) (omega arith))
 
 position_cons : {X : Type 0} (p : X → Bool) (x : X) (xs : List X) → position p (x ∷ xs) ≡ (if p x then Some 0 else option_map suc (position p xs))
 position_cons p x xs = by (p x) refl
@@ -51,17 +51,17 @@ position_cons p x xs = by (p x) refl
         cond (nat_lt n (suc (length xs))) (Some n) None
 
     by : (t : Bool) → p x ≡ t → position p (x ∷ xs) ≡ (if t then Some 0 else option_map suc (position p xs))
-    by true e = ap from e ∙ ap (λ t. cond t (Some 0) None) (is_below 0 (suc (length xs)) (omega arith))
+    by true e = ap from e ∙ ap (λ t. cond t (Some 0) None) (lt_true 0 (suc (length xs)) (omega arith))
     by false e = ap from e ∙ next_place (prefix_len (λ x. not (p x)) xs) (length xs)
 
 -- a row is found at the end where it was not found before
-pub position_push : {X : Type 0} (p : X → Bool) (xs : List X) (y : X) → position p (xs ++ y ∷ []) ≡ or_else (position p xs) (if p y then Some (length xs) else None)
+pub position_push : {X : Type 0} (p : X → Bool) (xs : List X) (y : X) → position p (xs ++ y ∷ []) ≡ option_or (position p xs) (if p y then Some (length xs) else None)
 position_push p [] y = position_cons p y []
 position_push p (x ∷ xs) y =
     position_cons p x (xs ++ y ∷ []) ∙ ap (λ o. if p x then Some 0 else option_map suc o) (position_push p xs y)
-    ∙ by (p x) (position p xs) (p y) ∙ ap (λ o. or_else o (if p y then Some (suc (length xs)) else None)) (sym (position_cons p x xs))
+    ∙ by (p x) (position p xs) (p y) ∙ ap (λ o. option_or o (if p y then Some (suc (length xs)) else None)) (sym (position_cons p x xs))
   where
-    by : (t : Bool) (o : Option ℕ) (u : Bool) → (if t then Some 0 else option_map suc (or_else o (if u then Some (length xs) else None))) ≡ or_else (if t then Some 0 else option_map suc o) (if u then Some (suc (length xs)) else None)
+    by : (t : Bool) (o : Option ℕ) (u : Bool) → (if t then Some 0 else option_map suc (option_or o (if u then Some (length xs) else None))) ≡ option_or (if t then Some 0 else option_map suc o) (if u then Some (suc (length xs)) else None)
     by true o u = refl
     by false None true = refl
     by false None false = refl
@@ -69,29 +69,29 @@ position_push p (x ∷ xs) y =
 
 -- the row of a variable among one more row
 pub place_step : (places new : List (Option ℕ)) (basics : List ℕ) (row v : ℕ) → row < length basics → slice_index_or places v None ≡ position (λ w. w == v) (take row basics)
-    → (get_or basics row 0 ≡ v → slice_index_or new v None ≡ or_else (slice_index_or places v None) (Some row)) → (get_or basics row 0 ≢ v → slice_index_or new v None ≡ slice_index_or places v None)
+    → (get_or basics row 0 ≡ v → slice_index_or new v None ≡ option_or (slice_index_or places v None) (Some row)) → (get_or basics row 0 ≢ v → slice_index_or new v None ≡ slice_index_or places v None)
     → slice_index_or new v None ≡ position (λ w. w == v) (take (row + 1) basics)
 place_step places new basics row v l old here elsewhere =
     by (get_or basics row 0 == v) refl
-    ∙ ap (λ n. or_else (position (λ w. w == v) (take row basics)) (if get_or basics row 0 == v then Some n else None)) (sym (length-take-le row basics (omega arith)))
+    ∙ ap (λ n. option_or (position (λ w. w == v) (take row basics)) (if get_or basics row 0 == v then Some n else None)) (sym (length-take-le row basics (omega arith)))
     ∙ sym (position_push (λ w. w == v) (take row basics) (get_or basics row 0)) ∙ ap (position (λ w. w == v)) (sym (take_more basics row 0 l))
   where
-    kept : (o : Option ℕ) → o ≡ or_else o None
+    kept : (o : Option ℕ) → o ≡ option_or o None
     kept None = refl
     kept (Some x) = refl
 
-    by : (t : Bool) → (get_or basics row 0 == v) ≡ t → slice_index_or new v None ≡ or_else (position (λ w. w == v) (take row basics)) (if t then Some row else None)
-    by true e = here (eqb-true (get_or basics row 0) v e) ∙ ap (λ o. or_else o (Some row)) old
+    by : (t : Bool) → (get_or basics row 0 == v) ≡ t → slice_index_or new v None ≡ option_or (position (λ w. w == v) (take row basics)) (if t then Some row else None)
+    by true e = here (eqb-true (get_or basics row 0) v e) ∙ ap (λ o. option_or o (Some row)) old
     by false e = elsewhere (eqb-false (get_or basics row 0) v e) ∙ old ∙ kept (position (λ w. w == v) (take row basics))
 
 -- a place is written where there was none
 pub placed_here : (places new : List (Option ℕ)) (b row v : ℕ) → new ≡ slice_set places b (Some row) → b < length places → is_some (slice_index_or places b None) ≡ false → b ≡ v
-    → slice_index_or new v None ≡ or_else (slice_index_or places v None) (Some row)
+    → slice_index_or new v None ≡ option_or (slice_index_or places v None) (Some row)
 placed_here places new b row v is l none e =
     ap (λ xs. slice_index_or xs v None) is ∙ ap (λ w. slice_index_or (slice_set places b (Some row)) w None) (sym e) ∙ get_or-set_same places b (Some row) None l
-    ∙ none_else (slice_index_or places b None) none ∙ ap (λ w. or_else (slice_index_or places w None) (Some row)) e
+    ∙ none_else (slice_index_or places b None) none ∙ ap (λ w. option_or (slice_index_or places w None) (Some row)) e
   where
-    none_else : (o : Option ℕ) → is_some o ≡ false → Some row ≡ or_else o (Some row)
+    none_else : (o : Option ℕ) → is_some o ≡ false → Some row ≡ option_or o (Some row)
     none_else None h = refl
     none_else (Some x) h = absurd cc
 
@@ -99,11 +99,11 @@ pub placed_there : (places new : List (Option ℕ)) (b row v : ℕ) → new ≡ 
 placed_there places new b row v is n = ap (λ xs. slice_index_or xs v None) is ∙ get_or-set_other places b v (Some row) None (λ e. n (sym e))
 
 -- one that stands there is kept
-pub kept_here : (places new : List (Option ℕ)) (b row v : ℕ) → new ≡ places → is_some (slice_index_or places b None) ≡ true → b ≡ v → slice_index_or new v None ≡ or_else (slice_index_or places v None) (Some row)
+pub kept_here : (places new : List (Option ℕ)) (b row v : ℕ) → new ≡ places → is_some (slice_index_or places b None) ≡ true → b ≡ v → slice_index_or new v None ≡ option_or (slice_index_or places v None) (Some row)
 kept_here places new b row v is some e =
-    ap (λ xs. slice_index_or xs v None) is ∙ ap (λ w. slice_index_or places w None) (sym e) ∙ some_else (slice_index_or places b None) some ∙ ap (λ w. or_else (slice_index_or places w None) (Some row)) e
+    ap (λ xs. slice_index_or xs v None) is ∙ ap (λ w. slice_index_or places w None) (sym e) ∙ some_else (slice_index_or places b None) some ∙ ap (λ w. option_or (slice_index_or places w None) (Some row)) e
   where
-    some_else : (o : Option ℕ) → is_some o ≡ true → o ≡ or_else o (Some row)
+    some_else : (o : Option ℕ) → is_some o ≡ true → o ≡ option_or o (Some row)
     some_else None h = absurd cc
     some_else (Some x) h = refl
 

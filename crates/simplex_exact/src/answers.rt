@@ -1,3 +1,4 @@
+//! The answer of a linear program.
 use lp_duality::Fracs;
 
 /// The answer of the linear program of a node.

@@ -1,10 +1,11 @@
+//! The choice of the next step.
 ghost use Rattle.std.specs.Prelude.{◌≡◌, ◌≢◌, ◌<◌, IfOk, OnErr, length, Ok};
 ghost use Rattle.tableau.specs.declared.rests.Rest.TheVariants.{Basic};
 ghost use Rattle.tableau.specs.Tables.{IsTable, rest_at};
 ghost use Rattle.simplex_laws.specs.declared.next.Next.TheVariants.{FinalPoint};
 ghost use Rattle.simplex_laws.specs.Steps.{entering as entering_at, improve as improve_by, mend as mend_by, mender as mender_at, move as move_of, next as next_of};
 ghost use Rattle.simplex_laws.specs.Wides.{HasWideNumber};
-ghost use Rattle.simplex_exact.specs.Numbers.{ArePlaces, AreNumbersBelow};
+ghost use Rattle.simplex_exact.specs.Internal.Numbers.{ArePlaces, AreNumbersBelow};
 
 use crate::numbers::{first_breach, place_rows};
 use crate::sides::side_towards;

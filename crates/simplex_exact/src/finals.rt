@@ -1,3 +1,4 @@
+//! The answer that a final tableau holds.
 ghost use Rattle.std.specs.Prelude.{◌≡◌, ◌<◌, ◌≤◌, ◌+◌, IfOk, MatchOption, length, true};
 ghost use Rattle.tableau.specs.Tables.{Table, IsTable};
 ghost use Rattle.tableau.specs.Nodes.{number};
@@ -8,8 +9,8 @@ ghost use Rattle.simplex_laws.specs.Steps.{is_final};
 ghost use Rattle.simplex_laws.specs.Wides.{HasWideNumber};
 ghost use Rattle.simplex_laws.specs.Finals.{point_of};
 ghost use Rattle.simplex_exact.specs.Answers.{AreNumbers};
-ghost use Rattle.simplex_exact.specs.Numbers.{AreNumbersBelow, turned as turned_number};
-ghost use Rattle.simplex_exact.specs.Reads.{IsPointRead, IsRayRead, IsRead};
+ghost use Rattle.simplex_exact.specs.Internal.Numbers.{AreNumbersBelow, turned as turned_number};
+ghost use Rattle.simplex_exact.specs.Internal.Reads.{IsPointRead, IsRayRead, IsRead};
 
 use crate::LpAnswer;
 use crate::signs::turned;

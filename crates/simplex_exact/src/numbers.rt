@@ -1,12 +1,13 @@
+//! The numbers of the variables, and the first one that is outside its sides.
 ghost use Rattle.std.specs.Prelude.{◌≡◌, ◌<◌, ◌≤◌, ℕ, IfOk, OnErr, length, None, Ok, slice_index_or};
 ghost use Rattle.tableau.specs.Tables.{IsTable};
-ghost use Rattle.simplex_laws.specs.Steps.{first, breach as breach_at};
+ghost use Rattle.simplex_laws.specs.Steps.{breach as breach_at};
 ghost use Rattle.simplex_laws.specs.Wides.{HasWideNumber};
-ghost use Rattle.simplex_exact.specs.Numbers.{place_of, ArePlaces, IsNumber, AreNumbersBelow};
+ghost use Rattle.simplex_exact.specs.Internal.Numbers.{place_of, ArePlaces, IsNumber, AreNumbersBelow};
+ghost use Rattle.ip_defs.specs.Lists.{first};
 
-use crate::sides::{outside, resting_value};
-use crate::signs::whole;
-use tableau::{Frac, Tableau, Wide};
+use crate::sides::outside;
+use tableau::{Frac, Tableau, Wide, present_side};
 
 /// Forgets all places.
 fn clear(places: &mut [Option<u32>])
@@ -44,8 +45,8 @@ fn number(tableau: &Tableau, place: Option<u32>, var: u32) -> Result<Frac, Wide>
     match place {
         Some(row) => tableau.value(row),
         None => {
-            let rested = resting_value(tableau.variable(var), tableau.rest(var));
-            Ok(whole(i128::from(rested)))
+            let rested = tableau.variable(var).resting_value(tableau.rest(var));
+            Ok(Frac::from_whole(present_side(rested)))
         }
     }
 }

@@ -1,3 +1,4 @@
+//! The run of the simplex from the start to its answer.
 ghost use Rattle.std.specs.Prelude.{◌≡◌, ◌≤◌, ◌+◌, false, length, IfOk, OnOk, OnErr, None, Ok, Err};
 ghost use Rattle.std.specs.List.{list_any};
 ghost use Rattle.ip_defs.specs.Certificates.{is_empty_side};
@@ -11,13 +12,12 @@ ghost use Rattle.simplex_exact.specs.Answers.{IsLpAnswer};
 use crate::LpAnswer;
 use crate::choices::choose;
 use crate::finals::read;
-use crate::signs::whole;
 use ip_defs::{Area, Memory};
 use ip_model::IntModel;
 use simplex_laws::Next;
 use std::alloc::Global;
 use std::sync::ledger::Ledger;
-use tableau::{Steps, Tableau, Wide, start};
+use tableau::{Frac, Steps, Tableau, Wide, start};
 
 /// Whether a tableau that is next to go so is final.
 fn ends(next: Next) -> bool
@@ -74,7 +74,7 @@ fn solve<L: Ledger>(
     let count = (columns + rows) as usize;
     let mut tableau = start(alloc, model, area)?;
     let mut places = vec![in alloc; None; count]?;
-    let mut values = vec![in alloc; whole(0); count]?;
+    let mut values = vec![in alloc; Frac::from_whole(0); count]?;
     let mut taken = 0;
     loop {
         let next = match choose(&tableau, rows, places.as_mut_slice(), values.as_mut_slice()) {

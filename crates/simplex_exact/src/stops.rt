@@ -1,19 +1,20 @@
+//! How far a variable can go, and what stops it first.
 ghost use Rattle.std.specs.Prelude.{◌≡◌, ◌≢◌, ◌<◌, ◌≤◌, IfOk, OnErr, length, Ok, option_and_then, option_map, Some, pos};
-ghost use Rattle.frac128.specs.Fractions.{difference_of, quotient_of};
-ghost use Rattle.frac128.specs.Rationals.{Rational, of, sub as less, quotient};
+ghost use Rattle.frac128.specs.Fractions.{difference_of, quotient_of, whole as whole_of};
+ghost use Rattle.frac128.specs.Rationals.{Rational, of, sub as less, quotient, absolute as absolute_number};
 ghost use Rattle.frac128.specs.Values.{value_of};
 ghost use Rattle.tableau.specs.declared.rests.Rest.TheVariants.{Basic};
-ghost use Rattle.tableau.specs.Tables.{IsTable, entry as entry_at, basic_at, rest_at, variable_at, whole as whole_of};
-ghost use Rattle.tableau.specs.Numbers.{and_then, side_at, value as value_in};
+ghost use Rattle.tableau.specs.Tables.{IsTable, entry as entry_at, basic_at, rest_at, variable_at};
+ghost use Rattle.tableau.specs.Numbers.{and_then, room as room_of, side_at, value as value_in};
 ghost use Rattle.tableau.specs.Nodes.{number};
 ghost use Rattle.tableau.specs.Meanings.{ratio_number, value_number};
 ghost use Rattle.simplex_laws.specs.declared.next.Next.TheVariants.{Flip};
-ghost use Rattle.simplex_laws.specs.Steps.{room as room_of, size_of, side_met as side_met_by, stop_at as stop_in, stop as stop_by, nearer as nearer_of, nearest as nearest_of};
+ghost use Rattle.simplex_laws.specs.Steps.{side_met as side_met_by, stop_at as stop_in, stop as stop_by, nearer as nearer_of, nearest as nearest_of};
 ghost use Rattle.simplex_laws.specs.Wides.{HasWideNumber};
-ghost use Rattle.simplex_exact.specs.Numbers.{place_of, ArePlaces, IsNumber, AreNumbersBelow, stop_value};
+ghost use Rattle.simplex_exact.specs.Internal.Numbers.{place_of, ArePlaces, IsNumber, AreNumbersBelow, stop_value};
 
-use crate::sides::{named_side, room, side_towards};
-use crate::signs::{is_below, size, top, whole};
+use crate::sides::side_towards;
+use crate::signs::is_below;
 use frac128::{div, sub};
 use simplex_laws::Next;
 use tableau::{Frac, Rest, Tableau, Variable, Wide};
@@ -37,7 +38,7 @@ fn ratio(value: Frac, side: i64, entry: Frac) -> Result<Frac, Wide>
     ensures exact { result ≡ and_then (difference_of value (whole_of side)) (λ way. quotient_of way entry) }
     ensures number { IfOk result (λ x. value_of x ≡ quotient (less (value_of value) (of side)) (value_of entry)) }
 {
-    match sub(value, whole(i128::from(side))) {
+    match sub(value, Frac::from_whole(side)) {
         Ok(way) => div(way, entry),
         Err(Wide) => Err(Wide),
     }
@@ -59,11 +60,11 @@ fn distance(
     requires free { rest_at tableau.now.rests var ≢ Basic }
     requires pivot { (entry_at tableau.now.rows row var).num ≢ pos 0 }
     requires side { side_at (variable_at tableau.now.variables (basic_at tableau.now.basics row)) side ≡ Some there }
-    ensures size { IfOk result (λ x. value_of x ≡ size_of (ratio_number tableau.now row var side)) }
+    ensures size { IfOk result (λ x. value_of x ≡ absolute_number (ratio_number tableau.now row var side)) }
     ensures wide { OnErr result (HasWideNumber tableau.now) }
 {
     match ratio(value, there, tableau.entry(row, var)) {
-        Ok(far) => Ok(size(far)),
+        Ok(far) => Ok(far.absolute()),
         Err(Wide) => Err(Wide),
     }
 }
@@ -85,7 +86,7 @@ fn stop_at(
     ensures stop { IfOk result (λ s. stop_value s ≡ stop_in tableau.now var row side) }
     ensures wide { OnErr result (HasWideNumber tableau.now) }
 {
-    let there = match named_side(tableau.variable(tableau.basic(row)), side) {
+    let there = match tableau.variable(tableau.basic(row)).side(side) {
         Some(there) => there,
         None => return Ok(None),
     };
@@ -106,7 +107,7 @@ fn stop_at(
 fn own_stop(variable: Variable, var: u32) -> Option<(Frac, Next)>
     ensures { stop_value result ≡ option_map (λ far. (far, Flip var)) (room_of variable) }
 {
-    match room(variable) {
+    match variable.room() {
         Some(far) => Some((far, Next::Flip { var })),
         None => None,
     }
@@ -128,7 +129,7 @@ fn row_stop(
     ensures stop { IfOk result (λ s. stop_value s ≡ option_and_then (stop_in tableau.now var row) (side_met_by up (number tableau.now row var))) }
     ensures wide { OnErr result (HasWideNumber tableau.now) }
 {
-    match side_met(up, top(tableau.entry(row, var))) {
+    match side_met(up, tableau.entry(row, var).num()) {
         Some(side) => stop_at(tableau, value, row, var, side),
         None => Ok(None),
     }

@@ -1,3 +1,4 @@
+//! Linear programs with known answers.
 ghost use Rattle.std.specs.Prelude.{◌≡◌, ◌<◌};
 ghost use Rattle.std.specs.List.{list_any};
 ghost use Rattle.ip_defs.specs.Certificates.{is_empty_side};

@@ -1,3 +1,4 @@
+//! Which way a variable can go, and the first variable that can.
 ghost use Rattle.std.specs.Prelude.{◌≡◌, ◌<◌, ◌≤◌, ◌^◌, length, IfOk, OnOk, OnErr, option_map};
 ghost use Rattle.frac128.specs.Rationals.{Rational};
 ghost use Rattle.frac128.specs.Values.{value_of};
@@ -5,10 +6,10 @@ ghost use Rattle.tableau.specs.Nodes.{number};
 ghost use Rattle.tableau.specs.Meanings.{price_number};
 ghost use Rattle.simplex_laws.specs.Steps.{can_go as can_go_at, way as way_at, mender as mender_at, entering as entering_at};
 ghost use Rattle.simplex_laws.specs.Wides.{HasWideNumber};
-ghost use Rattle.simplex_exact.specs.Numbers.{turned};
+ghost use Rattle.simplex_exact.specs.Internal.Numbers.{turned as turned_number};
 
-use crate::sides::{is_fixed, rests_for};
-use crate::signs::{top, turned_top};
+use crate::sides::rests_for;
+use crate::signs::turned;
 use tableau::{Tableau, Wide};
 
 /// Whether a variable that is not basic can rise, or fall.
@@ -16,7 +17,7 @@ fn can_go(tableau: &Tableau, up: bool, var: u32) -> bool
     requires { var < length tableau.now.variables }
     ensures { result ≡ can_go_at tableau.now up var }
 {
-    rests_for(up, tableau.rest(var)) && !is_fixed(tableau.variable(var))
+    rests_for(up, tableau.rest(var)) && !tableau.variable(var).is_fixed()
 }
 
 /// Which way a variable goes by the sign of a number: up below 0, down above 0.
@@ -37,9 +38,9 @@ fn way(tableau: &Tableau, sign: i128, var: u32) -> Option<bool>
 fn mending_way(tableau: &Tableau, row: u32, up: bool, var: u32) -> Option<bool>
     requires row { row < length tableau.now.rows }
     requires variable { var < length tableau.now.variables }
-    ensures { result ≡ way_at tableau.now (turned up (number tableau.now row var)) var }
+    ensures { result ≡ way_at tableau.now (turned_number up (number tableau.now row var)) var }
 {
-    way(tableau, turned_top(tableau.entry(row, var), up), var)
+    way(tableau, turned(tableau.entry(row, var), up).num(), var)
 }
 
 /// The first variable that lets the basic variable of a row rise, or fall.
@@ -67,7 +68,7 @@ fn lowering_way(tableau: &Tableau, var: u32) -> Result<Option<bool>, Wide>
         return Ok(None);
     }
     match tableau.price(var) {
-        Ok(price) => Ok(way(tableau, top(price), var)),
+        Ok(price) => Ok(way(tableau, price.num(), var)),
         Err(Wide) => Err(Wide),
     }
 }

@@ -2,19 +2,22 @@
 use Rattle.std.specs.Prelude.{◌≡◌, ◌≢◌, ℕ, ◌<◌, ◌==◌, Bool, true, false, cond, if◌then◌else◌, List, length, Option, Some, None, option_map, option_and_then, ℤ}
 use Rattle.std.specs.List.{position}
 use Rattle.std.proofs.Common.{refl, ap, sym, ◌∙◌, subst}
-use Rattle.frac128.specs.Rationals.{Rational, neg}
+use Rattle.frac128.specs.Rationals.{Rational, neg, absolute}
 use Rattle.ip_defs.specs.declared.programs.Parts.{Parts}
 use Rattle.tableau.specs.declared.rests.Rest.{Rest}
 use Rattle.tableau.specs.Tables.{Table, basic_at, variable_at, IsTable}
-use Rattle.tableau.specs.Numbers.{side_at}
+use Rattle.tableau.specs.Numbers.{side_at, room}
 use Rattle.tableau.specs.Nodes.{number, StandsFor, HasItsPoints}
 use Rattle.tableau.specs.Meanings.{value_number, price_number, ratio_number}
 use Rattle.simplex_laws.specs.declared.next.Next.{Next}
 use Rattle.simplex_laws.specs.declared.next.Next.TheVariants.{Pivot, Flip, FinalRow, FinalPoint}
-use Rattle.simplex_laws.specs.Steps.{first, way, breach, outside, mender, mend, size_of, room, side_met, stop_at, stop, nearest, move_by, move, entering, improve, by_breach, next, is_final}
-use Rattle.simplex_laws.proofs.ChoiceLaws.{paired, unmapped, first_is, first_none, nearest_is}
+use Rattle.simplex_laws.specs.Steps.{way, breach, outside, mender, mend, side_met, stop_at, stop, nearest, move_by, move, entering, improve, by_breach, next, is_final}
+use Rattle.ip_defs.proofs.FirstLaws.{first-none}
+use Rattle.simplex_laws.proofs.ChoiceLaws.{paired, first_is, nearest_is}
 use Rattle.simplex_laws.proofs.StepLaws.{way_is, first_breach}
 use Rattle.simplex_laws.proofs.StopLaws.{something_stops}
+use Rattle.ip_defs.proofs.ListLaws.{unmapped}
+use Rattle.ip_defs.specs.Lists.{first}
 
 -- the entries of a row, or their negations
 abbrev pub ray : Table → ℕ → Bool → ℕ → Rational
@@ -25,10 +28,10 @@ module _ (T : Table) (v : ℕ) (up : Bool) where
   stop_at_steps : (i : ℕ) (side : Rest) (x : Rational × Next) → stop_at T v i side ≡ Some x → is_final x.1 ≡ false
   stop_at_steps i side x e = by (side_at (variable_at T.variables (basic_at T.basics i)) side) e
     where
-      by : (o : Option ℤ) → option_map {U = Rational × Next} (λ there. (size_of (ratio_number T i v side), Pivot i v side)) o ≡ Some x → is_final x.1 ≡ false
+      by : (o : Option ℤ) → option_map {U = Rational × Next} (λ there. (absolute (ratio_number T i v side), Pivot i v side)) o ≡ Some x → is_final x.1 ≡ false
       by None h = absurd cc
       by (Some z) h =
-          let q : paired (size_of (ratio_number T i v side)) (Pivot i v side) ≡ x = cc in
+          let q : paired (absolute (ratio_number T i v side)) (Pivot i v side) ≡ x = cc in
           subst (λ (y : Rational × Next). is_final y.1 ≡ false) q refl
 
   stop_in_steps : (i : ℕ) (x : Rational × Next) → option_and_then (stop_at T v i) (side_met up (number T i v)) ≡ Some x → is_final x.1 ≡ false
@@ -74,7 +77,7 @@ entering_is T go e = by (first_is (λ v. option_map (λ up. (v, up)) (way T (pri
 
 -- without an entering variable no price gives a way
 pub entering_none : (T : Table) → entering T ≡ None → (v : ℕ) → v < length T.variables → way T (price_number T v) v ≡ None
-entering_none T e v l = unmapped {B = ℕ × Bool} (λ up. (v, up)) (way T (price_number T v) v) (first_none (λ v. option_map {U = ℕ × Bool} (λ up. (v, up)) (way T (price_number T v) v)) (length T.variables) e v l)
+entering_none T e v l = unmapped {B = ℕ × Bool} (λ up. (v, up)) (way T (price_number T v) v) (first-none (λ v. option_map {U = ℕ × Bool} (λ up. (v, up)) (way T (price_number T v) v)) (length T.variables) e v l)
 
 -- ---- a final row
 -- row i is outside the sides of its basic variable, and no other variable mends it
@@ -85,7 +88,7 @@ pub record IsBroken (T : Table) (i : ℕ) (up : Bool) : Type 0 where
 
 -- without a mender no entry of the row gives a way
 pub mender_none : (T : Table) (i : ℕ) (up : Bool) → mender T i up ≡ None → (v : ℕ) → v < length T.variables → way T (ray T i up v) v ≡ None
-mender_none T i up e v l = unmapped {B = ℕ} (λ go. v) (way T (ray T i up v) v) (first_none (λ v. option_map {U = ℕ} (λ go. v) (way T (ray T i up v) v)) (length T.variables) e v l)
+mender_none T i up e v l = unmapped {B = ℕ} (λ go. v) (way T (ray T i up v) v) (first-none (λ v. option_map {U = ℕ} (λ go. v) (way T (ray T i up v) v)) (length T.variables) e v l)
 
 mended : (x : ℕ × Bool) (i : ℕ) (up : Bool) (o : Option ℕ) → mend x.0 x.1 o ≡ FinalRow i up → (o ≡ None) × (x ≡ (i, up))
 mended x i up None e =
@@ -136,5 +139,5 @@ module _ (m : Parts) (b : List (ℤ × ℤ)) (T : Table) (table : IsTable T) (st
   final_point_is e = by (first (breach T) (length T.variables)) refl e
     where
       by : (o : Option (ℕ × Bool)) → first (breach T) (length T.variables) ≡ o → by_breach T o ≡ FinalPoint → IsSettled T
-      by None f h = record { within = first_none (breach T) (length T.variables) f; ways = improved (entering T) refl h }
+      by None f h = record { within = first-none (breach T) (length T.variables) f; ways = improved (entering T) refl h }
       by (Some x) f h = absurd (no_mend x.0 x.1 (mender T x.0 x.1) h)

@@ -1,25 +1,16 @@
 -- First and nearest answers: where they come from, and how a search by number finds them.
-use Rattle.std.specs.Prelude.{◌≡◌, ◌≢◌, ℕ, zero, suc, ◌+◌, ◌<◌, ◌==◌, ◌&&◌, Bool, true, false, cond, Option, Some, None, option_map}
-use Rattle.std.proofs.Common.{arith, refl, ap, ◌∙◌, ◌⊎◌, inl, inr}
-use Rattle.std.proofs.Math.Nat.{eq-or-lt_of_le}
+use Rattle.std.specs.Prelude.{◌≡◌, ◌≢◌, ℕ, zero, suc, ◌+◌, ◌<◌, ◌==◌, Bool, true, false, cond, Option, Some, None}
+use Rattle.std.proofs.Common.{arith, refl, ap, ◌∙◌}
 use Rattle.std.proofs.lemmas.Bool.{eqb-true, eqb-false}
 use Rattle.frac128.specs.Rationals.{Rational}
 use Rattle.lp_duality.specs.Duals.{is_below}
 use Rattle.simplex_laws.specs.declared.next.Next.{Next}
-use Rattle.simplex_laws.specs.Steps.{or_else, first, nearer, nearest}
-
-pub both_true : (a b : Bool) → (a && b) ≡ true → (a ≡ true) × (b ≡ true)
-both_true true true e = (refl, refl)
-both_true true false e = absurd cc
-both_true false b e = absurd cc
+use Rattle.simplex_laws.specs.Steps.{nearer, nearest}
+use Rattle.ip_defs.specs.Lists.{first}
+use Rattle.std.specs.Option.{option_or}
 
 abbrev pub paired : {A B : Type 0} → A → B → A × B
 paired a b = (a, b)
-
--- what is mapped to no answer is none
-pub unmapped : {A B : Type 0} (f : A → B) (o : Option A) → option_map f o ≡ None → o ≡ None
-unmapped f None e = refl
-unmapped f (Some x) e = absurd cc
 
 -- ---- the first answer
 -- a first answer is the answer at some number
@@ -27,42 +18,9 @@ pub first_is : {A : Type 0} (f : ℕ → Option A) (n : ℕ) (x : A) → first f
 first_is f zero x e = absurd cc
 first_is {A = A} f (suc n) x e = by (first f n) refl (first_is f n x) e
   where
-    by : (o : Option A) → first f n ≡ o → (first f n ≡ Some x → (v : ℕ) × (v < n) × (f v ≡ Some x)) → or_else o (f n) ≡ Some x → (v : ℕ) × (v < suc n) × (f v ≡ Some x)
+    by : (o : Option A) → first f n ≡ o → (first f n ≡ Some x → (v : ℕ) × (v < n) × (f v ≡ Some x)) → option_or o (f n) ≡ Some x → (v : ℕ) × (v < suc n) × (f v ≡ Some x)
     by None g ih h = (n, omega arith, h)
     by (Some y) g ih h = let r = ih (g ∙ h) in (r.0, (let l = r.1 in omega arith), r.2)
-
--- where there is no first answer, there is none at any number
-pub first_none : {A : Type 0} (f : ℕ → Option A) (n : ℕ) → first f n ≡ None → (v : ℕ) → v < n → f v ≡ None
-first_none f zero e v l = absurd (omega arith)
-first_none {A = A} f (suc n) e v l = by (first f n) refl e (v == n) refl (first_none f n)
-  where
-    by : (o : Option A) → first f n ≡ o → or_else o (f n) ≡ None → (t : Bool) → (v == n) ≡ t → (first f n ≡ None → (v : ℕ) → v < n → f v ≡ None) → f v ≡ None
-    by (Some x) g h t k ih = absurd cc
-    by None g h true k ih = ap f (eqb-true v n k) ∙ h
-    by None g h false k ih = ih g v (let q = eqb-false v n k in omega arith)
-
--- one more number, where there was no answer before
-pub first_next : {A : Type 0} (f : ℕ → Option A) (n : ℕ) → first f n ≡ None → first f (n + 1) ≡ f n
-first_next {A = A} f n e = let s : n + 1 ≡ suc n = omega arith in ap (first f) s ∙ ap (λ (o : Option A). or_else o (f n)) e
-
--- the first answer of all, where there is none before it
-pub first_at : {A : Type 0} (f : ℕ → Option A) (k n : ℕ) (x : A) → first f k ≡ None → f k ≡ Some x → k < n → first f n ≡ Some x
-first_at f k zero x e g l = absurd (omega arith)
-first_at {A = A} f k (suc n) x e g l = by (eq-or-lt_of_le l) (first_at f k n x e g)
-  where
-    by : (suc k ≡ suc n) ⊎ (suc k < suc n) → (k < n → first f n ≡ Some x) → first f (suc n) ≡ Some x
-    by (inl q) ih = let same : n ≡ k = omega arith in ap (λ i. or_else (first f i) (f i)) same ∙ ap (λ (o : Option A). or_else o (f k)) e ∙ g
-    by (inr q) ih = ap (λ (o : Option A). or_else o (f n)) (ih (omega arith))
-
--- without an answer at any number there is no first one
-pub first_absent : {A : Type 0} (f : ℕ → Option A) (n : ℕ) → ((v : ℕ) → v < n → f v ≡ None) → first f n ≡ None
-first_absent f zero h = refl
-first_absent {A = A} f (suc n) h = ap (λ (o : Option A). or_else o (f n)) (first_absent f n (λ v l. h v (omega arith))) ∙ h n (omega arith)
-
--- answers that are the same have the same first one
-pub first_same : {A : Type 0} (f g : ℕ → Option A) (n : ℕ) → ((v : ℕ) → v < n → f v ≡ g v) → first f n ≡ first g n
-first_same f g zero h = refl
-first_same {A = A} f g (suc n) h = ap (λ (o : Option A). or_else o (f n)) (first_same f g n (λ v l. h v (omega arith))) ∙ ap (or_else (first g n)) (h n (omega arith))
 
 -- ---- the nearest stop
 pub nearest_is : (f : ℕ → Option (Rational × Next)) (n : ℕ) (x : Rational × Next) → nearest f n ≡ Some x → (v : ℕ) × (v < n) × (f v ≡ Some x)

@@ -2,14 +2,14 @@
 use Rattle.std.specs.Prelude.{◌≡◌, ℕ, ◌^◌, [], ◌∷◌, List, false, Some, None, Ok, ℤ, pos, negsuc, refl}
 use Rattle.std.proofs.Common.{arith}
 use Rattle.frac128.specs.Gcd.{gcd}
-use Rattle.frac128.specs.Fractions.{Fraction, lowest_of, sum_of, product_of}
+use Rattle.frac128.specs.Fractions.{Fraction, lowest_of, sum_of, product_of, whole}
 use Rattle.frac128.specs.Rationals.{S, over, both, of, add, sub, mul, neg, inverse, rational}
 use Rattle.ip_defs.specs.declared.programs.Parts.{Parts}
 use Rattle.lp_duality.specs.Duals.{dual}
 use Rattle.lp_duality.specs.Relaxations.{total_cost}
 use Rattle.tableau.specs.declared.rests.Rest.{Rest}
 use Rattle.tableau.specs.declared.rests.Rest.TheVariants.{Basic, Low, High}
-use Rattle.tableau.specs.Tables.{Table, whole}
+use Rattle.tableau.specs.Tables.{Table}
 use Rattle.tableau.specs.Nodes.{start_of}
 use Rattle.tableau.specs.Pivots.{after_flip}
 use Rattle.simplex_laws.specs.declared.next.Next.TheVariants.{Pivot, Flip, FinalRow, FinalPoint}

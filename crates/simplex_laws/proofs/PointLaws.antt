@@ -22,12 +22,12 @@ use Rattle.tableau.proofs.RowLaws.{same_number}
 use Rattle.tableau.proofs.TableLaws.{system_of}
 use Rattle.simplex_laws.specs.Steps.{breach, outside}
 use Rattle.simplex_laws.specs.Finals.{number_by, point_of}
-use Rattle.simplex_laws.proofs.ChoiceLaws.{unmapped}
 use Rattle.simplex_laws.proofs.PlaceLaws.{found}
 use Rattle.simplex_laws.proofs.StepLaws.{basic_row}
 use Rattle.simplex_laws.proofs.PriceLaws.{basic_point}
 use Rattle.simplex_laws.proofs.SideLaws.{in_order}
 use Rattle.simplex_laws.proofs.RestLaws.{Sits, SignFits, rested_is, paid_rested, rested_between, outside_none}
+use Rattle.ip_defs.proofs.ListLaws.{unmapped}
 
 module _ (m : Parts) (b : List (ℤ × ℤ)) (T : Table) (table : IsTable T) (stands : StandsFor m b T) where
   -- ---- rows

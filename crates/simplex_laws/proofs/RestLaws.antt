@@ -9,13 +9,14 @@ use Rattle.frac128.proofs.Rationals.{rationals}
 use Rattle.frac128.proofs.Order.{zero_top}
 use Rattle.lp_duality.specs.Duals.{is_below, paid}
 use Rattle.lp_duality.specs.Relaxations.{IsBetween}
-use Rattle.lp_duality.proofs.SignLaws.{lt_false, top_zero, Sign, up, down, none, sign_of, below_false, of_at_most, at_most_self, paid_up, paid_down, paid_nought}
+use Rattle.lp_duality.proofs.SignLaws.{top_zero, Sign, up, down, none, sign_of, below_false, of_at_most, at_most_self, paid_up, paid_down, paid_nought}
 use Rattle.tableau.specs.declared.rests.Rest.{Rest}
 use Rattle.tableau.specs.declared.rests.Rest.TheVariants.{Basic, Low, High, Zero}
 use Rattle.tableau.specs.declared.variables.Variable.{Variable}
 use Rattle.tableau.specs.Tables.{CanRest}
-use Rattle.tableau.specs.Numbers.{side_or_zero, resting}
-use Rattle.simplex_laws.specs.Steps.{is_fixed_between, rests_for, above, outside}
+use Rattle.tableau.specs.Numbers.{side_or_zero, resting, is_fixed_between}
+use Rattle.simplex_laws.specs.Steps.{rests_for, above, outside}
+use Rattle.ip_defs.proofs.OrderLaws.{not_less}
 
 -- ---- rests by the two sides
 -- a variable with two sides can rest so
@@ -58,7 +59,7 @@ fixed_same low high e = by (lt_z low high) (lt_z high low) refl refl e
     by : (s t : Bool) → lt_z low high ≡ s → lt_z high low ≡ t → (not s && not t) ≡ true → low ≡ high
     by true t f g k = absurd cc
     by false true f g k = absurd cc
-    by false false f g k = let x = lt_false low high f in let y = lt_false high low g in omega (arith, ints)
+    by false false f g k = let x = not_less low high f in let y = not_less high low g in omega (arith, ints)
 
 -- a number whose sign fits the rest pays the side at which the variable rests
 pub paid_rested : (p : Rational) (low high : Option ℤ) (rest : Rest) → Sits low high rest → SignFits p low high rest → paid p low high ≡ Some (mul p (rested low high rest))
@@ -109,12 +110,12 @@ sign_fits p low high rest e =
     by rest (split_none (lt_z p.top (pos 0) && (rests_for true rest && not (is_fixed_between low high))) (cond (lt_z (pos 0) p.top && (rests_for false rest && not (is_fixed_between low high))) (Some false) None) true e)
   where
     rise : (rest : Rest) → (lt_z p.top (pos 0) && (rests_for true rest && not (is_fixed_between low high))) ≡ false → is_fixed_between low high ≡ false → rests_for true rest ≡ true → pos 0 ≤ℤ p.top
-    rise rest x f t = lt_false p.top (pos 0) (and_false (lt_z p.top (pos 0)) (rests_for true rest) (is_fixed_between low high) x f t)
+    rise rest x f t = not_less p.top (pos 0) (and_false (lt_z p.top (pos 0)) (rests_for true rest) (is_fixed_between low high) x f t)
 
     fall : (rest : Rest) → cond (lt_z (pos 0) p.top && (rests_for false rest && not (is_fixed_between low high))) (Some false) None ≡ None → is_fixed_between low high ≡ false → rests_for false rest ≡ true → p.top ≤ℤ pos 0
     fall rest x f t =
         let y = split_none (lt_z (pos 0) p.top && (rests_for false rest && not (is_fixed_between low high))) None false x in
-        lt_false (pos 0) p.top (and_false (lt_z (pos 0) p.top) (rests_for false rest) (is_fixed_between low high) y.0 f t)
+        not_less (pos 0) p.top (and_false (lt_z (pos 0) p.top) (rests_for false rest) (is_fixed_between low high) y.0 f t)
 
     by : (rest : Rest) → ((lt_z p.top (pos 0) && (rests_for true rest && not (is_fixed_between low high))) ≡ false) × (cond (lt_z (pos 0) p.top && (rests_for false rest && not (is_fixed_between low high))) (Some false) None ≡ None) → SignFits p low high rest
     by Basic x = tt

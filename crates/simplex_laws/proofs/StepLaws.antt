@@ -9,7 +9,7 @@ use Rattle.ring_laws.proofs.Rings.{whole}
 use Rattle.ring_laws.proofs.Normal.{num, ◌⊗◌}
 use Rattle.ring_laws.proofs.Named.{ring2}
 use Rattle.frac128.specs.Fractions.{Fraction}
-use Rattle.frac128.specs.Rationals.{Rational, S, of, neg, rational}
+use Rattle.frac128.specs.Rationals.{Rational, S, of, neg, rational, absolute}
 use Rattle.frac128.specs.Values.{value_of}
 use Rattle.frac128.proofs.Rationals.{same}
 use Rattle.frac128.proofs.Order.{nonzero, nonzero_neg}
@@ -19,14 +19,16 @@ use Rattle.tableau.specs.declared.rests.Rest.{Rest}
 use Rattle.tableau.specs.declared.rests.Rest.TheVariants.{Basic, Low, High, Zero}
 use Rattle.tableau.specs.declared.variables.Variable.{Variable}
 use Rattle.tableau.specs.Tables.{Table, entry, basic_at, rest_at, variable_at, CanRest, IsTable}
-use Rattle.tableau.specs.Numbers.{side_at}
+use Rattle.tableau.specs.Numbers.{side_at, is_fixed, room_between, room}
 use Rattle.tableau.specs.Nodes.{number, RestsRight, StandsFor}
 use Rattle.tableau.specs.Meanings.{value_number, price_number, ratio_number}
 use Rattle.simplex_laws.specs.declared.next.Next.{Next}
 use Rattle.simplex_laws.specs.declared.next.Next.TheVariants.{Pivot, Flip, FinalRow}
-use Rattle.simplex_laws.specs.Steps.{first, is_fixed, rests_for, can_go, way, above, outside, breach, side_towards, mender, mend, size_of, room_between, room, side_met, stop_at, stop, nearest, move_by, move, entering, improve, by_breach, next}
+use Rattle.simplex_laws.specs.Steps.{rests_for, can_go, way, above, outside, breach, side_towards, mender, mend, side_met, stop_at, stop, nearest, move_by, move, entering, improve, by_breach, next}
 use Rattle.simplex_laws.specs.Laws.{CanPivot, CanFlip, CanStep, StepsCanBeMade}
-use Rattle.simplex_laws.proofs.ChoiceLaws.{both_true, paired, first_is, nearest_is}
+use Rattle.simplex_laws.proofs.ChoiceLaws.{paired, first_is, nearest_is}
+use Rattle.ip_defs.proofs.BoolLaws.{both_true}
+use Rattle.ip_defs.specs.Lists.{first}
 
 -- ---- numbers that are not 0
 falls : (z : ℤ) → lt_z z (pos 0) ≡ true → z ≢ pos 0
@@ -167,10 +169,10 @@ module _ (T : Table) (table : IsTable T) where
       stops_at : (i : ℕ) (side : Rest) (x : Rational × Next) → i < length T.rows → (number T i v).top ≢ pos 0 → stop_at T v i side ≡ Some x → CanStep T x.1
       stops_at i side x l n e = by (side_at (variable_at T.variables (basic_at T.basics i)) side) refl e
         where
-          by : (o : Option ℤ) → side_at (variable_at T.variables (basic_at T.basics i)) side ≡ o → option_map {U = Rational × Next} (λ there. (size_of (ratio_number T i v side), Pivot i v side)) o ≡ Some x → CanStep T x.1
+          by : (o : Option ℤ) → side_at (variable_at T.variables (basic_at T.basics i)) side ≡ o → option_map {U = Rational × Next} (λ there. (absolute (ratio_number T i v side), Pivot i v side)) o ≡ Some x → CanStep T x.1
           by None f h = absurd cc
           by (Some z) f h =
-              let q : paired (size_of (ratio_number T i v side)) (Pivot i v side) ≡ x = cc in
+              let q : paired (absolute (ratio_number T i v side)) (Pivot i v side) ≡ x = cc in
               subst (λ (y : Rational × Next). CanStep T y.1) q (record {
                 row = l;
                 variable = inside;

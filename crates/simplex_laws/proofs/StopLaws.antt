@@ -9,13 +9,13 @@ use Rattle.std.proofs.lemmas.Bool.{eqb-true, eqb-false}
 use Rattle.ring_laws.proofs.Rings.{mul_zero}
 use Rattle.ring_laws.proofs.Normal.{num, minus, identity}
 use Rattle.ring_laws.proofs.Sums.{sum_same, sum_zero, sum_single}
-use Rattle.frac128.specs.Rationals.{Rational, of, mul, neg}
+use Rattle.frac128.specs.Rationals.{Rational, of, mul, neg, absolute}
 use Rattle.frac128.proofs.Rationals.{rationals}
 use Rattle.frac128.proofs.Order.{zero_top}
 use Rattle.ip_defs.specs.Certificates.{entry as coefficient_of}
 use Rattle.ip_defs.specs.Program.{low_at, high_at}
 use Rattle.ip_defs.specs.declared.programs.Parts.{Parts}
-use Rattle.lp_duality.proofs.SignLaws.{lt_false, top_zero, over_positive}
+use Rattle.lp_duality.proofs.SignLaws.{top_zero, over_positive}
 use Rattle.tableau.specs.declared.rests.Rest.TheVariants.{Basic, Low, High}
 use Rattle.tableau.specs.Tables.{Table, basic_at, rest_at, variable_at, IsTable}
 use Rattle.tableau.specs.Nodes.{number, StandsFor, IsNought, HasItsPoints}
@@ -24,11 +24,14 @@ use Rattle.tableau.proofs.RowLaws.{same_number}
 use Rattle.tableau.proofs.TableLaws.{system_of}
 use Rattle.simplex_laws.specs.declared.next.Next.{Next}
 use Rattle.simplex_laws.specs.declared.next.Next.TheVariants.{Pivot, Flip}
-use Rattle.simplex_laws.specs.Steps.{side_towards, size_of, room_between, room, side_met, stop_at, stop, nearest}
-use Rattle.simplex_laws.proofs.ChoiceLaws.{unmapped, nearest_none}
+use Rattle.tableau.specs.Numbers.{room_between, room}
+use Rattle.simplex_laws.specs.Steps.{side_towards, side_met, stop_at, stop, nearest}
+use Rattle.simplex_laws.proofs.ChoiceLaws.{nearest_none}
 use Rattle.simplex_laws.proofs.PriceLaws.{basic_point}
 use Rattle.simplex_laws.proofs.SideLaws.{place, column_low, column_high}
 use Rattle.simplex_laws.proofs.PointLaws.{basic_place, has_place, own_place}
+use Rattle.ip_defs.proofs.OrderLaws.{not_less}
+use Rattle.ip_defs.proofs.ListLaws.{unmapped}
 
 one_apart : of (pos 1) ≢ of (pos 0)
 unfolding of
@@ -53,13 +56,13 @@ flat_entry : (T : Table) (v k : ℕ) (up : Bool) → (variable_at T.variables (b
 flat_entry T v k up low high e = by (lt_z (number T k v).top (pos 0)) (lt_z (pos 0) (number T k v).top) refl refl e
   where
     stops : (u : Bool) → stop_at T v k (side_towards u) ≢ None
-    stops true h = high (unmapped {B = Rational × Next} (λ there. (size_of (ratio_number T k v High), Pivot k v High)) (variable_at T.variables (basic_at T.basics k)).high h)
-    stops false h = low (unmapped {B = Rational × Next} (λ there. (size_of (ratio_number T k v Low), Pivot k v Low)) (variable_at T.variables (basic_at T.basics k)).low h)
+    stops true h = high (unmapped {B = Rational × Next} (λ there. (absolute (ratio_number T k v High), Pivot k v High)) (variable_at T.variables (basic_at T.basics k)).high h)
+    stops false h = low (unmapped {B = Rational × Next} (λ there. (absolute (ratio_number T k v Low), Pivot k v Low)) (variable_at T.variables (basic_at T.basics k)).low h)
 
     by : (s t : Bool) → lt_z (number T k v).top (pos 0) ≡ s → lt_z (pos 0) (number T k v).top ≡ t → option_and_then (stop_at T v k) (cond s (Some (side_towards up)) (cond t (Some (side_towards (not up))) None)) ≡ None → number T k v ≡ of (pos 0)
     by true t f g h = absurd (stops up h)
     by false true f g h = absurd (stops (not up) h)
-    by false false f g h = top_zero (number T k v) (let x = lt_false (number T k v).top (pos 0) f in let y = lt_false (pos 0) (number T k v).top g in omega (arith, ints))
+    by false false f g h = top_zero (number T k v) (let x = not_less (number T k v).top (pos 0) f in let y = not_less (pos 0) (number T k v).top g in omega (arith, ints))
 
 module _ (m : Parts) (b : List (ℤ × ℤ)) (T : Table) (table : IsTable T) (stands : StandsFor m b T) (v : ℕ) (up : Bool) (inside : v < length m.columns + length m.rows) (free : rest_at T.rests v ≢ Basic)
     (loose : (w : ℕ) → w < length m.columns + length m.rows → stop T v up w ≡ None) where

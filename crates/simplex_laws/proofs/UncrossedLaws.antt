@@ -6,14 +6,14 @@ use Rattle.std.specs.Int.Signed.{lt_z}
 use Rattle.std.proofs.Common.{arith, refl, ap, ◌∙◌}
 use Rattle.std.proofs.lemmas.Option.{get_or_from_slice_get}
 use Rattle.ip_defs.specs.Certificates.{is_empty_side}
-use Rattle.ip_defs.specs.Texts.{is_crossed}
+use Rattle.ip_defs.specs.Program.{is_crossed}
 use Rattle.ip_defs.specs.declared.programs.Row.{Row}
 use Rattle.ip_defs.specs.declared.programs.Parts.{Parts}
 use Rattle.ip_defs.proofs.BoxLaws.{open_from}
 use Rattle.ip_model.specs.Sizes.{first_crossed}
 use Rattle.lp_duality.specs.Relaxations.{IsUncrossed}
-use Rattle.lp_duality.proofs.SignLaws.{lt_false}
 use Rattle.simplex_laws.proofs.PlaceLaws.{found}
+use Rattle.ip_defs.proofs.OrderLaws.{not_less}
 
 crossed_by : (r : Row) (low high : ℤ) → r.low ≡ Some low → r.high ≡ Some high → is_crossed r ≡ lt_z high low
 crossed_by r low high p q = ap (λ o. option_map_or (λ low. option_map_or (λ high. lt_z high low) r.high false) o false) p ∙ ap (λ o. option_map_or (λ high. lt_z high low) o false) q
@@ -24,7 +24,7 @@ row_in_order rows k low high none l p q = by (slice_get rows k) refl p q
   where
     by : (o : Option Row) → slice_get rows k ≡ o → option_and_then (λ r. r.low) o ≡ Some low → option_and_then (λ r. r.high) o ≡ Some high → low ≤ℤ high
     by None e p q = absurd cc
-    by (Some r) e p q = lt_false high low (in_order (lt_z high low) refl)
+    by (Some r) e p q = not_less high low (in_order (lt_z high low) refl)
       where
         in_order : (t : Bool) → lt_z high low ≡ t → lt_z high low ≡ false
         in_order false f = f

@@ -1,40 +1,21 @@
 -- One step of the simplex for variables with sides, by the least-number rule: first a basic variable outside its sides is mended, then the
 -- cost is lowered. Each choice is the first one by number.
-use Rattle.std.specs.Prelude.{ℕ, zero, suc, ◌==◌, ◌&&◌, not, Bool, true, false, if◌then◌else◌, length, Option, Some, None, option_map, option_and_then, ℤ, pos, ◌-ℤ◌}
+use Rattle.std.specs.Prelude.{ℕ, zero, suc, ◌==◌, ◌&&◌, not, Bool, true, false, if◌then◌else◌, length, Option, Some, None, option_map, option_and_then, ℤ, pos}
 use Rattle.std.specs.List.{position}
+use Rattle.ip_defs.specs.Lists.{first}
 use Rattle.std.specs.Int.Signed.{lt_z}
-use Rattle.frac128.specs.Rationals.{Rational, of, neg}
+use Rattle.frac128.specs.Rationals.{Rational, of, neg, absolute}
 use Rattle.lp_duality.specs.Duals.{is_below}
 use Rattle.tableau.specs.declared.rests.Rest.{Rest}
 use Rattle.tableau.specs.declared.rests.Rest.TheVariants.{Basic, Low, High, Zero}
-use Rattle.tableau.specs.declared.variables.Variable.{Variable}
 use Rattle.tableau.specs.Tables.{Table, basic_at, rest_at, variable_at}
-use Rattle.tableau.specs.Numbers.{side_at}
+use Rattle.tableau.specs.Numbers.{side_at, is_fixed, room}
 use Rattle.tableau.specs.Nodes.{number}
 use Rattle.tableau.specs.Meanings.{value_number, price_number, ratio_number}
 use Rattle.simplex_laws.specs.declared.next.Next.{Next}
 use Rattle.simplex_laws.specs.declared.next.Next.TheVariants.{Pivot, Flip, FinalRow, FinalPoint}
 
--- ---- first answers
-abbrev pub or_else : {A : Type 0} → Option A → Option A → Option A
-or_else None o = o
-or_else (Some x) o = Some x
-
--- what f answers at the least number below n at which it answers
-abbrev pub first : {A : Type 0} → (ℕ → Option A) → ℕ → Option A
-first f zero = None
-first f (suc n) = or_else (first f n) (f n)
-
 -- ---- which way a variable can go
--- it has two equal sides
-abbrev pub is_fixed_between : Option ℤ → Option ℤ → Bool
-is_fixed_between (Some low) (Some high) = not (lt_z low high) && not (lt_z high low)
-is_fixed_between (Some low) None = false
-is_fixed_between None high = false
-
-abbrev pub is_fixed : Variable → Bool
-is_fixed x = is_fixed_between x.low x.high
-
 -- a variable that is not basic rests where it can rise (up), or fall
 abbrev pub rests_for : Bool → Rest → Bool
 rests_for up Basic = false
@@ -80,25 +61,13 @@ mend i up None = FinalRow i up
 mend i up (Some v) = Pivot i v (side_towards (not up))
 
 -- ---- a variable that lowers the cost
-abbrev pub size_of : Rational → Rational
-size_of p = if lt_z p.top (pos 0) then neg p else p
-
--- how far a variable can go between its own sides
-abbrev pub room_between : Option ℤ → Option ℤ → Option Rational
-room_between (Some low) (Some high) = Some (of (high -ℤ low))
-room_between (Some low) None = None
-room_between None high = None
-
-abbrev pub room : Variable → Option Rational
-room x = room_between x.low x.high
-
 -- the side towards which a basic variable moves, by its entry's sign, where v goes up or down
 abbrev pub side_met : Bool → Rational → Option Rest
 side_met up t = if lt_z t.top (pos 0) then Some (side_towards up) else if lt_z (pos 0) t.top then Some (side_towards (not up)) else None
 
 -- row i's basic variable stops v at a side, where it has that side: how far v goes until then, and the pivot
 abbrev pub stop_at : Table → ℕ → ℕ → Rest → Option (Rational × Next)
-stop_at T v i side = option_map (λ there. (size_of (ratio_number T i v side), Pivot i v side)) (side_at (variable_at T.variables (basic_at T.basics i)) side)
+stop_at T v i side = option_map (λ there. (absolute (ratio_number T i v side), Pivot i v side)) (side_at (variable_at T.variables (basic_at T.basics i)) side)
 
 -- where variable w stops v: v itself at its own other side, a basic variable at the side towards which it moves
 abbrev pub stop : Table → ℕ → Bool → ℕ → Option (Rational × Next)

@@ -1,3 +1,4 @@
+//! The laws of the simplex, each as the contract of a call.
 ghost use Rattle.simplex_laws.specs.Laws.{StepsCanBeMade, BestIsRight, BestIsLeast, EmptyIsRight, EmptyHasNoPoint, RunsStand, FinalsStay, RunsHaveBegun};
 
 /// The next step of a tableau that stands for a node can be made: its pivot is not 0, the variable that enters is not basic, the one that

@@ -1,3 +1,4 @@
+//! What is next for a tableau.
 use tableau::Rest;
 
 /// What the simplex does next at a tableau: a pivot or a flip, or the tableau is final. The least-number rule is Bland's (New finite

@@ -2,14 +2,15 @@
 use Rattle.std.specs.Prelude.{◌≡◌, ◌≢◌, ℕ, ◌<◌, ◌==◌, Bool, true, false, cond, List, [], length, Result, Ok, Err, pos}
 use Rattle.std.proofs.Common.{arith, refl, ap, ◌∙◌}
 use Rattle.frac128.specs.declared.fraction.Wide.{Wide}
-use Rattle.frac128.specs.Fractions.{Fraction, quotient_of}
+use Rattle.frac128.specs.Fractions.{Fraction, quotient_of, whole}
 use Rattle.frac128.specs.Rationals.{Rational, sub, mul, inverse}
 use Rattle.frac128.specs.Values.{value_of}
 use Rattle.frac128.proofs.Rationals.{rationals}
-use Rattle.tableau.specs.Tables.{line, entry, whole, AreRows}
+use Rattle.tableau.specs.Tables.{line, entry, AreRows}
 use Rattle.tableau.specs.Numbers.{and_then, less_product}
 use Rattle.tableau.specs.Pivots.{all_below, new_entry, new_rows}
-use Rattle.tableau.proofs.FractionLaws.{Proper, quotient-proper, quotient-value, less_product-value}
+use Rattle.frac128.proofs.FractionLaws.{IsProper}
+use Rattle.tableau.proofs.FractionLaws.{quotient-proper, quotient-value, less_product-value}
 use Rattle.tableau.proofs.ListLaws.{all_below-is}
 use Rattle.tableau.proofs.SystemLaws.{pivoted}
 
@@ -20,7 +21,7 @@ numbers rows i v = value_of (entry rows i v)
 module _ (n : ℕ) (rows : List (List Fraction)) (r v : ℕ) (are : AreRows n rows) (inside : r < length rows) (enters : v < n) (pivot : (entry rows r v).num ≢ pos 0) where
   exact : (i w : ℕ) (t : Bool) (x : Fraction) → i < length rows → w < n
       → cond t (quotient_of (entry rows r w) (entry rows r v)) (and_then (quotient_of (entry rows r w) (entry rows r v)) (less_product (entry rows i w) (entry rows i v))) ≡ Ok x
-      → Proper x × (value_of x ≡ cond t (mul (numbers rows r w) (inverse (numbers rows r v))) (sub (numbers rows i w) (mul (numbers rows i v) (mul (numbers rows r w) (inverse (numbers rows r v))))))
+      → IsProper x × (value_of x ≡ cond t (mul (numbers rows r w) (inverse (numbers rows r v))) (sub (numbers rows i w) (mul (numbers rows i v) (mul (numbers rows r w) (inverse (numbers rows r v))))))
   exact i w true x l k e = (
     quotient-proper (entry rows r w) (entry rows r v) x (are.fractions r w inside k) (are.fractions r v inside enters) pivot e,
     quotient-value (entry rows r w) (entry rows r v) x (are.fractions r w inside k) (are.fractions r v inside enters) pivot e,
@@ -28,7 +29,7 @@ module _ (n : ℕ) (rows : List (List Fraction)) (r v : ℕ) (are : AreRows n ro
   exact i w false x l k e = by (quotient_of (entry rows r w) (entry rows r v)) refl e
     where
       by : (o : Result Fraction Wide) → quotient_of (entry rows r w) (entry rows r v) ≡ o → and_then o (less_product (entry rows i w) (entry rows i v)) ≡ Ok x
-          → Proper x × (value_of x ≡ sub (numbers rows i w) (mul (numbers rows i v) (mul (numbers rows r w) (inverse (numbers rows r v)))))
+          → IsProper x × (value_of x ≡ sub (numbers rows i w) (mul (numbers rows i v) (mul (numbers rows r w) (inverse (numbers rows r v)))))
       by (Ok g) h f =
           let proper = quotient-proper (entry rows r w) (entry rows r v) g (are.fractions r w inside k) (are.fractions r v inside enters) pivot h in
           let is = quotient-value (entry rows r w) (entry rows r v) g (are.fractions r w inside k) (are.fractions r v inside enters) pivot h in

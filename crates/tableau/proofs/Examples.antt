@@ -1,11 +1,11 @@
 -- The definitions at work: least -x with 2x <= 3 and x from 0 to 4, its tableau at the start and after a pivot, and a wide pivot.
 use Rattle.std.specs.Prelude.{◌≡◌, ◌^◌, [], ◌∷◌, List, Some, None, Ok, Err, ℤ, pos, negsuc, refl}
 use Rattle.frac128.specs.Gcd.{gcd}
-use Rattle.frac128.specs.Fractions.{Fraction, lowest_of, sum_of, product_of}
+use Rattle.frac128.specs.Fractions.{Fraction, lowest_of, sum_of, product_of, whole}
 use Rattle.ip_defs.specs.declared.programs.Parts.{Parts}
 use Rattle.tableau.specs.declared.rests.Rest.TheVariants.{Basic, Low, High}
 use Rattle.tableau.specs.declared.variables.Variable.{Variable}
-use Rattle.tableau.specs.Tables.{Table, whole}
+use Rattle.tableau.specs.Tables.{Table}
 use Rattle.tableau.specs.Numbers.{value, price, ratio}
 use Rattle.tableau.specs.Pivots.{new_rows, after_pivot, after_flip}
 use Rattle.tableau.specs.Nodes.{start_of}

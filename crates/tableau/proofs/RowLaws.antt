@@ -3,11 +3,11 @@ use Rattle.std.specs.Prelude.{◌≡◌, ◌≢◌, ℕ, ◌<◌, ◌==◌, ◌&
 use Rattle.std.proofs.Common.{arith, refl, ap, sym, ◌∙◌}
 use Rattle.std.proofs.lemmas.Bool.{eqb-true, eqb-false}
 use Rattle.frac128.specs.declared.fraction.Wide.{Wide}
-use Rattle.frac128.specs.Fractions.{Fraction, quotient_of}
-use Rattle.tableau.specs.Tables.{at, line, entry, whole, is_nought, AreRows}
+use Rattle.frac128.specs.Fractions.{Fraction, quotient_of, whole}
+use Rattle.tableau.specs.Tables.{at, line, entry, is_nought, AreRows}
 use Rattle.tableau.specs.Numbers.{and_then, less_product}
 use Rattle.tableau.specs.Pivots.{all_below, new_entry, new_rows}
-use Rattle.tableau.specs.Changes.{is_changed, lessened_row, AreLessened, HasWideRow}
+use Rattle.tableau.specs.Internal.Changes.{is_changed, lessened_row, AreLessened, HasWideRow}
 use Rattle.tableau.proofs.FractionLaws.{less_nought_left, quotient-proper}
 use Rattle.tableau.proofs.ListLaws.{all_below-ok, all_below-wide, all_below-is, all_below-same}
 

@@ -5,14 +5,15 @@ use Rattle.std.proofs.Common.{arith, refl, ap, sym, ◌∙◌, subst, length-set
 use Rattle.std.proofs.lemmas.Bool.{eqb-true, eqb-false}
 use Rattle.std.proofs.lemmas.Int.{ints}
 use Rattle.std.proofs.lemmas.Grind.{get_or-set_at}
-use Rattle.std.proofs.lemmas.List.{get_or-set_other, take_more, map-append}
+use Rattle.std.proofs.lemmas.List.{get_or-set_other, take_more, map-append, length-append, length-map}
 use Rattle.std.proofs.Math.Seq.{take-length}
-use Rattle.frac128.specs.Fractions.{Fraction}
+use Rattle.frac128.specs.Fractions.{Fraction, whole}
 use Rattle.frac128.specs.Rationals.{of, neg}
 use Rattle.frac128.specs.Values.{value_of}
 use Rattle.frac128.proofs.Rationals.{rationals}
 use Rattle.frac128.proofs.Order.{of_neg}
 use Rattle.frac128.proofs.WholeLaws.{IsFraction-whole}
+use Rattle.ip_defs.proofs.OrderLaws.{lt_true, lt_false}
 use Rattle.ip_defs.specs.Program.{coefficient}
 use Rattle.ip_defs.specs.Limits.{number_at, value_at, AreOrdered, IsWithinLimits}
 use Rattle.ip_defs.specs.Certificates.{coefs_of, entry as coefficient_of}
@@ -21,9 +22,10 @@ use Rattle.ip_defs.specs.declared.programs.Parts.{Parts}
 use Rattle.ip_model.proofs.RowLaws.{coefficient_none, fresh, coefficient_more, coefficient_small}
 use Rattle.tableau.specs.declared.rests.Rest.TheVariants.{Basic, Low}
 use Rattle.tableau.specs.declared.variables.Variable.{Variable}
-use Rattle.tableau.specs.Tables.{whole, at, entry, basic_at, rest_at, IsTable}
+use Rattle.tableau.specs.Tables.{at, entry, basic_at, rest_at, IsTable}
 use Rattle.tableau.specs.Nodes.{column_variable, slack_variable, variables_of, listed, start_entry, start_of, number, RestsRight, StandsFor, HasItsPoints}
-use Rattle.tableau.proofs.FractionLaws.{Proper, whole-value}
+use Rattle.frac128.proofs.FractionLaws.{IsProper}
+use Rattle.frac128.proofs.SignLaws.{whole-value}
 use Rattle.tableau.proofs.ListLaws.{listed-at, length-listed, listed_is}
 use Rattle.tableau.proofs.SystemLaws.{start_stands}
 use Rattle.tableau.proofs.PointLaws.{start_back}
@@ -51,12 +53,6 @@ put_step numbers coefs i y l rising inside before is v k = by (number_at coefs i
 pub AreOrdered-wider : (n k : ℕ) (ps : List (ℕ × ℤ)) → n ≤ k → AreOrdered n ps → AreOrdered k ps
 AreOrdered-wider n k ps l o = record { rising = o.rising; within = λ i m. (let h = o.within i m in omega arith); present = o.present }
 
-pub is_below : (v n : ℕ) → v < n → nat_lt v n ≡ true
-is_below v n l = grind arith
-
-pub is_past : (v n : ℕ) → n ≤ v → nat_lt v n ≡ false
-is_past v n l = grind arith
-
 -- ---- the entries at the start
 module _ (m : Parts) (k : ℕ) where
   abbrev columns : ℕ
@@ -66,10 +62,10 @@ module _ (m : Parts) (k : ℕ) where
   rows = length m.rows
 
   column_entry : (v : ℕ) → v < length m.columns → start_entry m k v ≡ whole (neg_ℤ (coefficient_of m.rows k v))
-  column_entry v l = ap (λ t. cond t (whole (neg_ℤ (coefficient_of m.rows k v))) (if v == columns + k then whole (pos 1) else whole (pos 0))) (is_below v columns l)
+  column_entry v l = ap (λ t. cond t (whole (neg_ℤ (coefficient_of m.rows k v))) (if v == columns + k then whole (pos 1) else whole (pos 0))) (lt_true v columns l)
 
   past_entry : (v : ℕ) → length m.columns ≤ v → start_entry m k v ≡ (if v == length m.columns + k then whole (pos 1) else whole (pos 0))
-  past_entry v l = ap (λ t. cond t (whole (neg_ℤ (coefficient_of m.rows k v))) (if v == columns + k then whole (pos 1) else whole (pos 0))) (is_past v columns l)
+  past_entry v l = ap (λ t. cond t (whole (neg_ℤ (coefficient_of m.rows k v))) (if v == columns + k then whole (pos 1) else whole (pos 0))) (lt_false v columns l)
 
   own_entry : start_entry m k (length m.columns + k) ≡ whole (pos 1)
   own_entry = past_entry (columns + k) (omega arith) ∙ by (columns + k == columns + k) refl
@@ -118,14 +114,6 @@ length-zip [] ys e = refl
 length-zip (x ∷ xs) [] e = absurd (omega arith)
 length-zip (x ∷ xs) (y ∷ ys) e = ap suc (length-zip xs ys (omega arith))
 
-length-mapped : {A B : Type 0} (f : A → B) (xs : List A) → length (map f xs) ≡ length xs
-length-mapped f [] = refl
-length-mapped f (x ∷ xs) = ap suc (length-mapped f xs)
-
-length-joined : {A : Type 0} (xs ys : List A) → length (xs ++ ys) ≡ length xs + length ys
-length-joined [] ys = omega arith
-length-joined (x ∷ xs) ys = let e = length-joined xs ys in ap suc e ∙ omega arith
-
 -- the image of one more element
 pub map-push : {A B : Type 0} (f : A → B) (ps : List A) (i : ℕ) (d : A) (x : B) (ys zs : List B) → i < length ps → zs ≡ ys ++ x ∷ [] → ys ≡ map f (take i ps) → x ≡ f (get_or ps i d) → zs ≡ map f (take (i + 1) ps)
 map-push f ps i d x ys zs l pushed is at =
@@ -133,7 +121,7 @@ map-push f ps i d x ys zs l pushed is at =
     ∙ sym (map-append f (take i ps) (get_or ps i d ∷ [])) ∙ ap (map f) (sym (take_more ps i d l))
 
 -- ---- a tableau
-whole-proper : (z : ℤ) → unsigned_abs z ≤ 2 ^ 40 → Proper (whole z)
+whole-proper : (z : ℤ) → unsigned_abs z ≤ 2 ^ 40 → IsProper (whole z)
 whole-proper z h = IsFraction-whole z (pos 1) (omega arith) refl
 
 module _ (m : Parts) (b : List (ℤ × ℤ)) (limits : IsWithinLimits m) (size : length b ≡ length m.columns) where
@@ -147,10 +135,10 @@ module _ (m : Parts) (b : List (ℤ × ℤ)) (limits : IsWithinLimits m) (size :
           let small = coefficient_small (length m.columns) (2 ^ 40) row.coefs v (length row.coefs) shape (limits.rows k row e).coefs (omega arith) in
           subst (λ (cs : List (ℕ × ℤ)). unsigned_abs (coefficient cs v) ≤ 2 ^ 40) (take-length row.coefs) small
 
-  entry-proper : (k v : ℕ) → k < length m.rows → Proper (start_entry m k v)
+  entry-proper : (k v : ℕ) → k < length m.rows → IsProper (start_entry m k v)
   entry-proper k v l = by (nat_lt v (length m.columns)) (v == length m.columns + k)
     where
-      by : (t u : Bool) → Proper (if t then whole (neg_ℤ (coefficient_of m.rows k v)) else if u then whole (pos 1) else whole (pos 0))
+      by : (t u : Bool) → IsProper (if t then whole (neg_ℤ (coefficient_of m.rows k v)) else if u then whole (pos 1) else whole (pos 0))
       by true u = let h = coefficient_fits k v l in whole-proper (neg_ℤ (coefficient_of m.rows k v)) (omega (arith, ints))
       by false true = whole-proper (pos 1) (omega arith)
       by false false = whole-proper (pos 0) (omega arith)
@@ -162,9 +150,9 @@ module _ (m : Parts) (b : List (ℤ × ℤ)) (limits : IsWithinLimits m) (size :
 
   pub variable_count : length (variables_of m b) ≡ length m.columns + length m.rows
   variable_count =
-      let first = length-mapped column_variable (zip m.columns b) ∙ length-zip m.columns b size in
-      let second = length-mapped slack_variable m.rows in
-      length-joined (map column_variable (zip m.columns b)) (map slack_variable m.rows) ∙ omega arith
+      let first = length-map (zip m.columns b) column_variable ∙ length-zip m.columns b size in
+      let second = length-map m.rows slack_variable in
+      length-append (map column_variable (zip m.columns b)) (map slack_variable m.rows) ∙ omega arith
 
   pub start-table : IsTable (start_of m b)
   start-table =
@@ -173,7 +161,7 @@ module _ (m : Parts) (b : List (ℤ × ℤ)) (limits : IsWithinLimits m) (size :
       record {
         rows = record {
           size = λ k l. ap length (listed-at (length m.rows) (λ k. listed (length m.columns + length m.rows) (start_entry m k)) k [] (omega arith)) ∙ length-listed (length m.columns + length m.rows) (start_entry m k) ∙ sym n;
-          fractions = λ k v l o. let inside : k < length m.rows = omega arith in subst Proper (sym (entry_is k v inside (omega arith))) (entry-proper k v inside);
+          fractions = λ k v l o. let inside : k < length m.rows = omega arith in subst IsProper (sym (entry_is k v inside (omega arith))) (entry-proper k v inside);
         };
         basics = length-listed (length m.rows) (λ k. length m.columns + k) ∙ sym count;
         rests = length-listed (length m.columns + length m.rows) (λ v. if nat_lt v (length m.columns) then Low else Basic) ∙ sym n;
@@ -225,7 +213,7 @@ module _ (m : Parts) (b : List (ℤ × ℤ)) (limits : IsWithinLimits m) (size :
         one = λ i l. ap (number (start_of m b) i) (basic_is i l) ∙ number_one i l;
         nought = λ i k l o n. ap (number (start_of m b) i) (basic_is k o) ∙ number_nought i k l o n;
         combination = s.combination;
-        basic = λ i l. ap (rest_at (start_of m b).rests) (basic_is i l) ∙ rest_is (length m.columns + i) (omega arith) ∙ ap (λ t. cond t Low Basic) (is_past (length m.columns + i) (length m.columns) (omega arith));
+        basic = λ i l. ap (rest_at (start_of m b).rests) (basic_is i l) ∙ rest_is (length m.columns + i) (omega arith) ∙ ap (λ t. cond t Low Basic) (lt_false (length m.columns + i) (length m.columns) (omega arith));
         rests = λ v l. subst (RestsRight (start_of m b) v) (sym (rest_is v l)) (rest_right v (nat_lt v (length m.columns)) refl l);
       }
 

@@ -1,8 +1,6 @@
 -- What the numbers of a tableau are: its value, reduced cost and ratio as rational numbers.
 use Rattle.std.specs.Prelude.{ℕ, length}
-use Rattle.frac128.specs.Rationals.{Rational, of, sub, mul, neg, quotient}
-use Rattle.frac128.proofs.Rationals.{rationals}
-use Rattle.ring_laws.proofs.Sums.{sum}
+use Rattle.frac128.specs.Rationals.{Rational, of, sub, mul, neg, quotient, sum}
 use Rattle.tableau.specs.declared.rests.Rest.{Rest}
 use Rattle.tableau.specs.Tables.{Table, basic_at, rest_at, variable_at}
 use Rattle.tableau.specs.Numbers.{side_or_zero, side_at, resting}
@@ -14,14 +12,14 @@ resting_number T v = of (side_or_zero (resting (variable_at T.variables v) (rest
 
 -- the value of a row's basic variable: less the sum of entry times resting value
 abbrev pub value_number : Table → ℕ → Rational
-value_number T i = neg (sum rationals (λ v. mul (number T i v) (resting_number T v)) (length T.variables))
+value_number T i = neg (sum (λ v. mul (number T i v) (resting_number T v)) (length T.variables))
 
 abbrev pub cost_number : Table → ℕ → Rational
 cost_number T v = of (variable_at T.variables v).cost
 
 -- the reduced cost of a variable: its cost less the sum of entry times cost of the row's basic variable
 abbrev pub price_number : Table → ℕ → Rational
-price_number T v = sub (cost_number T v) (sum rationals (λ i. mul (number T i v) (cost_number T (basic_at T.basics i))) (length T.rows))
+price_number T v = sub (cost_number T v) (sum (λ i. mul (number T i v) (cost_number T (basic_at T.basics i))) (length T.rows))
 
 -- the value less the side, divided by the entry
 abbrev pub ratio_number : Table → ℕ → ℕ → Rest → Rational

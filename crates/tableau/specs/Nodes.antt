@@ -2,11 +2,9 @@
 -- sides of its area, and one slack for each row, with the row's sides; its equations say that each slack is its row's sum.
 use Rattle.std.specs.Prelude.{◌≡◌, ◌≢◌, ℕ, zero, suc, ◌+◌, ◌<◌, ◌==◌, if◌then◌else◌, nat_lt, List, [], ◌∷◌, ◌++◌, length, map, Some, ℤ, pos, neg_ℤ}
 use Rattle.std.specs.List.{zip}
-use Rattle.frac128.specs.Fractions.{Fraction}
-use Rattle.frac128.specs.Rationals.{Rational, of, mul, neg}
+use Rattle.frac128.specs.Fractions.{Fraction, whole}
+use Rattle.frac128.specs.Rationals.{Rational, of, mul, neg, sum}
 use Rattle.frac128.specs.Values.{value_of}
-use Rattle.frac128.proofs.Rationals.{rationals}
-use Rattle.ring_laws.proofs.Sums.{sum}
 use Rattle.ip_defs.specs.declared.programs.Column.{Column}
 use Rattle.ip_defs.specs.declared.programs.Row.{Row}
 use Rattle.ip_defs.specs.declared.programs.Parts.{Parts}
@@ -14,7 +12,7 @@ use Rattle.ip_defs.specs.Certificates.{entry as coefficient_of}
 use Rattle.tableau.specs.declared.rests.Rest.{Rest}
 use Rattle.tableau.specs.declared.rests.Rest.TheVariants.{Basic, Low, High, Zero}
 use Rattle.tableau.specs.declared.variables.Variable.{Variable}
-use Rattle.tableau.specs.Tables.{Table, whole, entry, basic_at, rest_at, variable_at, CanRest}
+use Rattle.tableau.specs.Tables.{Table, entry, basic_at, rest_at, variable_at, CanRest}
 
 -- ---- the variables of a node
 abbrev pub column_variable : Column × (ℤ × ℤ) → Variable
@@ -73,17 +71,17 @@ pub record StandsFor (m : Parts) (b : List (ℤ × ℤ)) (T : Table) : Type 0 wh
   pub different : (i k : ℕ) → i < length m.rows → k < length m.rows → basic_at T.basics i ≡ basic_at T.basics k → i ≡ k
   pub one : (i : ℕ) → i < length m.rows → number T i (basic_at T.basics i) ≡ of (pos 1)
   pub nought : (i k : ℕ) → i < length m.rows → k < length m.rows → i ≢ k → number T i (basic_at T.basics k) ≡ of (pos 0)
-  pub combination : (i j : ℕ) → i < length m.rows → j < length m.columns → number T i j ≡ neg (sum rationals (λ k. mul (number T i (length m.columns + k)) (of (coefficient_of m.rows k j))) (length m.rows))
+  pub combination : (i j : ℕ) → i < length m.rows → j < length m.columns → number T i j ≡ neg (sum (λ k. mul (number T i (length m.columns + k)) (of (coefficient_of m.rows k j))) (length m.rows))
   pub basic : (i : ℕ) → i < length m.rows → rest_at T.rests (basic_at T.basics i) ≡ Basic
   pub rests : (v : ℕ) → v < length m.columns + length m.rows → RestsRight T v (rest_at T.rests v)
 
 -- each row of the tableau is 0 at a point
 abbrev pub IsNought : Parts → Table → (ℕ → Rational) → Type 0
-IsNought m T x = (i : ℕ) → i < length m.rows → sum rationals (λ v. mul (number T i v) (x v)) (length m.columns + length m.rows) ≡ of (pos 0)
+IsNought m T x = (i : ℕ) → i < length m.rows → sum (λ v. mul (number T i v) (x v)) (length m.columns + length m.rows) ≡ of (pos 0)
 
 -- a point meets the node's equations: each slack is its row's sum
 abbrev pub MeetsEquations : Parts → (ℕ → Rational) → Type 0
-MeetsEquations m x = (k : ℕ) → k < length m.rows → x (length m.columns + k) ≡ sum rationals (λ j. mul (of (coefficient_of m.rows k j)) (x j)) (length m.columns)
+MeetsEquations m x = (k : ℕ) → k < length m.rows → x (length m.columns + k) ≡ sum (λ j. mul (of (coefficient_of m.rows k j)) (x j)) (length m.columns)
 
 -- only points that meet the node's equations make each row of the tableau 0
 abbrev pub HasItsPoints : Parts → Table → Type 0

@@ -1,12 +1,14 @@
 -- The numbers of a tableau: the value of a row's basic variable, the reduced cost of a variable, and how far a variable can go. Each
 -- is made by steps in a named order, and is wide exactly where one of them is.
-use Rattle.std.specs.Prelude.{ℕ, zero, suc, length, Option, Some, None, Result, Ok, Err, ℤ, pos}
+use Rattle.std.specs.Prelude.{ℕ, zero, suc, ◌&&◌, not, Bool, false, length, Option, Some, None, Result, Ok, Err, ℤ, pos, ◌-ℤ◌}
+use Rattle.std.specs.Int.Signed.{lt_z}
 use Rattle.frac128.specs.declared.fraction.Wide.{Wide}
-use Rattle.frac128.specs.Fractions.{Fraction, product_of, difference_of, quotient_of}
+use Rattle.frac128.specs.Fractions.{Fraction, product_of, difference_of, quotient_of, whole}
+use Rattle.frac128.specs.Rationals.{Rational, of}
 use Rattle.tableau.specs.declared.rests.Rest.{Rest}
 use Rattle.tableau.specs.declared.rests.Rest.TheVariants.{Basic, Low, High, Zero}
 use Rattle.tableau.specs.declared.variables.Variable.{Variable}
-use Rattle.tableau.specs.Tables.{Table, whole, entry, basic_at, rest_at, variable_at}
+use Rattle.tableau.specs.Tables.{Table, entry, basic_at, rest_at, variable_at}
 
 -- a step on what is not wide
 abbrev pub and_then : {A B : Type 0} → Result A Wide → (A → Result B Wide) → Result B Wide
@@ -62,3 +64,22 @@ side_at x Zero = None
 abbrev pub ratio : Table → ℕ → ℕ → Rest → Result Fraction Wide
 ratio T i v side =
     and_then (value T i) (λ x. and_then (difference_of x (whole (side_or_zero (side_at (variable_at T.variables (basic_at T.basics i)) side)))) (λ way. quotient_of way (entry T.rows i v)))
+
+-- ---- both sides of a variable
+-- it has two equal sides
+abbrev pub is_fixed_between : Option ℤ → Option ℤ → Bool
+is_fixed_between (Some low) (Some high) = not (lt_z low high) && not (lt_z high low)
+is_fixed_between (Some low) None = false
+is_fixed_between None high = false
+
+abbrev pub is_fixed : Variable → Bool
+is_fixed x = is_fixed_between x.low x.high
+
+-- how far it can go between its sides
+abbrev pub room_between : Option ℤ → Option ℤ → Option Rational
+room_between (Some low) (Some high) = Some (of (high -ℤ low))
+room_between (Some low) None = None
+room_between None high = None
+
+abbrev pub room : Variable → Option Rational
+room x = room_between x.low x.high

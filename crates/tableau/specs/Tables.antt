@@ -1,6 +1,6 @@
 -- Tableaus as plain data: rows of fractions, a basic variable for each row, where each variable rests, and the variables of the node.
-use Rattle.std.specs.Prelude.{◌≡◌, ◌≢◌, ℕ, ◌<◌, ◌==◌, Bool, List, [], length, None, slice_index_or, ℤ, pos, unsigned_abs}
-use Rattle.frac128.specs.Fractions.{Fraction, IsFraction}
+use Rattle.std.specs.Prelude.{◌≡◌, ◌≢◌, ℕ, ◌<◌, ◌==◌, Bool, List, [], length, None, slice_index_or, pos, unsigned_abs}
+use Rattle.frac128.specs.Fractions.{Fraction, IsFraction, whole}
 use Rattle.tableau.specs.declared.rests.Rest.{Rest}
 use Rattle.tableau.specs.declared.rests.Rest.TheVariants.{Basic, Low, High, Zero}
 use Rattle.tableau.specs.declared.variables.Variable.{Variable}
@@ -11,10 +11,6 @@ pub record Table : Type 0 where
   pub basics : List ℕ
   pub rests : List Rest
   pub variables : List Variable
-
--- a whole number as a fraction
-abbrev pub whole : ℤ → Fraction
-whole z = record { num = z; den = pos 1 }
 
 -- a number of a row by its variable, 0 past its end
 abbrev pub at : List Fraction → ℕ → Fraction

@@ -1,11 +1,12 @@
+//! Steps on fractions: a test for 0, and a number less a product.
 ghost use Rattle.std.specs.Prelude.{◌≡◌, IfOk, Ok};
 ghost use Rattle.frac128.specs.Fractions.{IsFraction};
-ghost use Rattle.frac128.specs.Rationals.{of, sub as less, mul as times};
+ghost use Rattle.frac128.specs.Rationals.{sub as less, mul as times};
 ghost use Rattle.frac128.specs.Values.{value_of};
-ghost use Rattle.tableau.specs.Tables.{is_nought, whole as whole_of};
+ghost use Rattle.tableau.specs.Tables.{is_nought};
 ghost use Rattle.tableau.specs.Numbers.{less_product};
 
-use frac128::{Frac, Wide, frac, mul, sub};
+use frac128::{Frac, Wide, mul, sub};
 
 /// Whether a fraction is 0.
 #[inline]
@@ -14,15 +15,6 @@ pub fn is_zero(x: Frac) -> bool
     ensures fraction { IsFraction x.num x.den }
 {
     x.num() == 0
-}
-
-/// A whole number as a fraction.
-#[inline]
-pub fn whole(z: i64) -> Frac
-    ensures exact { result ≡ whole_of z }
-    ensures value { value_of result ≡ of z }
-{
-    frac(i128::from(z), 1)
 }
 
 /// A fraction less the product of two. A factor of 0 leaves it alone.

@@ -22,4 +22,4 @@ pub use rests::Rest;
 pub use starts::start;
 pub use steps::Steps;
 pub use tables::Tableau;
-pub use variables::Variable;
+pub use variables::{Variable, present_side};

@@ -1,3 +1,4 @@
+//! A line of a tableau: fractions by the number of their variable.
 ghost use Rattle.std.specs.Prelude.{◌≡◌, ◌<◌, length, slice_set};
 ghost use Rattle.tableau.specs.Tables.{at};
 

@@ -1,39 +1,15 @@
+//! The numbers of a tableau: the value of a row's basic variable, and the reduced cost of a variable.
 ghost use Rattle.std.specs.Prelude.{◌≡◌, ◌<◌, ℕ, IfOk, length, pos};
-ghost use Rattle.frac128.specs.Rationals.{of, sub as less, mul as times, neg};
+ghost use Rattle.frac128.specs.Rationals.{of, sub as less, mul as times, neg, sum};
 ghost use Rattle.frac128.specs.Values.{value_of};
-ghost use Rattle.frac128.proofs.Rationals.{rationals};
-ghost use Rattle.ring_laws.proofs.Sums.{sum};
-ghost use Rattle.tableau.specs.Tables.{at, line, entry, basic_at, rest_at, variable_at, whole as whole_of};
-ghost use Rattle.tableau.specs.Numbers.{after_steps, less_product, less_resting, resting, side_or_zero, side_at};
+ghost use Rattle.frac128.specs.Fractions.{whole as whole_of};
+ghost use Rattle.tableau.specs.Tables.{at, line, entry, basic_at, rest_at, variable_at};
+ghost use Rattle.tableau.specs.Numbers.{after_steps, less_product, less_resting, resting, side_or_zero};
 
-use crate::fractions::{lessened, whole};
+use crate::fractions::lessened;
 use crate::lines::Line;
 use crate::{Rest, Variable};
 use frac128::{Frac, Wide};
-
-/// A side, 0 where it is absent.
-#[inline]
-fn present_side(side: Option<i64>) -> i64
-    ensures { result ≡ side_or_zero side }
-{
-    match side {
-        Some(side) => side,
-        None => 0,
-    }
-}
-
-/// The value at which a variable rests, none for a basic one.
-#[inline]
-fn resting_value(variable: Variable, rest: Rest) -> Option<i64>
-    ensures { result ≡ resting variable rest }
-{
-    match rest {
-        Rest::Basic => None,
-        Rest::Low => Some(present_side(variable.low)),
-        Rest::High => Some(present_side(variable.high)),
-        Rest::Zero => Some(0),
-    }
-}
 
 /// A number less an entry times the value at which its variable rests, where it is not basic.
 #[inline]
@@ -42,7 +18,7 @@ fn less_rest(x: Frac, entry: Frac, resting: Option<i64>) -> Result<Frac, Wide>
     ensures value { IfOk result (λ r. value_of r ≡ less (value_of x) (times (value_of entry) (of (side_or_zero resting)))) }
 {
     match resting {
-        Some(value) => lessened(x, entry, whole(value)),
+        Some(value) => lessened(x, entry, Frac::from_whole(value)),
         None => Ok(x),
     }
 }
@@ -52,11 +28,11 @@ pub fn row_value(line: &[Frac], rests: &[Rest], variables: &[Variable]) -> Resul
     requires rests { length rests.now ≡ length line.now }
     requires variables { length variables.now ≡ length line.now }
     ensures exact { result ≡ after_steps (λ v x. less_resting x (at line.now v) (resting (variable_at variables.now v) (rest_at rests.now v))) (whole_of (pos 0)) (length line.now) }
-    ensures number { IfOk result (λ x. value_of x ≡ neg (sum rationals (λ v. times (value_of (at line.now v)) (of (side_or_zero (resting (variable_at variables.now v) (rest_at rests.now v))))) (length line.now))) }
+    ensures number { IfOk result (λ x. value_of x ≡ neg (sum (λ v. times (value_of (at line.now v)) (of (side_or_zero (resting (variable_at variables.now v) (rest_at rests.now v))))) (length line.now))) }
 {
-    let mut value = whole(0);
+    let mut value = Frac::from_whole(0);
     for v in 0..line.len() {
-        match less_rest(value, line[v], resting_value(variables[v], rests[v])) {
+        match less_rest(value, line[v], variables[v].resting_value(rests[v])) {
             Ok(less) => value = less,
             Err(Wide) => return Err(Wide),
         }
@@ -76,29 +52,16 @@ pub fn column_price(
     requires sizes { (i : ℕ) → i < length rows.now → var < length (line rows.now i) }
     requires variable { var < length variables.now }
     ensures exact { result ≡ after_steps (λ i x. less_product x (entry rows.now i var) (whole_of (variable_at variables.now (basic_at basics.now i)).cost)) (whole_of (variable_at variables.now var).cost) (length rows.now) }
-    ensures number { IfOk result (λ x. value_of x ≡ less (of (variable_at variables.now var).cost) (sum rationals (λ i. times (value_of (entry rows.now i var)) (of (variable_at variables.now (basic_at basics.now i)).cost)) (length rows.now))) }
+    ensures number { IfOk result (λ x. value_of x ≡ less (of (variable_at variables.now var).cost) (sum (λ i. times (value_of (entry rows.now i var)) (of (variable_at variables.now (basic_at basics.now i)).cost)) (length rows.now))) }
 {
-    let mut price = whole(variables[var].cost);
+    let mut price = Frac::from_whole(variables[var].cost);
     for i in 0..rows.len() {
         let basic = basics[i] as usize;
         let line = &rows[i];
-        match lessened(price, line.at(var), whole(variables[basic].cost)) {
+        match lessened(price, line.at(var), Frac::from_whole(variables[basic].cost)) {
             Ok(less) => price = less,
             Err(Wide) => return Err(Wide),
         }
     }
     Ok(price)
-}
-
-/// The side of a variable that a rest names, as a fraction; 0 where there is none.
-#[inline]
-pub fn named_side(variable: Variable, side: Rest) -> Frac
-    ensures exact { result ≡ whole_of (side_or_zero (side_at variable side)) }
-    ensures value { value_of result ≡ of (side_or_zero (side_at variable side)) }
-{
-    match side {
-        Rest::Low => whole(present_side(variable.low)),
-        Rest::High => whole(present_side(variable.high)),
-        Rest::Basic | Rest::Zero => whole(0),
-    }
 }

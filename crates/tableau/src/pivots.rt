@@ -1,8 +1,9 @@
+//! The rows after a pivot, made one by one in spare lines.
 ghost use Rattle.std.specs.Prelude.{◌≡◌, ◌≢◌, ◌<◌, ◌==◌, ◌&&◌, not, ℕ, if◌then◌else◌, length, OnOk, OnErr, Ok, Err, pos};
 ghost use Rattle.frac128.specs.Fractions.{quotient_of};
 ghost use Rattle.tableau.specs.Tables.{at, line as line_of, entry, is_nought, AreRows, IsRoom};
 ghost use Rattle.tableau.specs.Pivots.{all_below, new_rows};
-ghost use Rattle.tableau.specs.Changes.{is_changed, lessened_row, AreLessened, HasWideRow};
+ghost use Rattle.tableau.specs.Internal.Changes.{is_changed, lessened_row, AreLessened, HasWideRow};
 
 use crate::fractions::{is_zero, lessened};
 use crate::lines::Line;

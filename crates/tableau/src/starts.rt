@@ -1,13 +1,15 @@
+//! The tableau of a node at the start.
 ghost use Rattle.std.specs.Prelude.{◌≡◌, ◌<◌, ◌+◌, ◌^◌, ◌≤◌, ℕ, length, IfOk, if◌then◌else◌, nat_lt, pos, neg_ℤ};
 ghost use Rattle.ip_defs.specs.Program.{coefficient};
 ghost use Rattle.ip_defs.specs.Limits.{AreOrdered, AreSmall, IsWithinLimits};
 ghost use Rattle.tableau.specs.declared.rests.Rest.TheVariants.{Basic, Low};
-ghost use Rattle.tableau.specs.Tables.{at, line as line_of, whole as whole_of, IsTable};
+ghost use Rattle.frac128.specs.Fractions.{whole as whole_of};
+ghost use Rattle.tableau.specs.Tables.{at, line as line_of, IsTable};
 ghost use Rattle.tableau.specs.Nodes.{variables_of, listed, start_entry, start_of, StandsFor, HasItsPoints};
 
-use crate::fractions::whole;
 use crate::lines::Line;
 use crate::{Rest, Tableau, Variable};
+use frac128::Frac;
 use ip_defs::{Area, Memory, Parts};
 use ip_model::IntModel;
 use std::alloc::Global;
@@ -46,7 +48,7 @@ fn zero_line(alloc: Global, all: usize) -> Result<Line, Memory>
     ensures size { IfOk result (λ l. length l ≡ all) }
     ensures zeros { IfOk result (λ l. (v : ℕ) → v < all → at l v ≡ whole_of (pos 0)) }
 {
-    Ok(Line::new(vec![in alloc; whole(0); all]?))
+    Ok(Line::new(vec![in alloc; Frac::from_whole(0); all]?))
 }
 
 /// So many lines of so many zeros.
@@ -70,7 +72,7 @@ fn put_coefs(line: &mut Line, coefs: &[(u32, i64)])
     ensures numbers { (v : ℕ) → v < length line.old → at line.new v ≡ whole_of (neg_ℤ (coefficient coefs.now v)) }
 {
     for (column, coefficient) in coefs {
-        line.set(*column as usize, whole(-*coefficient));
+        line.set(*column as usize, Frac::from_whole(-*coefficient));
     }
 }
 
@@ -85,7 +87,7 @@ fn start_line(alloc: Global, parts: &Parts, k: usize) -> Result<Line, Memory>
     let mut line = zero_line(alloc, columns + rows.len())?;
     let row = &rows[k];
     put_coefs(&mut line, row.coefs.as_slice());
-    line.set(columns + k, whole(1));
+    line.set(columns + k, Frac::from_whole(1));
     Ok(line)
 }
 

@@ -1,3 +1,4 @@
+//! The tableau, with its pivots, flips and numbers.
 ghost use Rattle.std.specs.Prelude.{◌≡◌, ◌≢◌, ◌<◌, ◌+◌, ◌↔◌, IsTrue, IfOk, List, length, OnOk, OnErr, Ok, Err, None, pos, ℤ};
 ghost use Rattle.ip_defs.specs.declared.programs.Parts.{Parts};
 ghost use Rattle.tableau.specs.declared.rests.Rest.TheVariants.{Basic};
@@ -9,9 +10,9 @@ ghost use Rattle.tableau.specs.Meanings.{value_number, price_number, ratio_numbe
 ghost use Rattle.frac128.specs.Values.{value_of};
 
 use crate::lines::Line;
-use crate::numbers::{column_price, named_side, row_value};
+use crate::numbers::{column_price, row_value};
 use crate::pivots::pivot_rows;
-use crate::variables::can_rest_at;
+use crate::variables::present_side;
 use crate::{Rest, Steps, Variable};
 use frac128::{Frac, Wide, div, sub};
 use std::marker::Model;
@@ -76,7 +77,7 @@ impl Tableau {
         requires { var < length self.now.variables }
         ensures { IsTrue result ↔ CanRest (variable_at self.now.variables var) rest }
     {
-        can_rest_at(self.variables[var as usize], rest)
+        self.variables[var as usize].can_rest(rest)
     }
 
     /// A variable: its sides and its cost.
@@ -246,7 +247,8 @@ impl Tableau {
             Err(Wide) => return Err(Wide),
         };
         let basic = self.basics[row as usize];
-        match sub(value, named_side(self.variables[basic as usize], side)) {
+        let end = present_side(self.variables[basic as usize].side(side));
+        match sub(value, Frac::from_whole(end)) {
             Ok(way) => div(way, self.entry(row, var)),
             Err(Wide) => Err(Wide),
         }

@@ -1,3 +1,4 @@
+//! Tableaus that are worked by hand.
 ghost use Rattle.std.specs.Prelude.{◌≡◌, ◌<◌};
 
 use crate::{Rest, Steps, Tableau, start};

@@ -1,7 +1,11 @@
-ghost use Rattle.std.specs.Prelude.{◌↔◌, IsTrue};
+//! A variable of a node: where it can rest, and what its sides are.
+ghost use Rattle.std.specs.Prelude.{◌≡◌, ◌↔◌, IsTrue, option_map};
+ghost use Rattle.frac128.specs.Values.{value_of};
+ghost use Rattle.tableau.specs.Numbers.{is_fixed as is_fixed_variable, resting, room as room_of, side_at, side_or_zero};
 ghost use Rattle.tableau.specs.Tables.{CanRest};
 
 use crate::Rest;
+use frac128::{Frac, frac};
 
 /// A variable of a node: the sides that it has, and its cost, which is 0 for a slack.
 #[derive(Clone, Copy, Debug, PartialEq, Eq)]
@@ -11,15 +15,74 @@ pub struct Variable {
     pub cost: i64,
 }
 
-/// Whether a variable that is not basic can rest so: at a side that it has, or at 0 where it has none.
+/// A side, 0 where it is absent.
 #[inline]
-pub(crate) fn can_rest_at(variable: Variable, rest: Rest) -> bool
-    ensures { IsTrue result ↔ CanRest variable rest }
+pub fn present_side(side: Option<i64>) -> i64
+    ensures { result ≡ side_or_zero side }
 {
-    match rest {
-        Rest::Basic => false,
-        Rest::Low => variable.low.is_some(),
-        Rest::High => variable.high.is_some(),
-        Rest::Zero => variable.low.is_none() && variable.high.is_none(),
+    match side {
+        Some(side) => side,
+        None => 0,
+    }
+}
+
+impl Variable {
+    /// The side that a rest names, where the variable has it.
+    #[inline]
+    pub fn side(self, rest: Rest) -> Option<i64>
+        ensures { result ≡ side_at self rest }
+    {
+        match rest {
+            Rest::Low => self.low,
+            Rest::High => self.high,
+            Rest::Basic | Rest::Zero => None,
+        }
+    }
+
+    /// The value at which the variable rests, none for a basic one.
+    #[inline]
+    pub fn resting_value(self, rest: Rest) -> Option<i64>
+        ensures { result ≡ resting self rest }
+    {
+        match rest {
+            Rest::Basic => None,
+            Rest::Low => Some(present_side(self.low)),
+            Rest::High => Some(present_side(self.high)),
+            Rest::Zero => Some(0),
+        }
+    }
+
+    /// Whether the variable has two equal sides.
+    #[inline]
+    pub fn is_fixed(self) -> bool
+        ensures { result ≡ is_fixed_variable self }
+    {
+        match (self.low, self.high) {
+            (Some(low), Some(high)) => low == high,
+            _ => false,
+        }
+    }
+
+    /// How far the variable can go between its sides, where it has both.
+    pub fn room(self) -> Option<Frac>
+        ensures { option_map value_of result ≡ room_of self }
+    {
+        match (self.low, self.high) {
+            (Some(low), Some(high)) => Some(frac(i128::from(high) - i128::from(low), 1)),
+            _ => None,
+        }
+    }
+
+    /// Whether the variable, where it is not basic, can rest so: at a side that it has, or at 0 where it has none.
+    #[inline]
+    pub(crate) fn can_rest(self, rest: Rest) -> bool
+        ensures { IsTrue result ↔ CanRest self rest }
+    {
+        match rest {
+            Rest::Basic => false,
+            Rest::Low => self.low.is_some(),
+            Rest::High => self.high.is_some(),
+            Rest::Zero => self.low.is_none() && self.high.is_none(),
+        }
     }
 }

@@ -5,24 +5,28 @@ use Rattle.std.specs.Option.{option_map_or, ForSome}
 use Rattle.std.specs.Int.RustNames.{unsigned_abs}
 use Rattle.std.specs.Ordering.{int_eq}
 use Rattle.std.proofs.Common.{refl, arith, ap, sym, ◌∙◌, subst}
-use Rattle.std.proofs.lemmas.Bool.{ne_eqb, eqb-true, eqb-false}
+use Rattle.std.proofs.lemmas.Bool.{ne_eqb, eqb-true, eqb-false, not-false}
 use Rattle.std.proofs.lemmas.Int.{ints}
 use Rattle.decimals.proofs.NumberLaws.{zero_reached}
-use Rattle.ip_defs.specs.Lists.{is_among, when}
-use Rattle.ip_defs.specs.Numbers.{decimal_text, least_decimals, decimals_of}
-use Rattle.ip_defs.specs.Texts.{Written, triple, coef_line, column_block, right_side, constant_line, value_text}
-use Rattle.ip_defs.specs.TextModels.{number_at, largest}
+use Rattle.mps_defs.specs.Lists.{is_among, AreDistinct}
+use Rattle.ip_defs.specs.Lists.{when, Each}
+use Rattle.mps_defs.specs.Numbers.{decimal_text, least_decimals, decimals_of}
+use Rattle.mps_defs.specs.CanonicalText.{Written, triple, coef_line, column_block, right_side, constant_line, value_text, side_line, width_line}
+use Rattle.mps_defs.specs.TextModels.{largest, number_or_zero}
 use Rattle.ip_defs.specs.declared.programs.Column.{Column}
 use Rattle.ip_defs.specs.declared.programs.Row.{Row}
 use Rattle.ip_defs.specs.declared.programs.Parts.{Parts}
-use Rattle.text_laws.specs.ReadBack.{AreDistinct, needed_decimals, range_of}
-use Rattle.text_laws.proofs.ListLaws.{Each}
+use Rattle.text_laws.specs.ReadBack.{needed_decimals, range_of}
 use Rattle.text_laws.proofs.NumberTextLaws.{decimal_text_decimals}
 use Rattle.text_laws.proofs.ReadableLaws.{IsRowText, IsColumnText, width_small}
-use Rattle.text_laws.proofs.EntryReadLaws.{bytes_same, Told, tells, told_decimals, decimals_append, tells_append}
-use Rattle.text_laws.proofs.CoefReadLaws.{told_from, block_told, coef_told, not_at, named_at}
-use Rattle.text_laws.proofs.OrderReadLaws.{IsFrom}
+use Rattle.text_laws.proofs.EntryReadLaws.{Told, tells, told_decimals, decimals_append, tells_append}
+use Rattle.text_laws.proofs.CoefReadLaws.{told_from, block_told, coef_told}
+use Rattle.text_laws.proofs.OrderReadLaws.{IsFrom, find_above}
 use Rattle.text_laws.proofs.SideReadLaws.{AreOfRow, none_of, own_of, rhs_told, range_told}
+use Rattle.ip_defs.proofs.TextLaws.{text_self}
+use Rattle.mps_defs.proofs.PlaceLaws.{not_at}
+use Rattle.mps_defs.proofs.ListLaws.{get_map}
+use Rattle.std.proofs.lemmas.Bool.Decides.{Decides-int_eq}
 
 pub flat_flat : (f : Row → List Written) (rs : List Row) → flat_map tells (flat_map f rs) ≡ flat_map (λ r. flat_map tells (f r)) rs
 flat_flat f [] = refl
@@ -31,7 +35,7 @@ flat_flat f (r ∷ rs) = tells_append (f r) (flat_map f rs) ∙ ap (λ k. flat_m
 -- ---- coefficients
 
 abbrev said_decimals : ℕ → ℤ → ℕ
-said_decimals k z = decimals_of (number_at (decimal_text z k))
+said_decimals k z = decimals_of (number_or_zero (decimal_text z k))
 
 abbrev place_decimals : ℕ → Option (ℕ × ℤ) → List ℕ
 place_decimals k o = option_map_or (λ (p : ℕ × ℤ). said_decimals k p.1 ∷ []) o []
@@ -39,22 +43,29 @@ place_decimals k o = option_map_or (λ (p : ℕ × ℤ). said_decimals k p.1 ∷
 coef_own : (j : ℕ) (name : List ℕ) (r : Row) → AreOfRow r.name (flat_map tells (coef_line j name r))
 coef_own j name r = by (find (λ p. p.0 == j) r.coefs)
   where
-    by : (o : Option (ℕ × ℤ)) → AreOfRow r.name (flat_map tells (option_map_or (λ p. triple name r.name (decimal_text p.1 r.decimals) ∷ []) o []))
+    by : (o : Option (ℕ × ℤ))
+        → AreOfRow r.name (flat_map tells (option_map_or (λ p. triple name r.name (decimal_text p.1 r.decimals) ∷ []) o []))
     by None = tt
     by (Some p) = (refl, tt)
 
-coef_one : (j : ℕ) (name : List ℕ) (r : Row) → told_decimals (flat_map tells (coef_line j name r)) r.name ≡ place_decimals r.decimals (find (λ p. p.0 == j) r.coefs)
+coef_one : (j : ℕ) (name : List ℕ) (r : Row)
+    → told_decimals (flat_map tells (coef_line j name r)) r.name ≡ place_decimals r.decimals (find (λ p. p.0 == j) r.coefs)
 coef_one j name r = by (find (λ p. p.0 == j) r.coefs)
   where
-    by : (o : Option (ℕ × ℤ)) → told_decimals (flat_map tells (option_map_or (λ p. triple name r.name (decimal_text p.1 r.decimals) ∷ []) o [])) r.name ≡ place_decimals r.decimals o
+    by : (o : Option (ℕ × ℤ))
+        → told_decimals (flat_map tells (option_map_or (λ p. triple name r.name (decimal_text p.1 r.decimals) ∷ []) o [])) r.name
+        ≡ place_decimals r.decimals o
     by None = refl
-    by (Some p) = ap (λ t. map (λ (k : Told). decimals_of (number_at k.text)) (cond t (record { owner = name; row = r.name; text = decimal_text p.1 r.decimals } ∷ []) [])) (bytes_same r.name)
+    by (Some p) =
+        ap (λ t. map (λ (k : Told). decimals_of (number_or_zero k.text))
+        (cond t (record { owner = name; row = r.name; text = decimal_text p.1 r.decimals } ∷ []) [])) (text_self r.name)
 
 abbrev places_from : ℕ → List (ℕ × ℤ) → ℕ → ℕ → List ℕ
 places_from k ps j zero = []
 places_from k ps j (suc n) = place_decimals k (find (λ p. p.0 == j) ps) ++ places_from k ps (suc j) n
 
-row_places : (m : Parts) (i : ℕ) (r : Row) → AreDistinct (m.objective ∷ map (λ k. k.name) m.rows) → slice_get m.rows i ≡ Some r → (j : ℕ) (cs : List Column)
+row_places : (m : Parts) (i : ℕ) (r : Row) → AreDistinct (m.objective ∷ map (λ k. k.name) m.rows) → slice_get m.rows i ≡ Some r
+    → (j : ℕ) (cs : List Column)
     → told_decimals (told_from m j cs) r.name ≡ places_from r.decimals r.coefs j (length cs)
 row_places m i r d at j [] = refl
 row_places m i r d at j (c ∷ cs) =
@@ -63,7 +74,7 @@ row_places m i r d at j (c ∷ cs) =
     ∙ decimals_append (block_told m j c) (told_from m (j + 1) cs) r.name
     ∙ ap (λ (n : ℕ). told_decimals (block_told m j c) r.name ++ told_decimals (told_from m n cs) r.name) next
     ∙ ap (λ l. l ++ told_decimals (told_from m (suc j) cs) r.name)
-    (ap (λ t. map (λ (k : Told). decimals_of (number_at k.text)) (cond t (record { owner = c.name; row = m.objective; text = value_text m c.cost } ∷ filter (λ k. bytes_eq k.row r.name) (coef_told j c.name m.rows)) (filter (λ k. bytes_eq k.row r.name) (coef_told j c.name m.rows)))) (not_at m.objective (map (λ k. k.name) m.rows) i r.name d.0 (named_at (λ k. k.name) m.rows i r at))
+    (ap (λ t. map (λ (k : Told). decimals_of (number_or_zero k.text)) (cond t (record { owner = c.name; row = m.objective; text = value_text m c.cost } ∷ filter (λ k. bytes_eq k.row r.name) (coef_told j c.name m.rows)) (filter (λ k. bytes_eq k.row r.name) (coef_told j c.name m.rows)))) (not_at m.objective (map (λ k. k.name) m.rows) i r.name d.0 (get_map (λ k. k.name) m.rows i r at))
     ∙ ap (λ ts. told_decimals ts r.name) (flat_flat (coef_line j c.name) m.rows)
     ∙ (own_of (λ k. flat_map tells (coef_line j c.name k)) (coef_own j c.name) m.rows i r d.1 at).1
     ∙ coef_one j c.name r)
@@ -72,14 +83,9 @@ row_places m i r d at j (c ∷ cs) =
 skip_place : (k : ℕ) (p : ℕ × ℤ) (ps : List (ℕ × ℤ)) (j n : ℕ) → p.0 < j → places_from k (p ∷ ps) j n ≡ places_from k ps j n
 skip_place k p ps j zero l = refl
 skip_place k p ps j (suc n) l =
-    ap (λ t. place_decimals k (cond t (Some p) (find (λ q. q.0 == j) ps)) ++ places_from k (p ∷ ps) (suc j) n) (ne_eqb p.0 j (λ e. omega arith))
+    ap (λ t. place_decimals k (cond t (Some p) (find (λ q. q.0 == j) ps)) ++ places_from k (p ∷ ps) (suc j) n)
+    (ne_eqb p.0 j (λ e. omega arith))
     ∙ ap (λ s. place_decimals k (find (λ q. q.0 == j) ps) ++ s) (skip_place k p ps (suc j) n (omega arith))
-
-none_above : (j lo hi : ℕ) (ps : List (ℕ × ℤ)) → IsFrom lo hi ps → j < lo → find (λ p. p.0 == j) ps ≡ None
-none_above j lo hi [] h l = refl
-none_above j lo hi (p ∷ ps) h l =
-    let low = h.0.0 in
-    ap (λ t. cond t (Some p) (find (λ q. q.0 == j) ps)) (ne_eqb p.0 j (λ e. omega arith)) ∙ none_above j (suc p.0) hi ps h.2 (omega arith)
 
 all_places : (k j n : ℕ) (ps : List (ℕ × ℤ)) → k ≤ 9 → IsFrom j (j + n) ps → places_from k ps j n ≡ map (λ p. needed_decimals k p.1) ps
 all_places k j zero [] most f = refl
@@ -87,7 +93,8 @@ all_places k j zero (p ∷ ps) most f = absurd (let a = f.0.0 in let b = f.0.1 i
 all_places k j (suc n) [] most f = all_places k (suc j) n [] most tt
 all_places k j (suc n) (p ∷ ps) most f = by (p.0 == j) refl
     (λ same. all_places k (suc j) n ps most (tail same))
-    (λ apart. all_places k (suc j) n (p ∷ ps) most (let low = f.0.0 in let high = f.0.1 in ((strict p.0 j apart low, omega arith), f.1, higher)))
+    (λ apart. all_places k (suc j) n (p ∷ ps) most
+    (let low = f.0.0 in let high = f.0.1 in ((strict p.0 j apart low, omega arith), f.1, higher)))
   where
     sum : j + suc n ≡ suc j + n
     sum = omega arith
@@ -104,7 +111,8 @@ all_places k j (suc n) (p ∷ ps) most f = by (p.0 == j) refl
     strict (suc a) zero h l = omega arith
     strict (suc a) (suc b) h l = let r = strict a b (λ e. h (ap suc e)) (omega arith) in omega arith
 
-    by : (t : Bool) → (p.0 == j) ≡ t → (p.0 ≡ j → places_from k ps (suc j) n ≡ map (λ q. needed_decimals k q.1) ps) → ((p.0 ≡ j → ⊥) → places_from k (p ∷ ps) (suc j) n ≡ map (λ q. needed_decimals k q.1) (p ∷ ps))
+    by : (t : Bool) → (p.0 == j) ≡ t → (p.0 ≡ j → places_from k ps (suc j) n ≡ map (λ q. needed_decimals k q.1) ps)
+        → ((p.0 ≡ j → ⊥) → places_from k (p ∷ ps) (suc j) n ≡ map (λ q. needed_decimals k q.1) (p ∷ ps))
         → places_from k (p ∷ ps) j (suc n) ≡ map (λ q. needed_decimals k q.1) (p ∷ ps)
     by true e here there =
         let same = eqb-true p.0 j e in
@@ -115,26 +123,32 @@ all_places k j (suc n) (p ∷ ps) most f = by (p.0 == j) refl
         let low = f.0.0 in
         let apart : p.0 ≡ j → ⊥ = λ s. eqb-false p.0 j e s in
         ap (λ t. place_decimals k (cond t (Some p) (find (λ q. q.0 == j) ps)) ++ places_from k (p ∷ ps) (suc j) n) e
-        ∙ ap (λ o. place_decimals k o ++ places_from k (p ∷ ps) (suc j) n) (none_above j (suc p.0) (j + suc n) ps f.2 (let s = strict p.0 j apart low in omega arith))
+        ∙ ap (λ o. place_decimals k o ++ places_from k (p ∷ ps) (suc j) n)
+        (find_above j (suc p.0) (j + suc n) ps f.2 (let s = strict p.0 j apart low in omega arith))
         ∙ there apart
 
-pub coef_decimals : (m : Parts) (i : ℕ) (r : Row) → AreDistinct (m.objective ∷ map (λ k. k.name) m.rows) → slice_get m.rows i ≡ Some r → r.decimals ≤ 9 → IsFrom 0 (length m.columns) r.coefs
+pub coef_decimals : (m : Parts) (i : ℕ) (r : Row) → AreDistinct (m.objective ∷ map (λ k. k.name) m.rows) → slice_get m.rows i ≡ Some r
+    → r.decimals ≤ 9 → IsFrom 0 (length m.columns) r.coefs
     → told_decimals (told_from m 0 m.columns) r.name ≡ map (λ p. needed_decimals r.decimals p.1) r.coefs
 coef_decimals m i r d at most f =
     let sum : length m.columns ≡ 0 + length m.columns = omega arith in
-    row_places m i r d at 0 m.columns ∙ all_places r.decimals 0 (length m.columns) r.coefs most (subst (λ (x : ℕ). IsFrom 0 x r.coefs) sum f)
+    row_places m i r d at 0 m.columns
+    ∙ all_places r.decimals 0 (length m.columns) r.coefs most (subst (λ (x : ℕ). IsFrom 0 x r.coefs) sum f)
 
 -- ---- costs
 
-pub cost_decimals_read : (m : Parts) → is_among m.objective (map (λ k. k.name) m.rows) ≡ false → m.cost_decimals ≤ 9 → (j : ℕ) (cs : List Column) → Each IsColumnText cs
+pub cost_decimals_read : (m : Parts) → is_among m.objective (map (λ k. k.name) m.rows) ≡ false → m.cost_decimals ≤ 9
+    → (j : ℕ) (cs : List Column) → Each IsColumnText cs
     → told_decimals (told_from m j cs) m.objective ≡ map (λ c. needed_decimals m.cost_decimals c.cost) cs
 cost_decimals_read m d most j [] h = refl
 cost_decimals_read m d most j (c ∷ cs) h =
     ap (λ ts. told_decimals ts m.objective) (tells_append (column_block m (j, c)) (flat_map (column_block m) (enumerate_from (j + 1) cs)))
     ∙ decimals_append (block_told m j c) (told_from m (j + 1) cs) m.objective
     ∙ ap (λ l. l ++ told_decimals (told_from m (j + 1) cs) m.objective)
-    (ap (λ t. map (λ (k : Told). decimals_of (number_at k.text)) (cond t (record { owner = c.name; row = m.objective; text = value_text m c.cost } ∷ filter (λ k. bytes_eq k.row m.objective) (coef_told j c.name m.rows)) (filter (λ k. bytes_eq k.row m.objective) (coef_told j c.name m.rows)))) (bytes_same m.objective)
-    ∙ ap (λ l. said_decimals m.cost_decimals c.cost ∷ l) (ap (λ ts. told_decimals ts m.objective) (flat_flat (coef_line j c.name) m.rows) ∙ (none_of (λ k. flat_map tells (coef_line j c.name k)) (coef_own j c.name) m.rows m.objective d).1)
+    (ap (λ t. map (λ (k : Told). decimals_of (number_or_zero k.text)) (cond t (record { owner = c.name; row = m.objective; text = value_text m c.cost } ∷ filter (λ k. bytes_eq k.row m.objective) (coef_told j c.name m.rows)) (filter (λ k. bytes_eq k.row m.objective) (coef_told j c.name m.rows)))) (text_self m.objective)
+    ∙ ap (λ l. said_decimals m.cost_decimals c.cost ∷ l)
+    (ap (λ ts. told_decimals ts m.objective) (flat_flat (coef_line j c.name) m.rows)
+    ∙ (none_of (λ k. flat_map tells (coef_line j c.name k)) (coef_own j c.name) m.rows m.objective d).1)
     ∙ ap (λ (x : ℕ). x ∷ []) (decimal_text_decimals c.cost m.cost_decimals (h.0).cost most))
     ∙ ap (λ l. needed_decimals m.cost_decimals c.cost ∷ l) (cost_decimals_read m d most (j + 1) cs h.1)
 
@@ -143,52 +157,53 @@ cost_decimals_read m d most j (c ∷ cs) h =
 none_needed : (k n : ℕ) → largest n (needed_decimals k (pos 0) ∷ []) ≡ n
 none_needed k n = let e = (zero_reached k).1 in ap (λ (x : ℕ). max n x) e ∙ omega arith
 
-int_eq_true : (a b : ℤ) → int_eq a b ≡ true → a ≡ b
-int_eq_true a b e = grind (arith, ints)
-
 amount_decimals : (test : Bool) (k n : ℕ) (owner name : List ℕ) (z : ℤ) → (test ≡ false → z ≡ pos 0) → unsigned_abs z < 2 ^ 64 → k ≤ 9
-    → largest n (told_decimals (flat_map tells (when test (triple owner name (decimal_text z k)))) name) ≡ largest n (needed_decimals k z ∷ [])
+    → largest n (told_decimals (flat_map tells (when test (triple owner name (decimal_text z k)))) name)
+    ≡ largest n (needed_decimals k z ∷ [])
 amount_decimals true k n owner name z h small most =
-    ap (λ t. largest n (map (λ (x : Told). decimals_of (number_at x.text)) (cond t (record { owner = owner; row = name; text = decimal_text z k } ∷ []) []))) (bytes_same name)
+    ap (λ t. largest n (map (λ (x : Told). decimals_of (number_or_zero x.text)) (cond t (record { owner = owner; row = name; text = decimal_text z k } ∷ []) []))) (text_self name)
     ∙ ap (λ (x : ℕ). largest n (x ∷ [])) (decimal_text_decimals z k small most)
 amount_decimals false k n owner name z h small most = sym (ap (λ (y : ℤ). largest n (needed_decimals k y ∷ [])) (h refl) ∙ none_needed k n)
 
-off : (t : Bool) → not t ≡ false → t ≡ true
-off true e = refl
-off false e = absurd cc
-
 pub rhs_decimals : (r : Row) (n : ℕ) → IsRowText r → ForSome (right_side r) (λ b. unsigned_abs b ≤ 2 ^ 62)
-    → largest n (told_decimals (rhs_told r) r.name) ≡ largest n (map (needed_decimals r.decimals) (option_map_or (λ b. b ∷ []) (right_side r) []))
+    → largest n (told_decimals (rhs_told r) r.name)
+    ≡ largest n (map (needed_decimals r.decimals) (option_map_or (λ b. b ∷ []) (right_side r) []))
 rhs_decimals r n h s = by (right_side r) s
   where
     by : (o : Option ℤ) → ForSome o (λ b. unsigned_abs b ≤ 2 ^ 62)
-        → largest n (told_decimals (flat_map tells (option_map_or (λ b. when (not (int_eq b (pos 0))) (triple (codes "RHS") r.name (decimal_text b r.decimals))) o (triple (codes "RHS") r.name (codes "1e30") ∷ []))) r.name)
+        → largest n (told_decimals (flat_map tells (option_map_or (side_line r) o (triple (codes "RHS") r.name (codes "1e30") ∷ []))) r.name)
         ≡ largest n (map (needed_decimals r.decimals) (option_map_or (λ b. b ∷ []) o []))
-    by None l = ap (λ t. largest n (map (λ (x : Told). decimals_of (number_at x.text)) (cond t (record { owner = codes "RHS"; row = r.name; text = codes "1e30" } ∷ []) []))) (bytes_same r.name) ∙ least
+    by None l =
+        ap (λ t. largest n (map (λ (x : Told). decimals_of (number_or_zero x.text))
+        (cond t (record { owner = codes "RHS"; row = r.name; text = codes "1e30" } ∷ []) []))) (text_self r.name)
+        ∙ least
       where
         least : max n 0 ≡ n
         least = omega arith
-    by (Some b) l = amount_decimals (not (int_eq b (pos 0))) r.decimals n (codes "RHS") r.name b (λ e. int_eq_true b (pos 0) (off (int_eq b (pos 0)) e)) (let q = l b refl in omega arith) h.decimals
+    by (Some b) l =
+        amount_decimals (not (int_eq b (pos 0))) r.decimals n (codes "RHS") r.name b
+        (λ e. (Decides-int_eq b (pos 0)).0 (not-false (int_eq b (pos 0)) e)) (let q = l b refl in omega arith) h.decimals
 
-pub range_decimals : (r : Row) (n : ℕ) → IsRowText r → largest n (told_decimals (range_told r) r.name) ≡ largest n (map (needed_decimals r.decimals) (range_of r))
+pub range_decimals : (r : Row) (n : ℕ) → IsRowText r
+    → largest n (told_decimals (range_told r) r.name) ≡ largest n (map (needed_decimals r.decimals) (range_of r))
 range_decimals r n h = by r.low r.high h.low h.high
   where
     by : (o p : Option ℤ) → ForSome o (λ b. unsigned_abs b ≤ 2 ^ 62) → ForSome p (λ b. unsigned_abs b ≤ 2 ^ 62)
-        → largest n (told_decimals (flat_map tells (option_map_or (λ low. option_map_or (λ high. when (not (int_eq low high)) (triple (codes "RNG") r.name (decimal_text (high -ℤ low) r.decimals))) p []) o [])) r.name)
+        → largest n (told_decimals (flat_map tells (option_map_or (λ low. option_map_or (width_line r low) p []) o [])) r.name)
         ≡ largest n (map (needed_decimals r.decimals) (option_map_or (λ low. option_map_or (λ high. (high -ℤ low) ∷ []) p []) o []))
     by None p s t = refl
     by (Some low) None s t = refl
     by (Some low) (Some high) s t =
-        amount_decimals (not (int_eq low high)) r.decimals n (codes "RNG") r.name (high -ℤ low) (λ e. let same = int_eq_true low high (off (int_eq low high) e) in omega (arith, ints)) (width_small low high (s low refl) (t high refl)) h.decimals
+        amount_decimals (not (int_eq low high)) r.decimals n (codes "RNG") r.name (high -ℤ low)
+        (λ e. let same = (Decides-int_eq low high).0 (not-false (int_eq low high) e) in omega (arith, ints))
+        (width_small low high (s low refl) (t high refl)) h.decimals
 
-pub constant_decimals : (m : Parts) (n : ℕ) → unsigned_abs m.constant < 2 ^ 64 → m.cost_decimals ≤ 9 → largest n (told_decimals (flat_map tells (constant_line m)) m.objective) ≡ largest n (needed_decimals m.cost_decimals m.constant ∷ [])
+pub constant_decimals : (m : Parts) (n : ℕ) → unsigned_abs m.constant < 2 ^ 64 → m.cost_decimals ≤ 9
+    → largest n (told_decimals (flat_map tells (constant_line m)) m.objective) ≡ largest n (needed_decimals m.cost_decimals m.constant ∷ [])
 constant_decimals m n small most =
-    amount_decimals (not (int_eq m.constant (pos 0))) m.cost_decimals n (codes "RHS") m.objective (neg_ℤ m.constant) (λ e. ap neg_ℤ (int_eq_true m.constant (pos 0) (off (int_eq m.constant (pos 0)) e))) (omega (arith, ints)) most
+    amount_decimals (not (int_eq m.constant (pos 0))) m.cost_decimals n (codes "RHS") m.objective (neg_ℤ m.constant)
+    (λ e. ap neg_ℤ ((Decides-int_eq m.constant (pos 0)).0 (not-false (int_eq m.constant (pos 0)) e))) (omega (arith, ints)) most
     ∙ ap (λ (x : ℕ). largest n (least_decimals x m.cost_decimals ∷ [])) same
   where
     same : unsigned_abs (neg_ℤ m.constant) ≡ unsigned_abs m.constant
     same = omega (arith, ints)
-
-pub largest-append : (n : ℕ) (xs ys : List ℕ) → largest n (xs ++ ys) ≡ largest (largest n xs) ys
-largest-append n [] ys = refl
-largest-append n (x ∷ xs) ys = largest-append (max n x) xs ys

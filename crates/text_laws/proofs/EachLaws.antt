@@ -1,26 +1,9 @@
 -- What holds of each element of a list, and of each element after those before it.
-use Rattle.std.specs.Prelude.{◌≡◌, ℕ, zero, suc, ◌+◌, Bool, true, false, cond, List, [], ◌∷◌, ◌++◌, map, filter, Some, slice_get, if◌then◌else◌, ⊤}
-use Rattle.std.specs.List.{enumerate_from}
+use Rattle.std.specs.Prelude.{◌≡◌, Bool, true, false, cond, List, [], ◌∷◌, ◌++◌, map, filter, if◌then◌else◌, ⊤}
 use Rattle.std.proofs.Common.{refl, sym, subst}
-use Rattle.ip_defs.specs.Lists.{after_those, through_first}
-use Rattle.text_laws.proofs.ListLaws.{Each, append_nil, append_assoc}
-
-pub each_weaker : {A : Type 0} (P Q : A → Type 0) (xs : List A) → ((x : A) → P x → Q x) → Each P xs → Each Q xs
-each_weaker P Q [] h all = tt
-each_weaker P Q (x ∷ xs) h all = (h x all.0, each_weaker P Q xs h all.1)
-
-pub each_left : {A : Type 0} (P : A → Type 0) (xs ys : List A) → Each P (xs ++ ys) → Each P xs
-each_left P [] ys all = tt
-each_left P (x ∷ xs) ys all = (all.0, each_left P xs ys all.1)
-
-pub each_right : {A : Type 0} (P : A → Type 0) (xs ys : List A) → Each P (xs ++ ys) → Each P ys
-each_right P [] ys all = all
-each_right P (x ∷ xs) ys all = each_right P xs ys all.1
-
-pub each_get : {A : Type 0} (P : A → Type 0) (xs : List A) (i : ℕ) (x : A) → Each P xs → slice_get xs i ≡ Some x → P x
-each_get P [] i x all at = absurd cc
-each_get P (y ∷ ys) zero x all at = let same : y ≡ x = cc in subst P same all.0
-each_get P (y ∷ ys) (suc i) x all at = each_get P ys i x all.1 at
+use Rattle.mps_defs.specs.Lists.{after_those, through_first}
+use Rattle.std.proofs.lemmas.List.{append-nil, append_assoc}
+use Rattle.ip_defs.specs.Lists.{Each}
 
 pub each_filter : {A : Type 0} (P : A → Type 0) (test : A → Bool) (xs : List A) → Each P xs → Each P (filter test xs)
 each_filter P test [] all = tt
@@ -35,7 +18,8 @@ pub each_passes : {A : Type 0} (test : A → Bool) (xs : List A) → Each (λ x.
 each_passes test [] = tt
 each_passes {A} test (x ∷ xs) = by (test x) refl (each_passes test xs)
   where
-    by : (t : Bool) → test x ≡ t → Each (λ y. test y ≡ true) (filter test xs) → Each (λ y. test y ≡ true) (cond t (x ∷ filter test xs) (filter test xs))
+    by : (t : Bool) → test x ≡ t → Each (λ y. test y ≡ true) (filter test xs)
+        → Each (λ y. test y ≡ true) (cond t (x ∷ filter test xs) (filter test xs))
     by true e rest = (e, rest)
     by false e rest = rest
 
@@ -46,10 +30,6 @@ each_of_map P f (x ∷ xs) all = (all.0, each_of_map P f xs all.1)
 pub each_before_map : {A B : Type 0} (P : B → Type 0) (f : A → B) (xs : List A) → Each P (map f xs) → Each (λ x. P (f x)) xs
 each_before_map P f [] all = tt
 each_before_map P f (x ∷ xs) all = (all.0, each_before_map P f xs all.1)
-
-pub each_numbered : {A : Type 0} (P : A → Type 0) (n : ℕ) (xs : List A) → Each P xs → Each (λ p. P p.1) (enumerate_from n xs)
-each_numbered P n [] all = tt
-each_numbered P n (x ∷ xs) all = (all.0, each_numbered P (n + 1) xs all.1)
 
 pub each_through : {A : Type 0} (P : A → Type 0) (test : A → Bool) (xs : List A) → Each P xs → Each P (through_first test xs)
 each_through P test [] all = tt
@@ -68,6 +48,8 @@ abbrev pub EachAfter : {A : Type 0} → (List A → A → Type 0) → List A →
 EachAfter P seen [] = ⊤
 EachAfter P seen (x ∷ xs) = P seen x × EachAfter P (seen ++ x ∷ []) xs
 
-pub each_after_append : {A : Type 0} (P : List A → A → Type 0) (seen xs ys : List A) → EachAfter P seen xs → EachAfter P (seen ++ xs) ys → EachAfter P seen (xs ++ ys)
-each_after_append P seen [] ys h k = subst (λ s. EachAfter P s ys) (append_nil seen) k
-each_after_append P seen (x ∷ xs) ys h k = (h.0, each_after_append P (seen ++ x ∷ []) xs ys h.1 (subst (λ s. EachAfter P s ys) (sym (append_assoc seen (x ∷ []) xs)) k))
+pub each_after_append : {A : Type 0} (P : List A → A → Type 0) (seen xs ys : List A) → EachAfter P seen xs → EachAfter P (seen ++ xs) ys
+    → EachAfter P seen (xs ++ ys)
+each_after_append P seen [] ys h k = subst (λ s. EachAfter P s ys) (append-nil seen) k
+each_after_append P seen (x ∷ xs) ys h k =
+    (h.0, each_after_append P (seen ++ x ∷ []) xs ys h.1 (subst (λ s. EachAfter P s ys) (sym (append_assoc seen (x ∷ []) xs)) k))

@@ -4,17 +4,17 @@ use Rattle.std.specs.Int.RustNames.{unsigned_abs}
 use Rattle.std.specs.Option.{option_map_or, ForSome}
 use Rattle.std.proofs.Common.{refl, arith, ap, sym, ◌∙◌, subst}
 use Rattle.std.proofs.lemmas.Int.{ints}
-use Rattle.ip_defs.specs.Lists.{is_among}
+use Rattle.mps_defs.specs.Lists.{is_among}
 use Rattle.ip_defs.specs.Limits.{IsRow}
-use Rattle.ip_defs.specs.Numbers.{decimals_of, least_decimals}
-use Rattle.ip_defs.specs.Records.{Line, Entry, objective, is_objective, is_dropped_row, is_kept_set, is_kept, column_names, kept_entries}
-use Rattle.ip_defs.specs.TextModels.{no_number, units, number_at, written_for, written_at, largest, decimals_in, row_decimals, row_sides, coefs_in, row_from, column_from, model_from}
+use Rattle.mps_defs.specs.Numbers.{decimals_of, least_decimals}
+use Rattle.mps_defs.specs.Records.{Line, Entry, objective, is_objective, is_dropped_row, is_kept_set, is_kept, column_names, kept_entries}
+use Rattle.mps_defs.specs.TextModels.{no_number, units, written_for, written_at, largest, decimals_in, row_decimals, row_sides, coefs_in, row_from, column_from, model_from, number_or_zero}
 use Rattle.ip_defs.specs.declared.programs.Column.{Column}
-use Rattle.ip_defs.specs.declared.texts.How.{How}
-use Rattle.ip_defs.specs.declared.texts.Number.{Number}
+use Rattle.mps_defs.specs.declared.texts.How.{How}
+use Rattle.mps_defs.specs.declared.texts.Number.{Number}
 use Rattle.text_laws.specs.ReadBack.{needed_decimals, row_amounts, cost_amounts}
-use Rattle.text_laws.proofs.ListLaws.{Each, each_append, each_both}
-use Rattle.text_laws.proofs.EachLaws.{each_weaker, each_left, each_right, each_of_map, each_before_map}
+use Rattle.text_laws.proofs.ListLaws.{each_both}
+use Rattle.text_laws.proofs.EachLaws.{each_of_map, each_before_map}
 use Rattle.text_laws.proofs.ScaleLaws.{decimals_within}
 use Rattle.text_laws.proofs.LeastReadLaws.{number_least, largest_start, largest_each, largest_most}
 use Rattle.text_laws.proofs.SoundLaws.{IsSound}
@@ -23,6 +23,8 @@ use Rattle.text_laws.proofs.FoundReadLaws.{IsFound, at_place, of_row, columns_fo
 use Rattle.text_laws.proofs.DistinctReadLaws.{entries_owned}
 use Rattle.text_laws.proofs.SideDecimalLaws.{NeedsOwn, AreWithin, right_amount, range_amount, sides_known}
 use Rattle.text_laws.proofs.EntryDecimalLaws.{IsFewFor, decimals_few, few_decimals, written_here, written_alone, coef_needs, named_each}
+use Rattle.ip_defs.proofs.ListLaws.{each_left, each_right, each_weaker, each_append}
+use Rattle.ip_defs.specs.Lists.{Each}
 
 -- what is known of the entries that are kept
 pub record AreRead (ls : List Line) : Type 0 where
@@ -48,8 +50,12 @@ least_is : (ls : List Line) (how : How) (row : List ℕ) (amounts : List ℤ)
 least_is ls how row amounts few =
     let k = row_decimals ls how row in
     let needs = map (needed_decimals k) amounts in
-    let up = largest_most how.digits (largest how.digits needs) (decimals_in (all_kept ls) row) (largest_start how.digits needs) (decimals_few (largest how.digits needs) row (all_kept ls) few) in
-    let down = largest_most how.digits k needs (largest_start how.digits (decimals_in (all_kept ls) row)) (each_of_map (λ d. d ≤ k) (needed_decimals k) amounts (all_within k amounts)) in
+    let up =
+    largest_most how.digits (largest how.digits needs) (decimals_in (all_kept ls) row) (largest_start how.digits needs)
+    (decimals_few (largest how.digits needs) row (all_kept ls) few) in
+    let down =
+    largest_most how.digits k needs (largest_start how.digits (decimals_in (all_kept ls) row))
+    (each_of_map (λ d. d ≤ k) (needed_decimals k) amounts (all_within k amounts)) in
     omega arith
   where
     all_within : (k : ℕ) (zs : List ℤ) → Each (λ z. needed_decimals k z ≤ k) zs
@@ -65,8 +71,9 @@ written_own : (k : ℕ) (row : List ℕ) (es : List Entry) → Each (IsFewFor k 
 written_own k row [] few = λ x e. absurd cc
 written_own k row (e ∷ es) few = by (bytes_eq e.row row) refl (written_own k row es few.1)
   where
-    by : (t : Bool) → bytes_eq e.row row ≡ t → ForSome (written_for es row) (NeedsOwn k) → ForSome (option_map (λ f. number_at f.text) (cond t (Some e) (find (λ f. bytes_eq f.row row) es))) (NeedsOwn k)
-    by true f rest = λ x is. (let same : number_at e.text ≡ x = cc in subst (NeedsOwn k) same (number_least e.text k (few.0 f)))
+    by : (t : Bool) → bytes_eq e.row row ≡ t → ForSome (written_for es row) (NeedsOwn k)
+        → ForSome (option_map (λ f. number_or_zero f.text) (cond t (Some e) (find (λ f. bytes_eq f.row row) es))) (NeedsOwn k)
+    by true f rest = λ x is. (let same : number_or_zero e.text ≡ x = cc in subst (NeedsOwn k) same (number_least e.text k (few.0 f)))
     by false f rest = rest
 
 or_nothing : (k : ℕ) (o : Option Number) → ForSome o (NeedsOwn k) → NeedsOwn k (unwrap_or o no_number)
@@ -78,20 +85,26 @@ three_parts P es rs gs a b c = each_append P (es ++ rs) gs (each_append P es rs 
 
 -- the entries of COLUMNS for a row, where the number that is written at a column needs no more than some decimals
 few_from : (ls : List Line) (row : List ℕ) (k most : ℕ) → AreRead ls → Each (IsFewFor k row) (kept_entries (codes "COLUMNS") ls)
-    → ((name : List ℕ) (x : Number) → is_among name (column_names ls) ≡ true → written_at (kept_entries (codes "COLUMNS") ls) row name ≡ Some x → needed_decimals k (units k x) ≤ most) → Each (IsFewFor most row) (kept_entries (codes "COLUMNS") ls)
+    → ((name : List ℕ) (x : Number) → is_among name (column_names ls) ≡ true → written_at (kept_entries (codes "COLUMNS") ls) row name ≡ Some x → needed_decimals k (units k x) ≤ most)
+    → Each (IsFewFor most row) (kept_entries (codes "COLUMNS") ls)
 few_from ls row k most read own needs =
-    each_both (λ e. IsFound (codes "COLUMNS") ls at_place e × (is_among e.owner (column_names ls) ≡ true)) (IsFewFor k row) (IsFewFor most row) (kept_entries (codes "COLUMNS") ls)
-    (each_both (IsFound (codes "COLUMNS") ls at_place) (λ e. is_among e.owner (column_names ls) ≡ true) (λ e. IsFound (codes "COLUMNS") ls at_place e × (is_among e.owner (column_names ls) ≡ true)) (kept_entries (codes "COLUMNS") ls) read.columns (entries_owned ls) (λ e f o. (f, o))) own
+    each_both (λ e. IsFound (codes "COLUMNS") ls at_place e × (is_among e.owner (column_names ls) ≡ true)) (IsFewFor k row)
+    (IsFewFor most row) (kept_entries (codes "COLUMNS") ls)
+    (each_both (IsFound (codes "COLUMNS") ls at_place) (λ e. is_among e.owner (column_names ls) ≡ true)
+    (λ e. IsFound (codes "COLUMNS") ls at_place e × (is_among e.owner (column_names ls) ≡ true))
+    (kept_entries (codes "COLUMNS") ls) read.columns (entries_owned ls) (λ e f o. (f, o))) own
     (λ e h few same.
-    let need = needs e.owner (number_at e.text) h.1 (written_here ls row e h.0 same) in
+    let need = needs e.owner (number_or_zero e.text) h.1 (written_here ls row e h.0 same) in
     let least = number_least e.text k (few same) in
     omega arith)
 
 -- a range that is kept is not for the objective
-none_on_objective : (ls : List Line) (row : List ℕ) (e : Entry) → objective ls ≡ Some row → is_kept (codes "RANGES") ls e ≡ true → bytes_eq e.row row ≡ true → ⊥
+none_on_objective : (ls : List Line) (row : List ℕ) (e : Entry) → objective ls ≡ Some row → is_kept (codes "RANGES") ls e ≡ true
+    → bytes_eq e.row row ≡ true → ⊥
 none_on_objective ls row e is kept same =
     let on : is_objective ls e.row ≡ true = ap (λ o. option_map_or (bytes_eq e.row) o false) is ∙ same in
-    let off : is_objective ls e.row ≡ false = last (not (is_dropped_row ls e.row)) (is_kept_set (codes "RANGES") ls e.owner) (is_objective ls e.row) kept in
+    let off : is_objective ls e.row ≡ false =
+    last (not (is_dropped_row ls e.row)) (is_kept_set (codes "RANGES") ls e.owner) (is_objective ls e.row) kept in
     cc
   where
     last : (a b c : Bool) → (a && b && not c) ≡ true → c ≡ false
@@ -103,8 +116,10 @@ none_on_objective ls row e is kept same =
 -- ---- a row
 
 pub row_least : (ls : List Line) (how : How) (kind name : List ℕ) → AreRead ls → IsRow (row_from ls how kind name)
-    → row_decimals ls how name ≡ largest how.digits (map (needed_decimals (row_decimals ls how name)) (row_amounts (row_from ls how kind name)))
-row_least ls how kind name read limits = least_is ls how name amounts (three_parts (IsFewFor most name) es rs gs coefs_few rights_few ranges_few)
+    → row_decimals ls how name
+    ≡ largest how.digits (map (needed_decimals (row_decimals ls how name)) (row_amounts (row_from ls how kind name)))
+row_least ls how kind name read limits =
+    least_is ls how name amounts (three_parts (IsFewFor most name) es rs gs coefs_few rights_few ranges_few)
   where
     es : List Entry
     es = kept_entries (codes "COLUMNS") ls
@@ -158,21 +173,25 @@ row_least ls how kind name read limits = least_is ls how name amounts (three_par
 
     coefs_few : Each (IsFewFor most name) es
     coefs_few = few_from ls name k most read (each_left (IsFewFor k name) es rs own_front)
-        (coef_needs es (column_names ls) name k most (each_left (λ z. needed_decimals k z ≤ most) coefs (right_amount sides.0 sides.1) front))
+        (coef_needs es (column_names ls) name k most
+        (each_left (λ z. needed_decimals k z ≤ most) coefs (right_amount sides.0 sides.1) front))
 
     rights_few : Each (IsFewFor most name) rs
     rights_few = each_weaker (IsFound (codes "RHS") ls of_row) (IsFewFor most name) rs
-        (λ e found same. let is = written_alone (codes "RHS") ls name e found same in subst (λ o. decimals_of (unwrap_or o no_number) ≤ most) is known.0) read.right_sides
+        (λ e found same. let is = written_alone (codes "RHS") ls name e found same in subst
+        (λ o. decimals_of (unwrap_or o no_number) ≤ most) is known.0) read.right_sides
 
     ranges_few : Each (IsFewFor most name) gs
     ranges_few = each_weaker (IsFound (codes "RANGES") ls of_row) (IsFewFor most name) gs
-        (λ e found same. known.1 (number_at e.text) (written_alone (codes "RANGES") ls name e found same)) read.ranges
+        (λ e found same. known.1 (number_or_zero e.text) (written_alone (codes "RANGES") ls name e found same)) read.ranges
 
 -- ---- the costs
 
 pub cost_least : (ls : List Line) (how : How) → AreRead ls → (row : List ℕ) → objective ls ≡ Some row
-    → (model_from ls how).cost_decimals ≡ largest how.digits (map (needed_decimals ((model_from ls how).cost_decimals)) (cost_amounts (model_from ls how)))
-cost_least ls how read row is = least_is ls how cost_row amounts (three_parts (IsFewFor most cost_row) es rs gs costs_few rights_few ranges_few)
+    → (model_from ls how).cost_decimals
+    ≡ largest how.digits (map (needed_decimals ((model_from ls how).cost_decimals)) (cost_amounts (model_from ls how)))
+cost_least ls how read row is =
+    least_is ls how cost_row amounts (three_parts (IsFewFor most cost_row) es rs gs costs_few rights_few ranges_few)
   where
     es : List Entry
     es = kept_entries (codes "COLUMNS") ls
@@ -220,7 +239,8 @@ cost_least ls how read row is = least_is ls how cost_row amounts (three_parts (I
 
     costs_few : Each (IsFewFor most cost_row) es
     costs_few = few_from ls cost_row k most read (each_left (IsFewFor k cost_row) es rs own_front)
-        (λ name x here at. subst (λ o. needed_decimals k (units k (unwrap_or o no_number)) ≤ most) at (named_each (λ c. needed_decimals k (cost_at c) ≤ most) (column_names ls) name columns_need here))
+        (λ name x here at. subst (λ o. needed_decimals k (units k (unwrap_or o no_number)) ≤ most) at
+        (named_each (λ c. needed_decimals k (cost_at c) ≤ most) (column_names ls) name columns_need here))
 
     constant_needs : needed_decimals k (units k b) ≤ most
     constant_needs =
@@ -238,4 +258,5 @@ cost_least ls how read row is = least_is ls how cost_row amounts (three_parts (I
 
     ranges_few : Each (IsFewFor most cost_row) gs
     ranges_few = each_weaker (IsFound (codes "RANGES") ls of_row) (IsFewFor most cost_row) gs
-        (λ e found same. absurd (none_on_objective ls row e is found.kept (ap (bytes_eq e.row) (sym (ap (λ o. unwrap_or o []) is)) ∙ same))) read.ranges
+        (λ e found same. absurd (none_on_objective ls row e is found.kept (ap (bytes_eq e.row) (sym (ap (λ o. unwrap_or o []) is))
+        ∙ same))) read.ranges

@@ -8,28 +8,25 @@ use Rattle.std.proofs.lemmas.Int.{ints, unsigned_abs-mul}
 use Rattle.std.proofs.lemmas.Nat.{pow-add}
 use Rattle.decimals.proofs.DecimalLaws.{least_units, passes_at_k}
 use Rattle.decimals.proofs.NumberLaws.{zero_reached}
-use Rattle.ip_defs.specs.Lists.{least_from, where_true}
-use Rattle.ip_defs.specs.Numbers.{without_sign, is_minus, is_number, is_infinity, fraction_of, signed, has_decimals, least_decimals, number_from, decimals_of}
-use Rattle.ip_defs.specs.TextModels.{units, number_at, no_number, largest}
-use Rattle.ip_defs.specs.declared.texts.Number.{Number}
-use Rattle.ip_defs.specs.declared.texts.Number.TheVariants.{Dec, Large}
+use Rattle.mps_defs.specs.Lists.{least_from, where_true}
+use Rattle.mps_defs.specs.Numbers.{without_sign, is_minus, is_number, is_infinity, fraction_of, signed, has_decimals, least_decimals, number_from, decimals_of}
+use Rattle.mps_defs.specs.TextModels.{units, no_number, largest, number_or_zero}
+use Rattle.mps_defs.specs.declared.texts.Number.{Number}
+use Rattle.mps_defs.specs.declared.texts.Number.TheVariants.{Dec, Large}
 use Rattle.text_laws.specs.ReadBack.{needed_decimals}
-use Rattle.text_laws.proofs.ListLaws.{Each}
 use Rattle.text_laws.proofs.ScaleLaws.{zeros_dropped, least_passes, decimals_within, units_back}
+use Rattle.ip_defs.specs.Lists.{Each}
+use Rattle.mps_defs.proofs.NumberLaws.{signed_size}
 
 -- in units that are fine enough it needs its own decimals
 abbrev IsLeast : Number → Type 0
 IsLeast n = (k : ℕ) → decimals_of n ≤ k → needed_decimals k (units k n) ≡ decimals_of n
 
-pub size_of_signed : (negative : Bool) (n : ℕ) → unsigned_abs (signed negative n) ≡ n
-size_of_signed true n = omega (arith, ints)
-size_of_signed false n = refl
-
 large_least : (negative : Bool) → IsLeast (Large negative)
 large_least negative k h =
     let split : 10 ^ (20 + k) ≡ 10 ^ 20 * 10 ^ k = pow-add 10 20 k in
     let whole : 0 + k ≡ k = omega arith in
-    ap (λ (m : ℕ). least_decimals m k) (size_of_signed negative (10 ^ (20 + k)) ∙ split)
+    ap (λ (m : ℕ). least_decimals m k) (signed_size negative (10 ^ (20 + k)) ∙ split)
     ∙ ap (λ (j : ℕ). least_decimals (10 ^ 20 * 10 ^ k) j) (sym whole) ∙ (zeros_dropped (10 ^ 20) 0 k).1
 
 exact_least : (negative : Bool) (n k : ℕ) → IsLeast (Dec (signed negative (least_units n k)) (least_decimals n k))
@@ -39,7 +36,8 @@ exact_least negative n k w h =
     let within = decimals_within n k in
     let here : d + (k - d) ≡ k = omega arith in
     let there : d + (w - d) ≡ w = omega arith in
-    let size : unsigned_abs (signed negative u *ℤ pos (10 ^ (w - d))) ≡ u * 10 ^ (w - d) = unsigned_abs-mul (signed negative u) (pos (10 ^ (w - d))) ∙ ap (λ (m : ℕ). m * 10 ^ (w - d)) (size_of_signed negative u) in
+    let size : unsigned_abs (signed negative u *ℤ pos (10 ^ (w - d))) ≡ u * 10 ^ (w - d) =
+    unsigned_abs-mul (signed negative u) (pos (10 ^ (w - d))) ∙ ap (λ (m : ℕ). m * 10 ^ (w - d)) (signed_size negative u) in
     ap (λ (m : ℕ). least_decimals m w) size
     ∙ ap (λ (j : ℕ). least_decimals (u * 10 ^ (w - d)) j) (sym there)
     ∙ (zeros_dropped u d (w - d)).1
@@ -55,9 +53,13 @@ from_least negative n k = by (nat_le (10 ^ (20 + k)) n)
     by false = exact_least negative n k
 
 none_least : IsLeast no_number
-none_least k h = let none : 0 * 10 ^ (k - 0) ≡ 0 = omega arith in ap (λ (n : ℕ). least_decimals n k) (unsigned_abs-mul (pos 0) (pos (10 ^ (k - 0))) ∙ none) ∙ (zero_reached k).1
+none_least k h =
+    let none : 0 * 10 ^ (k - 0) ≡ 0 = omega arith in ap (λ (n : ℕ). least_decimals n k)
+    (unsigned_abs-mul (pos 0) (pos (10 ^ (k - 0))) ∙ none)
+    ∙ (zero_reached k).1
 
-pub number_least : (text : List ℕ) (k : ℕ) → decimals_of (number_at text) ≤ k → needed_decimals k (units k (number_at text)) ≡ decimals_of (number_at text)
+pub number_least : (text : List ℕ) (k : ℕ) → decimals_of (number_or_zero text) ≤ k
+    → needed_decimals k (units k (number_or_zero text)) ≡ decimals_of (number_or_zero text)
 number_least text = by (is_number text) (is_infinity (without_sign text))
   where
     finite : Number
@@ -86,6 +88,9 @@ least_before g i (suc n) m l e = by (g i) refl (λ later. least_before g (suc i)
 abbrev Writes : ℕ → ℕ → ℕ → Type 0
 Writes k m n = (n * 10 ^ m) % 10 ^ k ≡ 0
 
+divides : (a b : ℕ) → a % b ≡ 0 → a ≡ a / b * b
+divides a b e = omega arith
+
 -- if the least decimals are no more than m, m places write the number
 writes_from : (k m n : ℕ) → least_decimals n k ≤ m → Writes k m n
 writes_from k m n l =
@@ -93,12 +98,11 @@ writes_from k m n l =
     let exact : (n * 10 ^ d) % 10 ^ k ≡ 0 = eqb-true ((n * 10 ^ d) % 10 ^ k) 0 (least_passes (has_decimals n k) 0 k (passes_at_k n k)) in
     let whole : n * 10 ^ d ≡ n * 10 ^ d / 10 ^ k * 10 ^ k = divides (n * 10 ^ d) (10 ^ k) exact in
     let more : d + (m - d) ≡ m = omega arith in
-    let grown : n * 10 ^ m ≡ n * 10 ^ d * 10 ^ (m - d) = ap (λ (j : ℕ). n * 10 ^ j) (sym more) ∙ ap (λ y. n * y) (pow-add 10 d (m - d)) ∙ sym (mul_assoc n (10 ^ d) (10 ^ (m - d))) in
-    ap (λ y. y % 10 ^ k) (grown ∙ ap (λ y. y * 10 ^ (m - d)) whole ∙ turned (n * 10 ^ d / 10 ^ k) (10 ^ k) (10 ^ (m - d))) ∙ mul-mod_left (n * 10 ^ d / 10 ^ k * 10 ^ (m - d)) (10 ^ k)
+    let grown : n * 10 ^ m ≡ n * 10 ^ d * 10 ^ (m - d) =
+    ap (λ (j : ℕ). n * 10 ^ j) (sym more) ∙ ap (λ y. n * y) (pow-add 10 d (m - d)) ∙ sym (mul_assoc n (10 ^ d) (10 ^ (m - d))) in
+    ap (λ y. y % 10 ^ k) (grown ∙ ap (λ y. y * 10 ^ (m - d)) whole ∙ turned (n * 10 ^ d / 10 ^ k) (10 ^ k) (10 ^ (m - d)))
+    ∙ mul-mod_left (n * 10 ^ d / 10 ^ k * 10 ^ (m - d)) (10 ^ k)
   where
-    divides : (a b : ℕ) → a % b ≡ 0 → a ≡ a / b * b
-    divides a b e = omega arith
-
     turned : (a b c : ℕ) → a * b * c ≡ a * c * b
     turned a b c = mul_assoc a b c ∙ ap (λ y. a * y) (mul_comm b c) ∙ sym (mul_assoc a c b)
 
@@ -113,12 +117,11 @@ divisible : (a b c : ℕ) → a % c ≡ 0 → b % c ≡ 0 → ((a + b) % c ≡ 0
 divisible a b c h k =
     let one : a ≡ a / c * c = divides a c h in
     let two : b ≡ b / c * c = divides b c k in (
-      ap (λ y. y % c) (ap (λ y. y + b) one ∙ ap (λ y. a / c * c + y) two ∙ sym (add-mul (a / c) (b / c) c)) ∙ mul-mod_left (a / c + b / c) c,
-      ap (λ y. y % c) (ap (λ y. y - b) one ∙ ap (λ y. a / c * c - y) two ∙ sym (sub_mul (a / c) (b / c) c)) ∙ mul-mod_left (a / c - b / c) c,
+      ap (λ y. y % c) (ap (λ y. y + b) one ∙ ap (λ y. a / c * c + y) two ∙ sym (add-mul (a / c) (b / c) c))
+          ∙ mul-mod_left (a / c + b / c) c,
+      ap (λ y. y % c) (ap (λ y. y - b) one ∙ ap (λ y. a / c * c - y) two ∙ sym (sub_mul (a / c) (b / c) c))
+          ∙ mul-mod_left (a / c - b / c) c,
     )
-  where
-    divides : (x y : ℕ) → x % y ≡ 0 → x ≡ x / y * y
-    divides x y e = omega arith
 
 writes_sum : (k m a b : ℕ) → Writes k m a → Writes k m b → Writes k m (a + b) × Writes k m (a - b)
 writes_sum k m a b h g =
@@ -126,16 +129,27 @@ writes_sum k m a b h g =
     (ap (λ y. y % 10 ^ k) (add-mul a b (10 ^ m)) ∙ parts.0, ap (λ y. y % 10 ^ k) (sub_mul a b (10 ^ m)) ∙ parts.1)
 
 -- the size of a difference is a sum or a difference of the sizes
-size_of_difference : (P : ℕ → Type 0) (x y : ℤ) → P (unsigned_abs x + unsigned_abs y) → P (unsigned_abs x - unsigned_abs y) → P (unsigned_abs y - unsigned_abs x) → P (unsigned_abs (x -ℤ y))
+size_of_difference : (P : ℕ → Type 0) (x y : ℤ) → P (unsigned_abs x + unsigned_abs y) → P (unsigned_abs x - unsigned_abs y)
+    → P (unsigned_abs y - unsigned_abs x) → P (unsigned_abs (x -ℤ y))
 size_of_difference P x y sum down up = by (nat_le (unsigned_abs x) (unsigned_abs y)) refl x y refl refl
   where
     by : (t : Bool) → nat_le (unsigned_abs x) (unsigned_abs y) ≡ t → (a b : ℤ) → a ≡ x → b ≡ y → P (unsigned_abs (x -ℤ y))
-    by t e (pos a) (negsuc b) f g = let same : unsigned_abs x + unsigned_abs y ≡ unsigned_abs (x -ℤ y) = omega (arith, ints) in subst P same sum
-    by t e (negsuc a) (pos b) f g = let same : unsigned_abs x + unsigned_abs y ≡ unsigned_abs (x -ℤ y) = omega (arith, ints) in subst P same sum
-    by true e (pos a) (pos b) f g = let l = leb-true (unsigned_abs x) (unsigned_abs y) e in let same : unsigned_abs y - unsigned_abs x ≡ unsigned_abs (x -ℤ y) = omega (arith, ints) in subst P same up
-    by true e (negsuc a) (negsuc b) f g = let l = leb-true (unsigned_abs x) (unsigned_abs y) e in let same : unsigned_abs y - unsigned_abs x ≡ unsigned_abs (x -ℤ y) = omega (arith, ints) in subst P same up
-    by false e (pos a) (pos b) f g = let l = leb-false (unsigned_abs x) (unsigned_abs y) e in let same : unsigned_abs x - unsigned_abs y ≡ unsigned_abs (x -ℤ y) = omega (arith, ints) in subst P same down
-    by false e (negsuc a) (negsuc b) f g = let l = leb-false (unsigned_abs x) (unsigned_abs y) e in let same : unsigned_abs x - unsigned_abs y ≡ unsigned_abs (x -ℤ y) = omega (arith, ints) in subst P same down
+    by t e (pos a) (negsuc b) f g =
+        let same : unsigned_abs x + unsigned_abs y ≡ unsigned_abs (x -ℤ y) = omega (arith, ints) in subst P same sum
+    by t e (negsuc a) (pos b) f g =
+        let same : unsigned_abs x + unsigned_abs y ≡ unsigned_abs (x -ℤ y) = omega (arith, ints) in subst P same sum
+    by true e (pos a) (pos b) f g =
+        let l = leb-true (unsigned_abs x) (unsigned_abs y) e in let same : unsigned_abs y - unsigned_abs x ≡ unsigned_abs (x -ℤ y) = omega
+        (arith, ints) in subst P same up
+    by true e (negsuc a) (negsuc b) f g =
+        let l = leb-true (unsigned_abs x) (unsigned_abs y) e in let same : unsigned_abs y - unsigned_abs x ≡ unsigned_abs (x -ℤ y) = omega
+        (arith, ints) in subst P same up
+    by false e (pos a) (pos b) f g =
+        let l = leb-false (unsigned_abs x) (unsigned_abs y) e in let same : unsigned_abs x - unsigned_abs y ≡ unsigned_abs (x -ℤ y) = omega
+        (arith, ints) in subst P same down
+    by false e (negsuc a) (negsuc b) f g =
+        let l = leb-false (unsigned_abs x) (unsigned_abs y) e in let same : unsigned_abs x - unsigned_abs y ≡ unsigned_abs (x -ℤ y) = omega
+        (arith, ints) in subst P same down
 
 -- a difference needs no more decimals than the two numbers
 pub difference_needs : (k m : ℕ) (x y : ℤ) → needed_decimals k x ≤ m → needed_decimals k y ≤ m → needed_decimals k (x -ℤ y) ≤ m

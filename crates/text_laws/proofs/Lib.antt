@@ -1,4 +1,4 @@
-pub mod Lines
+pub mod WrittenLaws
 pub mod EachLaws
 pub mod Utf8ReadLaws
 pub mod SoundLaws
@@ -11,7 +11,7 @@ pub mod EntryDecimalLaws
 pub mod LeastDecimalLaws
 pub mod ShapeReadLaws
 pub mod ReadCanonicalLaws
-pub mod CanonicalExamples
+pub mod ExampleLaws
 pub mod NoFaultLaws
 pub mod EntryLineLaws
 pub mod LineFaultLaws

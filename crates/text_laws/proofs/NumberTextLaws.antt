@@ -11,15 +11,17 @@ use Rattle.std.proofs.lemmas.Fmt.{length-decimal-le}
 use Rattle.std.proofs.lemmas.List.Folds.{list_any-append}
 use Rattle.std.proofs.Math.Nat.{div-le_self, mul-le-mul_left}
 use Rattle.std.proofs.lemmas.Int.{ints}
-use Rattle.decimals.proofs.DecimalLaws.{ten_positive, least_units, units-none}
-use Rattle.decimals.proofs.NumberLaws.{both_true, value_from-append, none_after, tens_rise}
+use Rattle.decimals.proofs.DecimalLaws.{least_units, units-none}
+use Rattle.decimals.proofs.NumberLaws.{value_from-append, none_after, tens_rise}
 use Rattle.text_laws.proofs.NumeralLaws.{digit_range, decimal_digits, decimal_value, decimal_some, places_digits, places_short, places_none, none_among, no_point, no_mark, no_sign, all_before, before_it, after_it}
 use Rattle.text_laws.proofs.ScaleLaws.{places_value, zeros_dropped, units_back}
-use Rattle.ip_defs.specs.Numbers.{is_digit, is_point, is_exponent_mark, is_numeral, is_number, is_infinity, is_minus, without_sign, whole_part, rest_part, exponent_part, is_exponent, value_from, digits_value, places, size_text, decimal_text, power_of, over_tens, fraction_of, number_from, number_of, signed, least_decimals, decimals_of, is_large}
-use Rattle.ip_defs.specs.Lists.{where_true}
-use Rattle.ip_defs.specs.TextModels.{number_at, units}
-use Rattle.ip_defs.specs.declared.texts.Number.{Number}
-use Rattle.ip_defs.specs.declared.texts.Number.TheVariants.{Dec, Large}
+use Rattle.mps_defs.specs.Numbers.{is_digit, is_point, is_exponent_mark, is_numeral, is_number, is_infinity, is_minus, without_sign, whole_part, rest_part, exponent_part, is_exponent, value_from, digits_value, places, size_text, decimal_text, power_of, over_tens, fraction_of, number_from, number_of, signed, least_decimals, decimals_of, is_large}
+use Rattle.mps_defs.specs.Lists.{where_true}
+use Rattle.mps_defs.specs.TextModels.{units, number_or_zero}
+use Rattle.mps_defs.specs.declared.texts.Number.{Number}
+use Rattle.mps_defs.specs.declared.texts.Number.TheVariants.{Dec, Large}
+use Rattle.ip_defs.proofs.BoolLaws.{both_true}
+use Rattle.mps_defs.proofs.NumberLaws.{ten_positive}
 
 -- digits, then a point and digits where there are some
 abbrev pub joined : List ℕ → List ℕ → List ℕ
@@ -40,31 +42,52 @@ joined_parts ds [] d e =
     let pointless = none_among is_point ds no_point d in
     record { whole = ap (before_first is_point) same ∙ all_before is_point ds pointless; rest = ap (after_first is_point) same ∙ none_after is_point ds pointless; exponent = none_after is_exponent_mark ds plain; unmarked = plain }
 joined_parts ds (p ∷ ps) d e =
-    let plain = list_any-append is_exponent_mark ds (46 ∷ p ∷ ps) ∙ ap (λ t. t || list_any is_exponent_mark (p ∷ ps)) (none_among is_exponent_mark ds no_mark d) ∙ none_among is_exponent_mark (p ∷ ps) no_mark e in
+    let plain =
+    list_any-append is_exponent_mark ds (46 ∷ p ∷ ps)
+    ∙ ap (λ t. t || list_any is_exponent_mark (p ∷ ps)) (none_among is_exponent_mark ds no_mark d)
+    ∙ none_among is_exponent_mark (p ∷ ps) no_mark e in
     let same = all_before is_exponent_mark (ds ++ 46 ∷ p ∷ ps) plain in
     let pointless = none_among is_point ds no_point d in
     record { whole = ap (before_first is_point) same ∙ before_it is_point ds 46 (p ∷ ps) pointless refl; rest = ap (after_first is_point) same ∙ after_it is_point ds 46 (p ∷ ps) pointless refl; exponent = none_after is_exponent_mark (ds ++ 46 ∷ p ∷ ps) plain; unmarked = plain }
 
 -- it is a numeral
-numeral_is : (ds ps body : List ℕ) → IsBody ds ps body → list_all is_digit ds ≡ true → list_all is_digit ps ≡ true → 1 ≤ length ds → is_numeral body ≡ true
+numeral_is : (ds ps body : List ℕ) → IsBody ds ps body → list_all is_digit ds ≡ true → list_all is_digit ps ≡ true → 1 ≤ length ds
+    → is_numeral body ≡ true
 numeral_is ds ps body b d e some =
     let size = length-append ds ps in
-    and_from (list_all is_digit (whole_part body) && list_all is_digit (rest_part body) && nat_le 1 (length (whole_part body ++ rest_part body))) (not (list_any is_exponent_mark body) || is_exponent (exponent_part body))
-    (and_from (list_all is_digit (whole_part body) && list_all is_digit (rest_part body)) (nat_le 1 (length (whole_part body ++ rest_part body)))
-    (and_from (list_all is_digit (whole_part body)) (list_all is_digit (rest_part body)) (ap (list_all is_digit) b.whole ∙ d) (ap (list_all is_digit) b.rest ∙ e))
-    (ap (λ l. nat_le 1 (length (l ++ rest_part body))) b.whole ∙ ap (λ l. nat_le 1 (length (ds ++ l))) b.rest ∙ le-leb 1 (length (ds ++ ps)) (omega arith)))
+    and_from (list_all is_digit (whole_part body) && list_all is_digit (rest_part body) && nat_le 1
+    (length (whole_part body ++ rest_part body))) (not (list_any is_exponent_mark body) || is_exponent (exponent_part body))
+    (and_from (list_all is_digit (whole_part body) && list_all is_digit (rest_part body))
+    (nat_le 1 (length (whole_part body ++ rest_part body)))
+    (and_from (list_all is_digit (whole_part body)) (list_all is_digit (rest_part body)) (ap (list_all is_digit) b.whole
+    ∙ d) (ap (list_all is_digit) b.rest
+    ∙ e))
+    (ap (λ l. nat_le 1 (length (l ++ rest_part body))) b.whole
+    ∙ ap (λ l. nat_le 1 (length (ds ++ l))) b.rest
+    ∙ le-leb 1 (length (ds ++ ps)) (omega arith)))
     (ap (λ t. not t || is_exponent (exponent_part body)) b.unmarked)
 
 -- the decimals of a number are those after the point
-over_places : (negative : Bool) (n l : ℕ) → number_from negative (over_tens n (pos 0 -ℤ pos l)).0 (over_tens n (pos 0 -ℤ pos l)).1 ≡ number_from negative n l
+over_places : (negative : Bool) (n l : ℕ)
+    → number_from negative (over_tens n (pos 0 -ℤ pos l)).0 (over_tens n (pos 0 -ℤ pos l)).1 ≡ number_from negative n l
 over_places negative n zero = let one : n * 10 ^ 0 ≡ n = omega arith in ap (λ (m : ℕ). number_from negative m 0) one
-over_places negative n (suc l) = let below : pos 0 -ℤ pos (suc l) ≡ negsuc l = omega (arith, ints) in ap (λ z. number_from negative (over_tens n z).0 (over_tens n z).1) below
+over_places negative n (suc l) =
+    let below : pos 0 -ℤ pos (suc l) ≡ negsuc l = omega (arith, ints) in ap
+    (λ z. number_from negative (over_tens n z).0 (over_tens n z).1) below
 
-fraction_is : (negative : Bool) (ds ps body : List ℕ) → IsBody ds ps body → number_from negative (fraction_of body).0 (fraction_of body).1 ≡ number_from negative (value_from 0 (ds ++ ps)) (length ps)
+fraction_is : (negative : Bool) (ds ps body : List ℕ) → IsBody ds ps body
+    → number_from negative (fraction_of body).0 (fraction_of body).1 ≡ number_from negative (value_from 0 (ds ++ ps)) (length ps)
 fraction_is negative ds ps body b =
-    ap (λ l. number_from negative (over_tens (digits_value (l ++ rest_part body)) (power_of body)).0 (over_tens (digits_value (l ++ rest_part body)) (power_of body)).1) b.whole
-    ∙ ap (λ l. number_from negative (over_tens (digits_value (ds ++ l)) (signed (is_minus (exponent_part body)) (digits_value (without_sign (exponent_part body))) -ℤ pos (length l))).0 (over_tens (digits_value (ds ++ l)) (signed (is_minus (exponent_part body)) (digits_value (without_sign (exponent_part body))) -ℤ pos (length l))).1) b.rest
-    ∙ ap (λ l. number_from negative (over_tens (digits_value (ds ++ ps)) (signed (is_minus l) (digits_value (without_sign l)) -ℤ pos (length ps))).0 (over_tens (digits_value (ds ++ ps)) (signed (is_minus l) (digits_value (without_sign l)) -ℤ pos (length ps))).1) b.exponent
+    ap (λ l. number_from negative (over_tens (digits_value (l ++ rest_part body)) (power_of body)).0
+    (over_tens (digits_value (l ++ rest_part body)) (power_of body)).1) b.whole
+    ∙ ap (λ l. number_from negative
+    (over_tens (digits_value (ds ++ l))
+    (signed (is_minus (exponent_part body)) (digits_value (without_sign (exponent_part body))) -ℤ pos (length l))).0 (over_tens
+    (digits_value (ds ++ l))
+    (signed (is_minus (exponent_part body)) (digits_value (without_sign (exponent_part body))) -ℤ pos (length l))).1) b.rest
+    ∙ ap (λ l. number_from negative
+    (over_tens (digits_value (ds ++ ps)) (signed (is_minus l) (digits_value (without_sign l)) -ℤ pos (length ps))).0
+    (over_tens (digits_value (ds ++ ps)) (signed (is_minus l) (digits_value (without_sign l)) -ℤ pos (length ps))).1) b.exponent
     ∙ over_places negative (digits_value (ds ++ ps)) (length ps)
 
 -- what begins with a digit is no word of infinity and has no sign
@@ -72,7 +95,9 @@ begins_low : (d : ℕ) (ds : List ℕ) → is_digit d ≡ true → is_infinity (
 begins_low d ds e =
     let r = digit_range d e in
     let same : to_ascii_lowercase d ≡ d = lower d (omega (arith, r)) in
-    ap (λ t. (t && bytes_eq (map to_ascii_lowercase ds) (110 ∷ 102 ∷ [])) || (t && bytes_eq (map to_ascii_lowercase ds) (110 ∷ 102 ∷ 105 ∷ 110 ∷ 105 ∷ 116 ∷ 121 ∷ []))) (ap (λ c. c == 105) same ∙ ne_eqb d 105 (λ s. omega (arith, r)))
+    ap (λ t. (t && bytes_eq (map to_ascii_lowercase ds) (110 ∷ 102 ∷ []))
+    || (t && bytes_eq (map to_ascii_lowercase ds) (110 ∷ 102 ∷ 105 ∷ 110 ∷ 105 ∷ 116 ∷ 121 ∷ []))) (ap (λ c. c == 105) same
+    ∙ ne_eqb d 105 (λ s. omega (arith, r)))
   where
     lower : (c : ℕ) → c < 65 → to_ascii_lowercase c ≡ c
     lower c h = ap (λ t. cond t c (cond (nat_lt c 91) (c + 32) c)) (lt-ltb c 65 h)
@@ -104,7 +129,8 @@ whole_below n k h = let e = div-le_self n (10 ^ k) in omega arith
 body_of : (n k : ℕ) → n < 2 ^ 64 → IsBody (decimal (n / 10 ^ k)) (places k (n % 10 ^ k)) (size_text n k)
 body_of n k h =
     subst (IsBody (decimal (n / 10 ^ k)) (places k (n % 10 ^ k))) (sym (size_is n k))
-    (joined_parts (decimal (n / 10 ^ k)) (places k (n % 10 ^ k)) (decimal_digits (n / 10 ^ k) (whole_below n k h)) (places_digits k (n % 10 ^ k) (rest_below n k)))
+    (joined_parts (decimal (n / 10 ^ k)) (places k (n % 10 ^ k)) (decimal_digits (n / 10 ^ k) (whole_below n k h))
+    (places_digits k (n % 10 ^ k) (rest_below n k)))
 
 -- at most thirty characters
 pub size_short : (n k : ℕ) → n < 2 ^ 64 → k ≤ 9 → length (size_text n k) ≤ 30
@@ -114,8 +140,12 @@ size_short n k h most = by (n % 10 ^ k == 0)
     ds = decimal (n / 10 ^ k)
 
     by : (t : Bool) → length (ds ++ (if t then [] else 46 ∷ places k (n % 10 ^ k))) ≤ 30
-    by true = let w = whole_below n k h in let s = length-decimal-le 20 (n / 10 ^ k) (omega arith) (omega arith) w in let a = length-append ds [] in omega arith
-    by false = let w = whole_below n k h in let s = length-decimal-le 20 (n / 10 ^ k) (omega arith) (omega arith) w in let a = length-append ds (46 ∷ places k (n % 10 ^ k)) in let p = places_short k (n % 10 ^ k) in omega arith
+    by true =
+        let w = whole_below n k h in let s = length-decimal-le 20 (n / 10 ^ k) (omega arith)
+        (omega arith) w in let a = length-append ds [] in omega arith
+    by false =
+        let w = whole_below n k h in let s = length-decimal-le 20 (n / 10 ^ k) (omega arith) (omega arith) w in let a = length-append ds
+        (46 ∷ places k (n % 10 ^ k)) in let p = places_short k (n % 10 ^ k) in omega arith
 
 -- it begins with a digit
 record BeginsPlain (text : List ℕ) : Type 0 where
@@ -142,8 +172,14 @@ small_number negative n k l = by (nat_le (10 ^ (20 + k)) n) refl
     by false e = refl
 
 -- the digits of a size stand for it
-size_number : (negative : Bool) (n k : ℕ) → n < 2 ^ 64 → number_from negative (value_from 0 (decimal (n / 10 ^ k) ++ places k (n % 10 ^ k))) (length (places k (n % 10 ^ k))) ≡ least_number negative n k
-size_number negative n k h = ap (λ (m : ℕ). number_from negative m size) digits ∙ small_number negative value size small ∙ ap (λ (u : ℕ). Dec (signed negative u) (least_decimals value size)) (sym back.0) ∙ ap (λ (d : ℕ). Dec (signed negative (least_units n k)) d) (sym back.1)
+size_number : (negative : Bool) (n k : ℕ) → n < 2 ^ 64
+    → number_from negative (value_from 0 (decimal (n / 10 ^ k) ++ places k (n % 10 ^ k))) (length (places k (n % 10 ^ k)))
+    ≡ least_number negative n k
+size_number negative n k h =
+    ap (λ (m : ℕ). number_from negative m size) digits
+    ∙ small_number negative value size small
+    ∙ ap (λ (u : ℕ). Dec (signed negative u) (least_decimals value size)) (sym back.0)
+    ∙ ap (λ (d : ℕ). Dec (signed negative (least_units n k)) d) (sym back.1)
   where
     size : ℕ
     size = length (places k (n % 10 ^ k))
@@ -152,7 +188,9 @@ size_number negative n k h = ap (λ (m : ℕ). number_from negative m size) digi
     value = value_from (n / 10 ^ k) (places k (n % 10 ^ k))
 
     digits : value_from 0 (decimal (n / 10 ^ k) ++ places k (n % 10 ^ k)) ≡ value
-    digits = value_from-append 0 (decimal (n / 10 ^ k)) (places k (n % 10 ^ k)) ∙ ap (λ (m : ℕ). value_from m (places k (n % 10 ^ k))) (decimal_value (n / 10 ^ k) (whole_below n k h))
+    digits =
+        value_from-append 0 (decimal (n / 10 ^ k)) (places k (n % 10 ^ k))
+        ∙ ap (λ (m : ℕ). value_from m (places k (n % 10 ^ k))) (decimal_value (n / 10 ^ k) (whole_below n k h))
 
     parts : (t : ℕ) → n / t * t + n % t ≡ n
     parts t = omega arith
@@ -177,20 +215,25 @@ size_number negative n k h = ap (λ (m : ℕ). number_from negative m size) digi
         omega (arith, scaled)
 
 -- a text with a body that is a numeral is a number
-read_body : (negative : Bool) (text body : List ℕ) → without_sign text ≡ body → is_minus text ≡ negative → length text ≤ 32 → is_infinity body ≡ false → is_numeral body ≡ true
+read_body : (negative : Bool) (text body : List ℕ) → without_sign text ≡ body → is_minus text ≡ negative → length text ≤ 32
+    → is_infinity body ≡ false → is_numeral body ≡ true
     → (is_number text ≡ true) × (number_of text ≡ Some (number_from negative (fraction_of body).0 (fraction_of body).1))
 read_body negative text body without minus short finite numeral =
     let infinite = ap is_infinity without ∙ finite in
-    let number : is_number text ≡ true = and_from (nat_le (length text) 32) (is_infinity (without_sign text) || is_numeral (without_sign text)) (le-leb (length text) 32 short)
+    let number : is_number text ≡ true = and_from (nat_le (length text) 32)
+    (is_infinity (without_sign text) || is_numeral (without_sign text)) (le-leb (length text) 32 short)
     (ap (λ t. t || is_numeral (without_sign text)) infinite ∙ ap is_numeral without ∙ numeral) in (
       number,
-      ap (λ t. where_true t (if is_infinity (without_sign text) then Large (is_minus text) else number_from (is_minus text) (fraction_of (without_sign text)).0 (fraction_of (without_sign text)).1)) number
-          ∙ ap (λ t. Some (if t then Large (is_minus text) else number_from (is_minus text) (fraction_of (without_sign text)).0 (fraction_of (without_sign text)).1)) infinite
+      ap (λ t. where_true t (if is_infinity (without_sign text) then Large (is_minus text) else number_from (is_minus text)
+          (fraction_of (without_sign text)).0 (fraction_of (without_sign text)).1)) number
+          ∙ ap (λ t. Some (if t then Large (is_minus text) else number_from (is_minus text) (fraction_of (without_sign text)).0
+          (fraction_of (without_sign text)).1)) infinite
           ∙ ap (λ m. Some (number_from m (fraction_of (without_sign text)).0 (fraction_of (without_sign text)).1)) minus
           ∙ ap (λ b. Some (number_from negative (fraction_of b).0 (fraction_of b).1)) without,
     )
 
-signed_size : (negative : Bool) (text : List ℕ) (n k : ℕ) → n < 2 ^ 64 → k ≤ 9 → without_sign text ≡ size_text n k → is_minus text ≡ negative → length text ≤ 32
+signed_size : (negative : Bool) (text : List ℕ) (n k : ℕ) → n < 2 ^ 64 → k ≤ 9 → without_sign text ≡ size_text n k
+    → is_minus text ≡ negative → length text ≤ 32
     → (is_number text ≡ true) × (number_of text ≡ Some (least_number negative n k))
 signed_size negative text n k h most without minus short =
     let b = body_of n k h in
@@ -200,8 +243,11 @@ signed_size negative text n k h most without minus short =
     let some = decimal_some (n / 10 ^ k) w in
     let plain = begins_plain (decimal (n / 10 ^ k)) (if n % 10 ^ k == 0 then [] else 46 ∷ places k (n % 10 ^ k)) d some in
     let numeral = numeral_is (decimal (n / 10 ^ k)) (places k (n % 10 ^ k)) (size_text n k) b d e some in
-    let read = read_body negative text (size_text n k) without minus short plain.finite numeral in
-    (read.0, read.1 ∙ ap Some (fraction_is negative (decimal (n / 10 ^ k)) (places k (n % 10 ^ k)) (size_text n k) b ∙ size_number negative n k h))
+    let read = read_body negative text (size_text n k) without minus short plain.finite numeral in (
+      read.0,
+      read.1
+          ∙ ap Some (fraction_is negative (decimal (n / 10 ^ k)) (places k (n % 10 ^ k)) (size_text n k) b ∙ size_number negative n k h),
+    )
 
 abbrev pub is_below_zero : ℤ → Bool
 is_below_zero (pos n) = false
@@ -212,13 +258,16 @@ pub decimal_text_read : (z : ℤ) (k : ℕ) → unsigned_abs z < 2 ^ 64 → k �
     → (is_number (decimal_text z k) ≡ true) × (number_of (decimal_text z k) ≡ Some (least_number (is_below_zero z) (unsigned_abs z) k))
 decimal_text_read (pos n) k h most =
     let w = whole_below n k h in
-    let plain = begins_plain (decimal (n / 10 ^ k)) (if n % 10 ^ k == 0 then [] else 46 ∷ places k (n % 10 ^ k)) (decimal_digits (n / 10 ^ k) w) (decimal_some (n / 10 ^ k) w) in
+    let plain =
+    begins_plain (decimal (n / 10 ^ k)) (if n % 10 ^ k == 0 then [] else 46 ∷ places k (n % 10 ^ k)) (decimal_digits (n / 10 ^ k) w)
+    (decimal_some (n / 10 ^ k) w) in
     let short = size_short n k h most in
     signed_size false (size_text n k) n k h most plain.unsigned plain.positive (omega arith)
-decimal_text_read (negsuc n) k h most = let short = size_short (suc n) k h most in signed_size true (45 ∷ size_text (suc n) k) (suc n) k h most refl refl (omega arith)
+decimal_text_read (negsuc n) k h most =
+    let short = size_short (suc n) k h most in signed_size true (45 ∷ size_text (suc n) k) (suc n) k h most refl refl (omega arith)
 
 -- its number, in the units that were written, and its decimals
-pub decimal_text_units : (z : ℤ) (k : ℕ) → unsigned_abs z < 2 ^ 64 → k ≤ 9 → units k (number_at (decimal_text z k)) ≡ z
+pub decimal_text_units : (z : ℤ) (k : ℕ) → unsigned_abs z < 2 ^ 64 → k ≤ 9 → units k (number_or_zero (decimal_text z k)) ≡ z
 decimal_text_units z k h most = ap (λ o. units k (unwrap_or o (Dec (pos 0) 0))) (decimal_text_read z k h most).1 ∙ back z
   where
     times : (n : ℕ) (t : ℕ) → neg_ℤ (pos n) *ℤ pos t ≡ neg_ℤ (pos (n * t))
@@ -226,28 +275,35 @@ decimal_text_units z k h most = ap (λ o. units k (unwrap_or o (Dec (pos 0) 0)))
 
     back : (y : ℤ) → signed (is_below_zero y) (least_units (unsigned_abs y) k) *ℤ pos (10 ^ (k - least_decimals (unsigned_abs y) k)) ≡ y
     back (pos n) = ap pos (units_back n k)
-    back (negsuc n) = times (least_units (suc n) k) (10 ^ (k - least_decimals (suc n) k)) ∙ ap (λ (m : ℕ). neg_ℤ (pos m)) (units_back (suc n) k)
+    back (negsuc n) =
+        times (least_units (suc n) k) (10 ^ (k - least_decimals (suc n) k)) ∙ ap (λ (m : ℕ). neg_ℤ (pos m)) (units_back (suc n) k)
 
-pub decimal_text_decimals : (z : ℤ) (k : ℕ) → unsigned_abs z < 2 ^ 64 → k ≤ 9 → decimals_of (number_at (decimal_text z k)) ≡ least_decimals (unsigned_abs z) k
+pub decimal_text_decimals : (z : ℤ) (k : ℕ) → unsigned_abs z < 2 ^ 64 → k ≤ 9
+    → decimals_of (number_or_zero (decimal_text z k)) ≡ least_decimals (unsigned_abs z) k
 decimal_text_decimals z k h most = ap (λ o. decimals_of (unwrap_or o (Dec (pos 0) 0))) (decimal_text_read z k h most).1
 
-pub decimal_text_finite : (z : ℤ) (k : ℕ) → unsigned_abs z < 2 ^ 64 → k ≤ 9 → is_large (number_at (decimal_text z k)) ≡ false
+pub decimal_text_finite : (z : ℤ) (k : ℕ) → unsigned_abs z < 2 ^ 64 → k ≤ 9 → is_large (number_or_zero (decimal_text z k)) ≡ false
 decimal_text_finite z k h most = ap (λ o. is_large (unwrap_or o (Dec (pos 0) 0))) (decimal_text_read z k h most).1
 
 -- a whole number is a decimal text without decimals
 plain_size : (m : ℕ) → decimal m ≡ size_text m 0
-plain_size m = let w : m / 10 ^ 0 ≡ m = omega arith in let r : m % 10 ^ 0 ≡ 0 = omega arith in sym (ap (λ (y : ℕ). decimal y ++ (if m % 10 ^ 0 == 0 then [] else 46 ∷ [])) w ∙ ap (λ (y : ℕ). decimal m ++ (if y == 0 then [] else 46 ∷ [])) r ∙ append-nil (decimal m))
+plain_size m =
+    let w : m / 10 ^ 0 ≡ m = omega arith in let r : m % 10 ^ 0 ≡ 0 = omega arith in sym
+    (ap (λ (y : ℕ). decimal y ++ (if m % 10 ^ 0 == 0 then [] else 46 ∷ [])) w
+    ∙ ap (λ (y : ℕ). decimal m ++ (if y == 0 then [] else 46 ∷ [])) r
+    ∙ append-nil (decimal m))
 
 pub signed_decimal_is : (z : ℤ) → signed_decimal z ≡ decimal_text z 0
 signed_decimal_is (pos n) = plain_size n
 signed_decimal_is (negsuc n) = ap (λ l. 45 ∷ l) (plain_size (suc n))
 
 -- what is read of it
-pub signed_decimal_read : (z : ℤ) → unsigned_abs z < 2 ^ 64 → (is_number (signed_decimal z) ≡ true) × (number_at (signed_decimal z) ≡ Dec z 0)
+pub signed_decimal_read : (z : ℤ) → unsigned_abs z < 2 ^ 64
+    → (is_number (signed_decimal z) ≡ true) × (number_or_zero (signed_decimal z) ≡ Dec z 0)
 signed_decimal_read z h =
     let read = decimal_text_read z 0 h (omega arith) in (
       ap is_number (signed_decimal_is z) ∙ read.0,
-      ap number_at (signed_decimal_is z) ∙ ap (λ o. unwrap_or o (Dec (pos 0) 0)) read.1 ∙ ap (λ y. Dec y 0) (whole z),
+      ap number_or_zero (signed_decimal_is z) ∙ ap (λ o. unwrap_or o (Dec (pos 0) 0)) read.1 ∙ ap (λ y. Dec y 0) (whole z),
     )
   where
     whole : (y : ℤ) → signed (is_below_zero y) (least_units (unsigned_abs y) 0) ≡ y

@@ -5,10 +5,10 @@ use Rattle.std.specs.Int.RustNames.{unsigned_abs}
 use Rattle.std.proofs.Common.{refl, arith, ap, sym, ◌∙◌, subst, leb-false}
 use Rattle.std.proofs.lemmas.Bool.{ne_eqb, eqb-true, eqb-false, leb-true}
 use Rattle.ip_defs.specs.Limits.{AreOrdered, AreSmall, number_at as place_at}
-use Rattle.ip_defs.specs.Numbers.{decimal_text}
-use Rattle.ip_defs.specs.Records.{Entry}
-use Rattle.ip_defs.specs.TextModels.{number_at, units, written_at}
-use Rattle.ip_defs.specs.declared.texts.Number.{Number}
+use Rattle.mps_defs.specs.Numbers.{decimal_text}
+use Rattle.mps_defs.specs.Records.{Entry}
+use Rattle.mps_defs.specs.TextModels.{units, written_at, number_or_zero}
+use Rattle.mps_defs.specs.declared.texts.Number.{Number}
 use Rattle.text_laws.proofs.NumberTextLaws.{decimal_text_units}
 
 -- pairs whose numbers rise from one number on and stay below another, with values that are not 0
@@ -16,7 +16,8 @@ abbrev pub IsFrom : ℕ → ℕ → List (ℕ × ℤ) → Type 0
 IsFrom lo hi [] = ⊤
 IsFrom lo hi (p ∷ ps) = ((lo ≤ p.0) × (p.0 < hi)) × ((p.1 ≢ pos 0) × (unsigned_abs p.1 < 2 ^ 64)) × IsFrom (suc p.0) hi ps
 
-pub ordered_from : (n lo : ℕ) (ps : List (ℕ × ℤ)) → AreOrdered n ps → AreSmall (2 ^ 40) ps → ((i : ℕ) → i < length ps → lo ≤ place_at ps i) → IsFrom lo n ps
+pub ordered_from : (n lo : ℕ) (ps : List (ℕ × ℤ)) → AreOrdered n ps → AreSmall (2 ^ 40) ps → ((i : ℕ) → i < length ps → lo ≤ place_at ps i)
+    → IsFrom lo n ps
 ordered_from n lo [] o s b = tt
 ordered_from n lo (p ∷ ps) o s b =
     let inside : 0 < length (p ∷ ps) = omega arith in
@@ -28,24 +29,33 @@ ordered_from n lo (p ∷ ps) o s b =
     )
 
 -- no pair has a number below the first one
-find_above : (j lo hi : ℕ) (ps : List (ℕ × ℤ)) → IsFrom lo hi ps → j < lo → find (λ p. p.0 == j) ps ≡ None
+pub find_above : (j lo hi : ℕ) (ps : List (ℕ × ℤ)) → IsFrom lo hi ps → j < lo → find (λ p. p.0 == j) ps ≡ None
 find_above j lo hi [] h l = refl
 find_above j lo hi (p ∷ ps) h l =
     let low = h.0.0 in
     ap (λ t. cond t (Some p) (find (λ q. q.0 == j) ps)) (ne_eqb p.0 j (λ e. omega arith)) ∙ find_above j (suc p.0) hi ps h.2 (omega arith)
 
 abbrev shown : ℕ → Option (ℕ × ℤ) → Option Number
-shown k o = option_map (λ (p : ℕ × ℤ). number_at (decimal_text p.1 k)) o
+shown k o = option_map (λ (p : ℕ × ℤ). number_or_zero (decimal_text p.1 k)) o
 
 abbrev coefs_from : List Entry → List ℕ → ℕ → ℕ → List (List ℕ) → List (ℕ × ℤ)
-coefs_from es row k j cs = filter (λ (p : ℕ × ℤ). not (unsigned_abs p.1 == 0)) (map (λ (p : ℕ × Number). (p.0, units k p.1)) (filter_map (λ (p : ℕ × List ℕ). option_map (λ n. (p.0, n)) (written_at es row p.1)) (enumerate_from j cs)))
+coefs_from es row k j cs =
+    filter (λ (p : ℕ × ℤ). not (unsigned_abs p.1 == 0))
+    (map (λ (p : ℕ × Number). (p.0, units k p.1))
+    (filter_map (λ (p : ℕ × List ℕ). option_map (λ n. (p.0, n)) (written_at es row p.1)) (enumerate_from j cs)))
 
 one_more : (es : List Entry) (row : List ℕ) (k j : ℕ) (c : List ℕ) (cs : List (List ℕ)) (o : Option Number) → written_at es row c ≡ o
     → coefs_from es row k j (c ∷ cs) ≡ filter (λ (p : ℕ × ℤ). not (unsigned_abs p.1 == 0)) (map (λ (p : ℕ × Number). (p.0, units k p.1)) (cons_option (option_map (λ n. (j, n)) o) (filter_map (λ (p : ℕ × List ℕ). option_map (λ n. (p.0, n)) (written_at es row p.1)) (enumerate_from (suc j) cs))))
 one_more es row k j c cs o e =
     let next : j + 1 ≡ suc j = omega arith in
-    ap (λ u. filter (λ (p : ℕ × ℤ). not (unsigned_abs p.1 == 0)) (map (λ (p : ℕ × Number). (p.0, units k p.1)) (cons_option (option_map (λ n. (j, n)) u) (filter_map (λ (p : ℕ × List ℕ). option_map (λ n. (p.0, n)) (written_at es row p.1)) (enumerate_from (j + 1) cs))))) e
-    ∙ ap (λ i. filter (λ (p : ℕ × ℤ). not (unsigned_abs p.1 == 0)) (map (λ (p : ℕ × Number). (p.0, units k p.1)) (cons_option (option_map (λ n. (j, n)) o) (filter_map (λ (p : ℕ × List ℕ). option_map (λ n. (p.0, n)) (written_at es row p.1)) (enumerate_from i cs))))) next
+    ap (λ u. filter (λ (p : ℕ × ℤ). not (unsigned_abs p.1 == 0))
+    (map (λ (p : ℕ × Number). (p.0, units k p.1))
+    (cons_option (option_map (λ n. (j, n)) u)
+    (filter_map (λ (p : ℕ × List ℕ). option_map (λ n. (p.0, n)) (written_at es row p.1)) (enumerate_from (j + 1) cs))))) e
+    ∙ ap (λ i. filter (λ (p : ℕ × ℤ). not (unsigned_abs p.1 == 0))
+    (map (λ (p : ℕ × Number). (p.0, units k p.1))
+    (cons_option (option_map (λ n. (j, n)) o)
+    (filter_map (λ (p : ℕ × List ℕ). option_map (λ n. (p.0, n)) (written_at es row p.1)) (enumerate_from i cs))))) next
 
 some_size : (z : ℤ) → z ≢ pos 0 → (unsigned_abs z == 0) ≡ false
 some_size (pos zero) h = absurd (h refl)
@@ -53,13 +63,17 @@ some_size (pos (suc n)) h = ne_eqb (suc n) 0 (λ e. omega arith)
 some_size (negsuc n) h = ne_eqb (suc n) 0 (λ e. omega arith)
 
 pub coefs_read : (es : List Entry) (row : List ℕ) (k j : ℕ) (cs : List (List ℕ)) (ps : List (ℕ × ℤ)) → k ≤ 9 → IsFrom j (j + length cs) ps
-    → ((i : ℕ) (c : List ℕ) → slice_get cs i ≡ Some c → written_at es row c ≡ shown k (find (λ p. p.0 == j + i) ps)) → coefs_from es row k j cs ≡ ps
+    → ((i : ℕ) (c : List ℕ) → slice_get cs i ≡ Some c → written_at es row c ≡ shown k (find (λ p. p.0 == j + i) ps))
+    → coefs_from es row k j cs ≡ ps
 coefs_read es row k j [] [] most f h = refl
 coefs_read es row k j [] (p ∷ ps) most f h = absurd (let a = f.0.0 in let b = f.0.1 in omega arith)
 coefs_read es row k j (c ∷ cs) [] most f h =
     one_more es row k j c cs None (h 0 c refl) ∙ coefs_read es row k (suc j) cs [] most tt (λ i d e. h (suc i) d e)
 coefs_read es row k j (c ∷ cs) (p ∷ ps) most f h = by (p.0 == j) refl
-    (λ same. coefs_read es row k (suc j) cs ps most (subst (λ (x : ℕ). IsFrom x (suc j + length cs) ps) (ap suc same) (later (suc p.0) (j + length (c ∷ cs)) (suc j + length cs) ps f.2 (omega arith))) (λ i d e. h (suc i) d e ∙ skip i same))
+    (λ same. coefs_read es row k (suc j) cs ps most
+    (subst (λ (x : ℕ). IsFrom x (suc j + length cs) ps) (ap suc same)
+    (later (suc p.0) (j + length (c ∷ cs)) (suc j + length cs) ps f.2 (omega arith))) (λ i d e. h (suc i) d e
+    ∙ skip i same))
     (λ apart. coefs_read es row k (suc j) cs (p ∷ ps) most (up apart) (λ i d e. h (suc i) d e ∙ moved i))
   where
     later : (lo hi hi' : ℕ) (qs : List (ℕ × ℤ)) → IsFrom lo hi qs → hi ≡ hi' → IsFrom lo hi' qs
@@ -87,16 +101,19 @@ coefs_read es row k j (c ∷ cs) (p ∷ ps) most f h = by (p.0 == j) refl
     skip : (i : ℕ) → p.0 ≡ j → shown k (find (λ q. q.0 == j + suc i) (p ∷ ps)) ≡ shown k (find (λ q. q.0 == suc j + i) ps)
     skip i same =
         let e : j + suc i ≡ suc j + i = omega arith in
-        ap (λ t. shown k (cond t (Some p) (find (λ q. q.0 == j + suc i) ps))) (ne_eqb p.0 (j + suc i) (λ s. omega arith)) ∙ ap (λ (x : ℕ). shown k (find (λ q. q.0 == x) ps)) e
+        ap (λ t. shown k (cond t (Some p) (find (λ q. q.0 == j + suc i) ps))) (ne_eqb p.0 (j + suc i) (λ s. omega arith))
+        ∙ ap (λ (x : ℕ). shown k (find (λ q. q.0 == x) ps)) e
 
     start : find (λ q. q.0 == j + 0) (p ∷ ps) ≡ cond (p.0 == j) (Some p) (find (λ q. q.0 == j) ps)
     start = let e : j + 0 ≡ j = omega arith in ap (λ (x : ℕ). find (λ q. q.0 == x) (p ∷ ps)) e
 
-    by : (t : Bool) → (p.0 == j) ≡ t → (p.0 ≡ j → coefs_from es row k (suc j) cs ≡ ps) → ((p.0 ≡ j → ⊥) → coefs_from es row k (suc j) cs ≡ p ∷ ps) → coefs_from es row k j (c ∷ cs) ≡ p ∷ ps
+    by : (t : Bool) → (p.0 == j) ≡ t → (p.0 ≡ j → coefs_from es row k (suc j) cs ≡ ps)
+        → ((p.0 ≡ j → ⊥) → coefs_from es row k (suc j) cs ≡ p ∷ ps) → coefs_from es row k j (c ∷ cs) ≡ p ∷ ps
     by true e here there =
         let same = eqb-true p.0 j e in
         let value = decimal_text_units p.1 k f.1.1 most in
-        one_more es row k j c cs (Some (number_at (decimal_text p.1 k))) (h 0 c refl ∙ ap (shown k) (start ∙ ap (λ t. cond t (Some p) (find (λ q. q.0 == j) ps)) e))
+        one_more es row k j c cs (Some (number_or_zero (decimal_text p.1 k)))
+        (h 0 c refl ∙ ap (shown k) (start ∙ ap (λ t. cond t (Some p) (find (λ q. q.0 == j) ps)) e))
         ∙ ap (λ (z : ℤ). cond (not (unsigned_abs z == 0)) ((j, z) ∷ coefs_from es row k (suc j) cs) (coefs_from es row k (suc j) cs)) value
         ∙ ap (λ t. cond (not t) ((j, p.1) ∷ coefs_from es row k (suc j) cs) (coefs_from es row k (suc j) cs)) (some_size p.1 f.1.0)
         ∙ ap (λ l. (j, p.1) ∷ l) (here same)
@@ -104,5 +121,9 @@ coefs_read es row k j (c ∷ cs) (p ∷ ps) most f h = by (p.0 == j) refl
     by false e here there =
         let apart : p.0 ≡ j → ⊥ = λ s. eqb-false p.0 j e s in
         let low = f.0.0 in
-        one_more es row k j c cs None (h 0 c refl ∙ ap (shown k) (start ∙ ap (λ t. cond t (Some p) (find (λ q. q.0 == j) ps)) e ∙ find_above j (suc p.0) (j + length (c ∷ cs)) ps f.2 (omega arith)))
+        one_more es row k j c cs None
+        (h 0 c refl
+        ∙ ap (shown k) (start
+        ∙ ap (λ t. cond t (Some p) (find (λ q. q.0 == j) ps)) e
+        ∙ find_above j (suc p.0) (j + length (c ∷ cs)) ps f.2 (omega arith)))
         ∙ there apart

@@ -1,25 +1,24 @@
 -- A printable program that was read of a text without a fault is canonical, so that its canonical text is read as the same program.
-use Rattle.std.specs.Prelude.{◌≡◌, ℕ, zero, suc, ◌≤◌, nat_le, Bool, true, false, ◌&&◌, not, cond, if◌then◌else◌, List, [], ◌∷◌, ◌++◌, length, map, filter, flat_map, find, Option, None, Some, option_map, unwrap_or, slice_get, bytes_eq, codes}
+use Rattle.std.specs.Prelude.{◌≡◌, ℕ, ◌≤◌, Bool, true, false, ◌&&◌, not, cond, if◌then◌else◌, List, [], ◌∷◌, ◌++◌, map, filter, flat_map, find, Option, None, Some, option_map, unwrap_or, bytes_eq, codes}
 use Rattle.std.specs.Option.{is_none}
 use Rattle.std.specs.Str.{is_utf8}
 use Rattle.std.proofs.Common.{refl, ap, sym, ◌∙◌, subst}
 use Rattle.std.proofs.lemmas.Str.{is_utf8-from_IsUtf8}
-use Rattle.ip_defs.specs.Lists.{first_of, when, with_earlier}
+use Rattle.ip_defs.specs.Lists.{first_of, when, Each}
+use Rattle.mps_defs.specs.Lists.{with_earlier, AreDistinct}
 use Rattle.ip_defs.specs.Limits.{IsRow, IsWithinLimits, limits_of}
-use Rattle.ip_defs.specs.Records.{Line, lines_of, row_lines, row_kind, row_name, is_free, objective, column_lines, column_name, column_names, first_lines, has_column}
-use Rattle.ip_defs.specs.TextModels.{largest, row_decimals, row_from, column_from, model_from}
-use Rattle.ip_defs.specs.Faults.{all_line_faults, is_ended, continuous_faults, bound_missing, upper_faults, limit_faults, faults_of_lines, mps_fault, model_of}
+use Rattle.mps_defs.specs.Records.{is_new_column, Line, lines_of, row_lines, row_kind, row_name, is_free, objective, column_name, column_names, first_lines}
+use Rattle.mps_defs.specs.TextModels.{largest, row_decimals, row_from, column_from, model_from}
+use Rattle.mps_defs.specs.Faults.{all_line_faults, is_ended, continuous_faults, bound_missing, upper_faults, limit_faults, faults_of_lines, mps_fault, model_of}
 use Rattle.ip_defs.specs.declared.programs.Column.{Column}
 use Rattle.ip_defs.specs.declared.programs.Row.{Row}
 use Rattle.ip_defs.specs.declared.programs.Parts.{Parts}
 use Rattle.ip_defs.specs.declared.limits.Limit as Passing
-use Rattle.ip_defs.specs.declared.texts.How.{How}
-use Rattle.ip_defs.specs.declared.texts.MpsError.{MpsError}
-use Rattle.ip_defs.specs.declared.texts.MpsError.TheVariants.{NoEnd, NoObjective, NotUtf8, Limit}
+use Rattle.mps_defs.specs.declared.texts.How.{How}
+use Rattle.mps_defs.specs.declared.texts.MpsError.TheVariants.{NoEnd, NoObjective, NotUtf8, Limit}
 use Rattle.ip_model.proofs.LimitLaws.{within_limits}
-use Rattle.text_laws.specs.ReadBack.{AreDistinct, HasLeastDecimals, HasTextNames, IsCanonical, ModelsReadAreCanonical, ModelsReadArePrintedAndReadBack, needed_decimals, row_amounts}
-use Rattle.text_laws.proofs.ListLaws.{Each, none_left, none_when}
-use Rattle.text_laws.proofs.EachLaws.{each_weaker, each_get, each_filter, each_of_map, each_those}
+use Rattle.text_laws.specs.ReadBack.{HasLeastDecimals, HasTextNames, IsCanonical, ModelsReadAreCanonical, ModelsReadArePrintedAndReadBack, needed_decimals, row_amounts}
+use Rattle.text_laws.proofs.EachLaws.{each_filter, each_of_map, each_those}
 use Rattle.text_laws.proofs.Utf8ReadLaws.{IsTextLine, lines_utf8, field_utf8}
 use Rattle.text_laws.proofs.SoundLaws.{sound_read}
 use Rattle.text_laws.proofs.DistinctReadLaws.{columns_distinct, row_names_distinct}
@@ -27,6 +26,8 @@ use Rattle.text_laws.proofs.LeastDecimalLaws.{AreRead, entries_read, row_least, 
 use Rattle.text_laws.proofs.ShapeReadLaws.{well_shaped}
 use Rattle.text_laws.proofs.ModelReadLaws.{model_read}
 use Rattle.text_laws.proofs.NoFaultLaws.{none_found}
+use Rattle.ip_defs.proofs.ListLaws.{each_weaker, each_get, none_append, none_when, no_first}
+use Rattle.mps_defs.proofs.ListLaws.{get_from_map}
 
 -- what it says of a text that it has no fault
 record IsFaultless (text : List ℕ) (how : How) : Type 0 where
@@ -34,10 +35,6 @@ record IsFaultless (text : List ℕ) (how : How) : Type 0 where
   lines : all_line_faults (lines_of text) ≡ []
   objective : (l : Line) × (find is_free (row_lines (lines_of text)) ≡ Some l)
   limits : limits_of (model_of text how) ≡ []
-
-no_first : (fs : List MpsError) → first_of fs ≡ None → fs ≡ []
-no_first [] e = refl
-no_first (f ∷ fs) e = absurd cc
 
 no_limits : (m : Parts) → limit_faults m ≡ [] → limits_of m ≡ []
 no_limits m e = by (limits_of m) e
@@ -61,12 +58,12 @@ faultless text how none = by (is_utf8 text) refl none
         let continuous = flat_map (continuous_faults ls) names in
         let bounds = flat_map (bound_missing ls how) names in
         let uppers = flat_map (upper_faults ls) names in
-        let g = none_left (first ++ end ++ aim ++ continuous ++ bounds ++ uppers) (limit_faults (model_from ls how)) e in
-        let f = none_left (first ++ end ++ aim ++ continuous ++ bounds) uppers g.0 in
-        let d = none_left (first ++ end ++ aim ++ continuous) bounds f.0 in
-        let c = none_left (first ++ end ++ aim) continuous d.0 in
-        let b = none_left (first ++ end) aim c.0 in
-        let a = none_left first end b.0 in
+        let g = none_append (first ++ end ++ aim ++ continuous ++ bounds ++ uppers) (limit_faults (model_from ls how)) e in
+        let f = none_append (first ++ end ++ aim ++ continuous ++ bounds) uppers g.0 in
+        let d = none_append (first ++ end ++ aim ++ continuous) bounds f.0 in
+        let c = none_append (first ++ end ++ aim) continuous d.0 in
+        let b = none_append (first ++ end) aim c.0 in
+        let a = none_append first end b.0 in
         record {
           valid = valid;
           lines = a.0;
@@ -74,8 +71,11 @@ faultless text how none = by (is_utf8 text) refl none
           limits = no_limits (model_from ls how) g.1;
         }
       where
-        there : (o : Option Line) → find is_free (row_lines ls) ≡ o → is_none (option_map row_name (find is_free (row_lines ls))) ≡ false → (l : Line) × (find is_free (row_lines ls) ≡ Some l)
-        there None at some = absurd (let no : is_none (option_map row_name (find is_free (row_lines ls))) ≡ true = ap (λ o. is_none (option_map row_name o)) at in cc)
+        there : (o : Option Line) → find is_free (row_lines ls) ≡ o → is_none (option_map row_name (find is_free (row_lines ls))) ≡ false
+            → (l : Line) × (find is_free (row_lines ls) ≡ Some l)
+        there None at some =
+            absurd (let no : is_none (option_map row_name (find is_free (row_lines ls))) ≡ true = ap
+            (λ o. is_none (option_map row_name o)) at in cc)
         there (Some l) at some = (l, at)
 
     by : (t : Bool) → is_utf8 text ≡ t → (if t then first_of (faults_of_lines ls how) else Some NotUtf8) ≡ None → IsFaultless text how
@@ -92,20 +92,27 @@ find_each {A} P test (y ∷ ys) x all at = by (test y) at (λ g. find_each P tes
     by true e later = let same : y ≡ x = cc in subst P same all.0
     by false e later = later e
 
-names_back : {A : Type 0} (named : A → List ℕ) (made : List ℕ → A) → ((n : List ℕ) → named (made n) ≡ n) → (ns : List (List ℕ)) → map named (map made ns) ≡ ns
+names_back : {A : Type 0} (named : A → List ℕ) (made : List ℕ → A) → ((n : List ℕ) → named (made n) ≡ n) → (ns : List (List ℕ))
+    → map named (map made ns) ≡ ns
 names_back named made h [] = refl
 names_back named made h (n ∷ ns) = ap (λ m. m ∷ map named (map made ns)) (h n) ∙ ap (λ ms. n ∷ ms) (names_back named made h ns)
 
-rows_back : (how : How) (ls ks : List Line) → map (λ (r : Row). r.name) (map (λ l. row_from ls how (row_kind l) (row_name l)) ks) ≡ map row_name ks
+rows_back : (how : How) (ls ks : List Line)
+    → map (λ (r : Row). r.name) (map (λ l. row_from ls how (row_kind l) (row_name l)) ks) ≡ map row_name ks
 rows_back how ls [] = refl
 rows_back how ls (k ∷ ks) = ap (λ ms. row_name k ∷ ms) (rows_back how ls ks)
 
 text_names : (text : List ℕ) (how : How) → IsFaultless text how → HasTextNames (model_of text how)
 text_names text how h = record {
-  objective = ap (λ o. is_utf8 (unwrap_or (option_map row_name o) [])) (h.objective).1 ∙ is_utf8-from_IsUtf8 (row_name (h.objective).0) (field_utf8 (h.objective).0 1 (find_each IsTextLine is_free (row_lines ls) (h.objective).0 rows (h.objective).1));
-  columns = λ j c at. each_get (λ (x : Column). is_utf8 x.name ≡ true) (map column (column_names ls)) j c (each_of_map (λ (x : Column). is_utf8 x.name ≡ true) column (column_names ls) names) at;
+  objective = ap (λ o. is_utf8 (unwrap_or (option_map row_name o) [])) (h.objective).1
+      ∙ is_utf8-from_IsUtf8 (row_name (h.objective).0)
+      (field_utf8 (h.objective).0 1 (find_each IsTextLine is_free (row_lines ls) (h.objective).0 rows (h.objective).1));
+  columns = λ j c at. each_get (λ (x : Column). is_utf8 x.name ≡ true) (map column (column_names ls)) j c
+      (each_of_map (λ (x : Column). is_utf8 x.name ≡ true) column (column_names ls) names) at;
   rows = λ i r at. each_get (λ (x : Row). is_utf8 x.name ≡ true) (map row bound) i r
-      (each_of_map (λ (x : Row). is_utf8 x.name ≡ true) row bound (each_weaker IsTextLine (λ l. is_utf8 (row_name l) ≡ true) bound (λ l f. is_utf8-from_IsUtf8 (row_name l) (field_utf8 l 1 f)) (each_filter IsTextLine (λ l. not (is_free l)) (row_lines ls) rows))) at;
+      (each_of_map (λ (x : Row). is_utf8 x.name ≡ true) row bound
+      (each_weaker IsTextLine (λ l. is_utf8 (row_name l) ≡ true) bound (λ l f. is_utf8-from_IsUtf8 (row_name l) (field_utf8 l 1 f))
+      (each_filter IsTextLine (λ l. not (is_free l)) (row_lines ls) rows))) at;
 }
   where
     ls : List Line
@@ -128,16 +135,11 @@ text_names text how h = record {
 
     names : Each (λ n. is_utf8 n ≡ true) (column_names ls)
     names = each_of_map (λ n. is_utf8 n ≡ true) (λ (p : List Line × Line). column_name p.1) (first_lines ls)
-        (each_filter (λ (p : List Line × Line). is_utf8 (column_name p.1) ≡ true) (λ p. nat_le 1 (length (column_lines (p.1 ∷ []))) && not (has_column p.0 (column_name p.1))) (with_earlier ls)
-        (each_weaker (λ (p : List Line × Line). IsTextLine p.1) (λ p. is_utf8 (column_name p.1) ≡ true) (with_earlier ls) (λ p f. is_utf8-from_IsUtf8 (column_name p.1) (field_utf8 p.1 0 f)) (each_those IsTextLine [] ls all)))
+        (each_filter (λ (p : List Line × Line). is_utf8 (column_name p.1) ≡ true) (λ p. is_new_column p.0 p.1) (with_earlier ls)
+        (each_weaker (λ (p : List Line × Line). IsTextLine p.1) (λ p. is_utf8 (column_name p.1) ≡ true) (with_earlier ls)
+        (λ p f. is_utf8-from_IsUtf8 (column_name p.1) (field_utf8 p.1 0 f)) (each_those IsTextLine [] ls all)))
 
 -- ---- the law
-
--- an element of a mapped list is one that was mapped
-mapped_from : {A B : Type 0} (f : A → B) (xs : List A) (i : ℕ) (y : B) → slice_get (map f xs) i ≡ Some y → (x : A) × (f x ≡ y)
-mapped_from f [] i y at = absurd cc
-mapped_from f (x ∷ xs) zero y at = (x, cc)
-mapped_from f (x ∷ xs) (suc i) y at = mapped_from f xs i y at
 
 pub models_canonical : ModelsReadAreCanonical
 models_canonical text how digits none printable = record {
@@ -145,13 +147,16 @@ models_canonical text how digits none printable = record {
   limits = limits;
   texts = text_names text how h;
   columns = subst AreDistinct (sym (names_back (λ (c : Column). c.name) column (λ n. refl) (column_names ls))) (columns_distinct ls);
-  rows = subst AreDistinct (ap (λ o. row_name l ∷ o) (sym (rows_back how ls bound)) ∙ ap (λ o. unwrap_or (option_map row_name o) [] ∷ map (λ (r : Row). r.name) (map row bound)) (sym at)) (row_names_distinct ls l (sound_read text h.lines) at);
+  rows = subst AreDistinct
+      (ap (λ o. row_name l ∷ o) (sym (rows_back how ls bound))
+      ∙ ap (λ o. unwrap_or (option_map row_name o) [] ∷ map (λ (r : Row). r.name) (map row bound)) (sym at)) (row_names_distinct ls l
+      (sound_read text h.lines) at);
   digits = digits;
   decimals = record {
     costs = cost_least ls how read (row_name l) (ap (option_map row_name) at);
-    rows = λ i r g. (let made = mapped_from row bound i r g in
-        subst (λ (x : Row). x.decimals ≡ largest how.digits (map (needed_decimals x.decimals) (row_amounts x))) made.1
-        (row_least ls how (row_kind made.0) (row_name made.0) read (subst IsRow (sym made.1) (limits.rows i r g))));
+    rows = λ i r g. (let made = get_from_map row bound i r g in
+        subst (λ (x : Row). x.decimals ≡ largest how.digits (map (needed_decimals x.decimals) (row_amounts x))) made.2
+        (row_least ls how (row_kind made.0) (row_name made.0) read (subst IsRow (sym made.2) (limits.rows i r g))));
   };
 }
   where

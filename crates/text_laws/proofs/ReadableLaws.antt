@@ -1,5 +1,5 @@
 -- Each line of the canonical text of a printable program within its limits can be read back, and ENDATA is the last one.
-use Rattle.std.specs.Prelude.{◌≡◌, ℕ, zero, suc, ◌+◌, ◌/◌, ◌%◌, ◌^◌, ◌<◌, ◌≤◌, ◌==◌, Bool, true, false, ◌&&◌, ◌||◌, not, cond, if◌then◌else◌, List, [], ◌∷◌, ◌++◌, length, map, flat_map, find, Option, None, Some, slice_get, bytes_eq, codes, decimal, ℤ, pos, negsuc, neg_ℤ, ◌-ℤ◌}
+use Rattle.std.specs.Prelude.{◌≡◌, ℕ, zero, suc, ◌/◌, ◌%◌, ◌^◌, ◌<◌, ◌≤◌, ◌==◌, Bool, true, false, ◌&&◌, ◌||◌, not, cond, if◌then◌else◌, List, [], ◌∷◌, ◌++◌, length, map, flat_map, find, Option, None, Some, slice_get, bytes_eq, codes, decimal, ℤ, pos, negsuc, neg_ℤ, ◌-ℤ◌}
 use Rattle.std.specs.Fmt.{signed_decimal}
 use Rattle.std.specs.List.{list_any, list_all, enumerate_from}
 use Rattle.std.specs.Option.{option_map_or, ForSome}
@@ -10,30 +10,28 @@ use Rattle.std.proofs.lemmas.Bool.{and_from, ne_eqb}
 use Rattle.std.proofs.lemmas.Int.{ints}
 use Rattle.std.proofs.lemmas.List.Folds.{list_any-append}
 use Rattle.std.proofs.Math.Nat.{div-le_self}
-use Rattle.decimals.proofs.NumberLaws.{both_true}
-use Rattle.decimals.proofs.DecimalLaws.{ten_positive}
-use Rattle.ip_defs.specs.Lists.{when}
+use Rattle.ip_defs.specs.Lists.{when, Each}
 use Rattle.ip_defs.specs.Limits.{IsWithinLimits, AreSmall}
-use Rattle.ip_defs.specs.Numbers.{decimal_text, size_text, places, is_digit}
-use Rattle.ip_defs.specs.Texts.{Written, head, pair, triple, bound, kind_text, is_equation, is_from_below, coef_line, column_block, columns_block, right_side, rhs_line, constant_line, range_line, written_text, canonical_text, is_printable, is_printable_name, is_crossed, value_text}
-use Rattle.ip_defs.specs.Records.{lines_of}
+use Rattle.mps_defs.specs.Numbers.{decimal_text, size_text, places, is_digit}
+use Rattle.mps_defs.specs.CanonicalText.{Written, head, pair, triple, bound, kind_text, is_equation, is_from_below, coef_line, column_block, columns_block, right_side, rhs_line, constant_line, range_line, written_text, canonical_text, is_printable, is_printable_name, value_text, is_separator, side_line, width_line}
+use Rattle.ip_defs.specs.Program.{is_crossed}
+use Rattle.mps_defs.specs.Records.{lines_of}
 use Rattle.ip_defs.specs.declared.programs.Column.{Column}
 use Rattle.ip_defs.specs.declared.programs.Row.{Row}
 use Rattle.ip_defs.specs.declared.programs.Parts.{Parts}
-use Rattle.text_laws.proofs.Lines.{is_field, is_readable, is_last}
+use Rattle.text_laws.proofs.WrittenLaws.{is_field, is_readable, is_last}
 use Rattle.text_laws.proofs.NumeralLaws.{digit_range, decimal_digits, decimal_some, places_digits, none_among}
-use Rattle.text_laws.proofs.ListLaws.{Each}
 use Rattle.text_laws.proofs.NumberTextLaws.{signed_decimal_is}
 use Rattle.text_laws.proofs.LineTextLaws.{AreReadable, EndsOnce, text_lines}
 use Rattle.text_laws.proofs.SectionLaws.{Sections, AreSections, AreItems, section_lines, lines_in, after_rows, after_columns, after_right_sides, after_ranges, after_bounds}
 use Rattle.text_laws.proofs.CanonicalLaws.{sections_of, canonical_sections, are_sections}
+use Rattle.ip_defs.proofs.BoolLaws.{both_true}
+use Rattle.ip_defs.proofs.ListLaws.{each_numbered}
+use Rattle.mps_defs.proofs.NumberLaws.{ten_positive}
 
 -- ---- number texts are fields
 
-abbrev is_odd : ℕ → Bool
-is_odd b = (b == 32) || (b == 9) || (b == 13) || (b == 10)
-
-digit_even : (b : ℕ) → is_digit b ≡ true → is_odd b ≡ false
+digit_even : (b : ℕ) → is_digit b ≡ true → is_separator b ≡ false
 digit_even b e =
     let r = digit_range b e in
     ap (λ t. t || (b == 9) || (b == 13) || (b == 10)) (ne_eqb b 32 (λ s. omega (arith, r)))
@@ -41,19 +39,21 @@ digit_even b e =
     ∙ ap (λ t. t || (b == 10)) (ne_eqb b 13 (λ s. omega (arith, r)))
     ∙ ne_eqb b 10 (λ s. omega (arith, r))
 
-size_even : (n k : ℕ) → n < 2 ^ 64 → list_any is_odd (size_text n k) ≡ false
+size_even : (n k : ℕ) → n < 2 ^ 64 → list_any is_separator (size_text n k) ≡ false
 size_even n k h =
     let w : n / 10 ^ k < 2 ^ 64 = let e = div-le_self n (10 ^ k) in omega arith in
-    list_any-append is_odd (decimal (n / 10 ^ k)) (if n % 10 ^ k == 0 then [] else 46 ∷ places k (n % 10 ^ k))
-    ∙ ap (λ t. t || list_any is_odd (if n % 10 ^ k == 0 then [] else 46 ∷ places k (n % 10 ^ k))) (none_among is_odd (decimal (n / 10 ^ k)) digit_even (decimal_digits (n / 10 ^ k) w))
+    list_any-append is_separator (decimal (n / 10 ^ k)) (if n % 10 ^ k == 0 then [] else 46 ∷ places k (n % 10 ^ k))
+    ∙ ap (λ t. t || list_any is_separator (if n % 10 ^ k == 0 then [] else 46 ∷ places k (n % 10 ^ k)))
+    (none_among is_separator (decimal (n / 10 ^ k)) digit_even (decimal_digits (n / 10 ^ k) w))
     ∙ by (n % 10 ^ k == 0)
   where
-    by : (t : Bool) → list_any is_odd (if t then [] else 46 ∷ places k (n % 10 ^ k)) ≡ false
+    by : (t : Bool) → list_any is_separator (if t then [] else 46 ∷ places k (n % 10 ^ k)) ≡ false
     by true = refl
-    by false = none_among is_odd (places k (n % 10 ^ k)) digit_even (places_digits k (n % 10 ^ k) (let p = ten_positive k in omega arith))
+    by false =
+        none_among is_separator (places k (n % 10 ^ k)) digit_even (places_digits k (n % 10 ^ k) (let p = ten_positive k in omega arith))
 
-field_from : (f : List ℕ) → (length f ≡ 0 → ⊥) → list_any is_odd f ≡ false → is_field f ≡ true
-field_from f some e = and_from (not (length f == 0)) (not (list_any is_odd f)) (ap not (ne_eqb (length f) 0 some)) (ap not e)
+field_from : (f : List ℕ) → (length f ≡ 0 → ⊥) → list_any is_separator f ≡ false → is_field f ≡ true
+field_from f some e = and_from (not (length f == 0)) (not (list_any is_separator f)) (ap not (ne_eqb (length f) 0 some)) (ap not e)
 
 some_before : (xs ys : List ℕ) → 1 ≤ length xs → length (xs ++ ys) ≡ 0 → ⊥
 some_before [] ys l e = omega arith
@@ -62,7 +62,9 @@ some_before (x ∷ xs) ys l e = omega arith
 pub number_field : (z : ℤ) (k : ℕ) → unsigned_abs z < 2 ^ 64 → is_field (decimal_text z k) ≡ true
 number_field (pos n) k h =
     let w : n / 10 ^ k < 2 ^ 64 = let e = div-le_self n (10 ^ k) in omega arith in
-    field_from (size_text n k) (some_before (decimal (n / 10 ^ k)) (if n % 10 ^ k == 0 then [] else 46 ∷ places k (n % 10 ^ k)) (decimal_some (n / 10 ^ k) w)) (size_even n k h)
+    field_from (size_text n k)
+    (some_before (decimal (n / 10 ^ k)) (if n % 10 ^ k == 0 then [] else 46 ∷ places k (n % 10 ^ k)) (decimal_some (n / 10 ^ k) w))
+    (size_even n k h)
 number_field (negsuc n) k h = field_from (45 ∷ size_text (suc n) k) (λ e. omega arith) (size_even (suc n) k h)
 
 pub bound_field : (z : ℤ) → unsigned_abs z < 2 ^ 64 → is_field (signed_decimal z) ≡ true
@@ -70,8 +72,9 @@ bound_field z h = ap is_field (signed_decimal_is z) ∙ number_field z 0 h
 
 pub name_field : (name : List ℕ) → is_printable_name name ≡ true → is_field name ≡ true
 name_field name e =
-    let h = both_true (not (length name == 0) && not (bytes_eq name (codes "'MARKER'"))) (not (list_any is_odd name)) e in
-    and_from (not (length name == 0)) (not (list_any is_odd name)) (both_true (not (length name == 0)) (not (bytes_eq name (codes "'MARKER'"))) h.0).0 h.1
+    let h = both_true (not (length name == 0) && not (bytes_eq name (codes "'MARKER'"))) (not (list_any is_separator name)) e in
+    and_from (not (length name == 0)) (not (list_any is_separator name))
+    (both_true (not (length name == 0)) (not (bytes_eq name (codes "'MARKER'"))) h.0).0 h.1
 
 -- ---- what a program's parts are
 
@@ -110,15 +113,34 @@ small_coefs (p ∷ ps) h = (let here = h 0 (omega arith) in omega arith, small_c
 
 pub program_text : (m : Parts) → is_printable m ≡ true → IsWithinLimits m → IsProgramText m
 program_text m e w =
-    let first = both_true (not (list_any is_crossed m.rows) && is_printable_name m.objective && list_all (λ c. is_printable_name c.name) m.columns) (list_all (λ r. is_printable_name r.name) m.rows) e in
-    let second = both_true (not (list_any is_crossed m.rows) && is_printable_name m.objective) (list_all (λ c. is_printable_name c.name) m.columns) first.0 in
+    let first =
+    both_true (not (list_any is_crossed m.rows) && is_printable_name m.objective && list_all (λ c. is_printable_name c.name) m.columns)
+    (list_all (λ r. is_printable_name r.name) m.rows) e in
+    let second =
+    both_true (not (list_any is_crossed m.rows) && is_printable_name m.objective)
+    (list_all (λ c. is_printable_name c.name) m.columns) first.0 in
     let third = both_true (not (list_any is_crossed m.rows)) (is_printable_name m.objective) second.0 in
     record {
       objective = third.1;
       decimals = w.shape.decimals;
       constant = let l = w.constant in omega arith;
-      columns = all_from IsColumnText m.columns (λ i c at. let l = w.columns i c at in record { name = listed (λ x. is_printable_name x.name) m.columns second.1 i c at; cost = omega (arith, l.cost); lo = omega (arith, l.lo); hi = omega (arith, l.hi) });
-      rows = all_from IsRowText m.rows (λ i r at. let l = w.rows i r at in record { name = listed (λ x. is_printable_name x.name) m.rows first.1 i r at; decimals = (w.shape.rows i r at).decimals; coefs = small_coefs r.coefs l.coefs; low = l.low; high = l.high });
+      columns = all_from IsColumnText m.columns
+          (λ i c at. let l = w.columns i c at in record {
+            name = listed (λ x. is_printable_name x.name) m.columns second.1 i c at;
+            cost = omega
+                (arith, l.cost);
+            lo = omega (arith, l.lo);
+            hi = omega (arith, l.hi);
+          });
+      rows = all_from IsRowText m.rows
+          (λ i r at. let l = w.rows i r at in record {
+            name = listed (λ x. is_printable_name x.name) m.rows first.1 i r at;
+            decimals =
+                (w.shape.rows i r at).decimals;
+            coefs = small_coefs r.coefs l.coefs;
+            low = l.low;
+            high = l.high;
+          });
     }
 
 -- ---- readable lines
@@ -127,11 +149,13 @@ readable_append : (xs ys : List Written) → AreReadable xs → AreReadable ys �
 readable_append [] ys h k = k
 readable_append (x ∷ xs) ys h k = (h.0, readable_append xs ys h.1 k)
 
-readable_flat : {A : Type 0} (P : A → Type 0) (f : A → List Written) (xs : List A) → Each P xs → ((x : A) → P x → AreReadable (f x)) → AreReadable (flat_map f xs)
+readable_flat : {A : Type 0} (P : A → Type 0) (f : A → List Written) (xs : List A) → Each P xs → ((x : A) → P x → AreReadable (f x))
+    → AreReadable (flat_map f xs)
 readable_flat P f [] all h = tt
 readable_flat P f (x ∷ xs) all h = readable_append (f x) (flat_map f xs) (h x all.0) (readable_flat P f xs all.1 h)
 
-readable_map : {A : Type 0} (P : A → Type 0) (f : A → Written) (xs : List A) → Each P xs → ((x : A) → P x → is_readable (f x) ≡ true) → AreReadable (map f xs)
+readable_map : {A : Type 0} (P : A → Type 0) (f : A → Written) (xs : List A) → Each P xs → ((x : A) → P x → is_readable (f x) ≡ true)
+    → AreReadable (map f xs)
 readable_map P f [] all h = tt
 readable_map P f (x ∷ xs) all h = (h x all.0, readable_map P f xs all.1 h)
 
@@ -139,27 +163,32 @@ readable_when : (t : Bool) (w : Written) → is_readable w ≡ true → AreReada
 readable_when true w e = (e, tt)
 readable_when false w e = tt
 
-pub all_enumerated : {A : Type 0} (P : A → Type 0) (n : ℕ) (xs : List A) → Each P xs → Each (λ p. P p.1) (enumerate_from n xs)
-all_enumerated P n [] h = tt
-all_enumerated P n (x ∷ xs) h = (h.0, all_enumerated P (n + 1) xs h.1)
-
 three : (a b c : List ℕ) → is_field a ≡ true → is_field b ≡ true → is_field c ≡ true → is_readable (triple a b c) ≡ true
-three a b c e f g = and_from (is_field a) (is_field b && (is_field c && true)) e (and_from (is_field b) (is_field c && true) f (and_from (is_field c) true g refl))
+three a b c e f g =
+    and_from (is_field a) (is_field b && (is_field c && true)) e
+    (and_from (is_field b) (is_field c && true) f (and_from (is_field c) true g refl))
 
-pub found_small : (ps : List (ℕ × ℤ)) (test : ℕ × ℤ → Bool) (p : ℕ × ℤ) → Each (λ q. unsigned_abs q.1 < 2 ^ 64) ps → find test ps ≡ Some p → unsigned_abs p.1 < 2 ^ 64
+pub found_small : (ps : List (ℕ × ℤ)) (test : ℕ × ℤ → Bool) (p : ℕ × ℤ) → Each (λ q. unsigned_abs q.1 < 2 ^ 64) ps → find test ps ≡ Some p
+    → unsigned_abs p.1 < 2 ^ 64
 found_small [] test p all e = absurd cc
 found_small (q ∷ qs) test p all e = by (test q) e (found_small qs test p all.1)
   where
-    by : (t : Bool) → cond t (Some q) (find test qs) ≡ Some p → (find test qs ≡ Some p → unsigned_abs p.1 < 2 ^ 64) → unsigned_abs p.1 < 2 ^ 64
+    by : (t : Bool) → cond t (Some q) (find test qs) ≡ Some p → (find test qs ≡ Some p → unsigned_abs p.1 < 2 ^ 64)
+        → unsigned_abs p.1 < 2 ^ 64
     by true f rest = let same : q ≡ p = cc in subst (λ (x : ℕ × ℤ). unsigned_abs x.1 < 2 ^ 64) same all.0
     by false f rest = rest f
 
 coef_readable : (j : ℕ) (name : List ℕ) (r : Row) → is_field name ≡ true → IsRowText r → AreReadable (coef_line j name r)
 coef_readable j name r e h = by (find (λ p. p.0 == j) r.coefs) refl
   where
-    by : (o : Option (ℕ × ℤ)) → find (λ p. p.0 == j) r.coefs ≡ o → AreReadable (option_map_or (λ p. triple name r.name (decimal_text p.1 r.decimals) ∷ []) o [])
+    by : (o : Option (ℕ × ℤ)) → find (λ p. p.0 == j) r.coefs ≡ o
+        → AreReadable (option_map_or (λ p. triple name r.name (decimal_text p.1 r.decimals) ∷ []) o [])
     by None f = tt
-    by (Some p) f = (three name r.name (decimal_text p.1 r.decimals) e (name_field r.name h.name) (number_field p.1 r.decimals (found_small r.coefs (λ q. q.0 == j) p h.coefs f)), tt)
+    by (Some p) f = (
+      three name r.name (decimal_text p.1 r.decimals) e (name_field r.name h.name)
+          (number_field p.1 r.decimals (found_small r.coefs (λ q. q.0 == j) p h.coefs f)),
+      tt,
+    )
 
 pub right_side_small : (r : Row) → IsRowText r → ForSome (right_side r) (λ b. unsigned_abs b ≤ 2 ^ 62)
 right_side_small r h = by (is_from_below r)
@@ -171,9 +200,13 @@ right_side_small r h = by (is_from_below r)
 rhs_readable : (r : Row) → IsRowText r → AreReadable (rhs_line r)
 rhs_readable r h = by (right_side r) (right_side_small r h)
   where
-    by : (o : Option ℤ) → ForSome o (λ b. unsigned_abs b ≤ 2 ^ 62) → AreReadable (option_map_or (λ b. when (not (int_eq b (pos 0))) (triple (codes "RHS") r.name (decimal_text b r.decimals))) o (triple (codes "RHS") r.name (codes "1e30") ∷ []))
+    by : (o : Option ℤ) → ForSome o (λ b. unsigned_abs b ≤ 2 ^ 62)
+        → AreReadable (option_map_or (side_line r) o (triple (codes "RHS") r.name (codes "1e30") ∷ []))
     by None s = (three (codes "RHS") r.name (codes "1e30") refl (name_field r.name h.name) refl, tt)
-    by (Some b) s = readable_when (not (int_eq b (pos 0))) (triple (codes "RHS") r.name (decimal_text b r.decimals)) (three (codes "RHS") r.name (decimal_text b r.decimals) refl (name_field r.name h.name) (number_field b r.decimals (let l = s b refl in omega arith)))
+    by (Some b) s =
+        readable_when (not (int_eq b (pos 0))) (triple (codes "RHS") r.name (decimal_text b r.decimals))
+        (three (codes "RHS") r.name (decimal_text b r.decimals) refl (name_field r.name h.name)
+        (number_field b r.decimals (let l = s b refl in omega arith)))
 
 pub width_small : (low high : ℤ) → unsigned_abs low ≤ 2 ^ 62 → unsigned_abs high ≤ 2 ^ 62 → unsigned_abs (high -ℤ low) < 2 ^ 64
 width_small low high h k = omega (arith, ints)
@@ -182,13 +215,18 @@ range_readable : (r : Row) → IsRowText r → AreReadable (range_line r)
 range_readable r h = by r.low r.high h.low h.high
   where
     by : (o p : Option ℤ) → ForSome o (λ b. unsigned_abs b ≤ 2 ^ 62) → ForSome p (λ b. unsigned_abs b ≤ 2 ^ 62)
-        → AreReadable (option_map_or (λ low. option_map_or (λ high. when (not (int_eq low high)) (triple (codes "RNG") r.name (decimal_text (high -ℤ low) r.decimals))) p []) o [])
+        → AreReadable (option_map_or (λ low. option_map_or (width_line r low) p []) o [])
     by None p s t = tt
     by (Some low) None s t = tt
-    by (Some low) (Some high) s t = readable_when (not (int_eq low high)) (triple (codes "RNG") r.name (decimal_text (high -ℤ low) r.decimals)) (three (codes "RNG") r.name (decimal_text (high -ℤ low) r.decimals) refl (name_field r.name h.name) (number_field (high -ℤ low) r.decimals (width_small low high (s low refl) (t high refl))))
+    by (Some low) (Some high) s t =
+        readable_when (not (int_eq low high)) (triple (codes "RNG") r.name (decimal_text (high -ℤ low) r.decimals))
+        (three (codes "RNG") r.name (decimal_text (high -ℤ low) r.decimals) refl (name_field r.name h.name)
+        (number_field (high -ℤ low) r.decimals (width_small low high (s low refl) (t high refl))))
 
 kind_readable : (r : Row) → IsRowText r → is_readable (pair (kind_text r) r.name) ≡ true
-kind_readable r h = and_from (is_field (kind_text r)) (is_field r.name && true) (by (is_equation r) (is_from_below r)) (and_from (is_field r.name) true (name_field r.name h.name) refl)
+kind_readable r h =
+    and_from (is_field (kind_text r)) (is_field r.name && true) (by (is_equation r) (is_from_below r))
+    (and_from (is_field r.name) true (name_field r.name h.name) refl)
   where
     by : (t u : Bool) → is_field (if t then codes "E" else (if u then codes "G" else codes "L")) ≡ true
     by true u = refl
@@ -197,7 +235,8 @@ kind_readable r h = and_from (is_field (kind_text r)) (is_field r.name && true) 
 
 column_readable : (m : Parts) → IsProgramText m → (p : ℕ × Column) → IsColumnText p.1 → AreReadable (column_block m p)
 column_readable m h p c = (
-  three p.1.name m.objective (value_text m p.1.cost) (name_field p.1.name c.name) (name_field m.objective h.objective) (number_field p.1.cost m.cost_decimals c.cost),
+  three p.1.name m.objective (value_text m p.1.cost) (name_field p.1.name c.name) (name_field m.objective h.objective)
+      (number_field p.1.cost m.cost_decimals c.cost),
   readable_flat IsRowText (coef_line p.0 p.1.name) m.rows h.rows (λ r k. coef_readable p.0 p.1.name r (name_field p.1.name c.name) k),
 )
 
@@ -207,15 +246,25 @@ columns_readable m h = by (length m.columns == 0)
     blocks : List Written
     blocks = flat_map (column_block m) (enumerate_from 0 m.columns)
 
-    by : (t : Bool) → AreReadable (if t then [] else triple (codes "M") (codes "'MARKER'") (codes "'INTORG'") ∷ blocks ++ triple (codes "M") (codes "'MARKER'") (codes "'INTEND'") ∷ [])
+    by : (t : Bool)
+        → AreReadable (if t then [] else triple (codes "M") (codes "'MARKER'") (codes "'INTORG'") ∷ blocks ++ triple (codes "M") (codes "'MARKER'") (codes "'INTEND'") ∷ [])
     by true = tt
-    by false = (refl, readable_append blocks (triple (codes "M") (codes "'MARKER'") (codes "'INTEND'") ∷ []) (readable_flat (λ p. IsColumnText p.1) (column_block m) (enumerate_from 0 m.columns) (all_enumerated IsColumnText 0 m.columns h.columns) (column_readable m h)) (refl, tt))
+    by false = (
+      refl,
+      readable_append blocks (triple (codes "M") (codes "'MARKER'") (codes "'INTEND'") ∷ [])
+          (readable_flat (λ p. IsColumnText p.1) (column_block m) (enumerate_from 0 m.columns)
+          (each_numbered IsColumnText 0 m.columns h.columns) (column_readable m h)) (refl, tt),
+    )
 
-bound_readable : (kind name : List ℕ) (z : ℤ) → is_field kind ≡ true → is_field name ≡ true → unsigned_abs z < 2 ^ 64 → is_readable (bound kind name z) ≡ true
-bound_readable kind name z e f h = and_from (is_field kind) (true && (is_field name && (is_field (signed_decimal z) && true))) e (three_more)
+bound_readable : (kind name : List ℕ) (z : ℤ) → is_field kind ≡ true → is_field name ≡ true → unsigned_abs z < 2 ^ 64
+    → is_readable (bound kind name z) ≡ true
+bound_readable kind name z e f h =
+    and_from (is_field kind) (true && (is_field name && (is_field (signed_decimal z) && true))) e (three_more)
   where
     three_more : (is_field name && (is_field (signed_decimal z) && true)) ≡ true
-    three_more = and_from (is_field name) (is_field (signed_decimal z) && true) f (and_from (is_field (signed_decimal z)) true (bound_field z h) refl)
+    three_more =
+        and_from (is_field name) (is_field (signed_decimal z) && true) f
+        (and_from (is_field (signed_decimal z)) true (bound_field z h) refl)
 
 pub negated_small : (z : ℤ) → unsigned_abs z < 2 ^ 64 → unsigned_abs (neg_ℤ z) < 2 ^ 64
 negated_small z h = omega (arith, ints)
@@ -226,18 +275,30 @@ sections_readable m h =
       refl,
       (
         refl,
-        readable_append s.rows (after_rows s) (and_from (is_field (codes "N")) (is_field m.objective && true) refl (and_from (is_field m.objective) true (name_field m.objective h.objective) refl), readable_map IsRowText (λ r. pair (kind_text r) r.name) m.rows h.rows kind_readable) (
+        readable_append s.rows (after_rows s) (
+          and_from (is_field (codes "N")) (is_field m.objective && true) refl
+              (and_from (is_field m.objective) true (name_field m.objective h.objective) refl),
+          readable_map IsRowText
+              (λ r. pair (kind_text r) r.name) m.rows h.rows kind_readable,
+        ) (
           refl,
           readable_append s.columns (after_columns s) (columns_readable m h) (
             refl,
             readable_append s.right_sides (after_right_sides s) (readable_append (constant_line m) (flat_map rhs_line m.rows)
-                (readable_when (not (int_eq m.constant (pos 0))) (triple (codes "RHS") m.objective (value_text m (neg_ℤ m.constant))) (three (codes "RHS") m.objective (value_text m (neg_ℤ m.constant)) refl (name_field m.objective h.objective) (number_field (neg_ℤ m.constant) m.cost_decimals (negated_small m.constant h.constant))))
+                (readable_when (not (int_eq m.constant (pos 0))) (triple (codes "RHS") m.objective (value_text m (neg_ℤ m.constant)))
+                (three (codes "RHS") m.objective (value_text m (neg_ℤ m.constant)) refl (name_field m.objective h.objective)
+                (number_field (neg_ℤ m.constant) m.cost_decimals (negated_small m.constant h.constant))))
                 (readable_flat IsRowText rhs_line m.rows h.rows rhs_readable)) (
                   refl,
                   readable_append s.ranges (after_ranges s) (readable_flat IsRowText range_line m.rows h.rows range_readable) (
                     refl,
-                    readable_append s.bounds (after_bounds s) (readable_flat IsColumnText (λ c. bound (codes "LO") c.name c.lo ∷ bound (codes "UP") c.name c.hi ∷ []) m.columns h.columns
-                        (λ c k. (bound_readable (codes "LO") c.name c.lo refl (name_field c.name k.name) k.lo, (bound_readable (codes "UP") c.name c.hi refl (name_field c.name k.name) k.hi, tt))))
+                    readable_append s.bounds (after_bounds s)
+                        (readable_flat IsColumnText
+                        (λ c. bound (codes "LO") c.name c.lo ∷ bound (codes "UP") c.name c.hi ∷ []) m.columns h.columns
+                        (λ c k. (
+                          bound_readable (codes "LO") c.name c.lo refl (name_field c.name k.name) k.lo,
+                          (bound_readable (codes "UP") c.name c.hi refl (name_field c.name k.name) k.hi, tt),
+                        )))
                         (refl, tt),
                   ),
                 ),
@@ -262,7 +323,8 @@ sections_end s h =
     ends_more (head (codes "NAME")) (head (codes "ROWS") ∷ (s.rows ++ after_rows s)) refl
     (ends_more (head (codes "ROWS")) (s.rows ++ after_rows s) refl (ends_after s.rows (after_rows s) h.rows
     (ends_more (head (codes "COLUMNS")) (s.columns ++ after_columns s) refl (ends_after s.columns (after_columns s) h.columns
-    (ends_more (head (codes "RHS")) (s.right_sides ++ after_right_sides s) refl (ends_after s.right_sides (after_right_sides s) h.right_sides
+    (ends_more (head (codes "RHS")) (s.right_sides ++ after_right_sides s) refl
+    (ends_after s.right_sides (after_right_sides s) h.right_sides
     (ends_more (head (codes "RANGES")) (s.ranges ++ after_ranges s) refl (ends_after s.ranges (after_ranges s) h.ranges
     (ends_more (head (codes "BOUNDS")) (s.bounds ++ after_bounds s) refl (ends_after s.bounds (after_bounds s) h.bounds refl))))))))))
 

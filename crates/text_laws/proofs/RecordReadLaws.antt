@@ -4,21 +4,22 @@ use Rattle.std.specs.List.{list_any, enumerate_from}
 use Rattle.std.specs.Option.{option_map_or}
 use Rattle.std.specs.Ordering.{int_eq}
 use Rattle.std.proofs.Common.{refl, arith, ap, sym, ◌∙◌, subst}
-use Rattle.std.proofs.lemmas.Bool.{ne_eqb}
-use Rattle.decimals.proofs.NumberLaws.{both_true}
-use Rattle.ip_defs.specs.Lists.{is_among, when, first_of}
-use Rattle.ip_defs.specs.Numbers.{decimal_text}
-use Rattle.ip_defs.specs.Texts.{Written, pair, triple, kind_text, is_equation, is_from_below, coef_line, column_block, right_side, rhs_line, constant_line, range_line, is_printable_name, value_text}
-use Rattle.ip_defs.specs.Records.{Line, Entry, items_of, row_lines, row_kind, row_name, is_free, objective, is_objective, is_dropped_row, is_marker, entries_of, all_entries, is_kept, is_kept_set, kept_entries, set_of}
+use Rattle.std.proofs.lemmas.Bool.{ne_eqb, not-true}
+use Rattle.mps_defs.specs.Lists.{is_among}
+use Rattle.ip_defs.specs.Lists.{when, first_of, Each}
+use Rattle.mps_defs.specs.Numbers.{decimal_text}
+use Rattle.mps_defs.specs.CanonicalText.{Written, pair, triple, kind_text, is_equation, is_from_below, coef_line, column_block, right_side, rhs_line, constant_line, range_line, is_printable_name, value_text, is_separator, side_line, width_line}
+use Rattle.mps_defs.specs.Records.{Line, Entry, items_of, row_lines, row_kind, row_name, is_free, objective, is_objective, is_dropped_row, is_marker, entries_of, all_entries, is_kept, is_kept_set, kept_entries, set_of}
 use Rattle.ip_defs.specs.declared.programs.Column.{Column}
 use Rattle.ip_defs.specs.declared.programs.Row.{Row}
 use Rattle.ip_defs.specs.declared.programs.Parts.{Parts}
-use Rattle.text_laws.proofs.Lines.{lines_from}
-use Rattle.text_laws.proofs.ListLaws.{Each}
+use Rattle.text_laws.proofs.WrittenLaws.{lines_from}
 use Rattle.text_laws.proofs.SectionLaws.{lines_in, rows_are, columns_are, right_sides_are, ranges_are, columns_at, right_sides_at, ranges_at}
 use Rattle.text_laws.proofs.CanonicalLaws.{sections_of, are_sections}
 use Rattle.text_laws.proofs.ReadableLaws.{IsProgramText, IsRowText}
-use Rattle.text_laws.proofs.EntryReadLaws.{bytes_same, told, tells, AreTriples}
+use Rattle.text_laws.proofs.EntryReadLaws.{told, tells, AreTriples}
+use Rattle.ip_defs.proofs.BoolLaws.{both_true}
+use Rattle.ip_defs.proofs.TextLaws.{text_self}
 
 -- ---- rows
 
@@ -41,26 +42,34 @@ bound_rows : (n : ℕ) (rs : List Row) → filter (λ l. not (is_free l)) (row_l
 bound_rows n [] = refl
 bound_rows n (r ∷ rs) =
     let l : Line = record { number = n; is_item = true; section = codes "ROWS"; fields = kind_text r ∷ r.name ∷ [] } in
-    ap (λ t. cond (not t) (l ∷ filter (λ k. not (is_free k)) (row_lines_from (suc n) rs)) (filter (λ k. not (is_free k)) (row_lines_from (suc n) rs))) (kind_bound r) ∙ ap (λ k. l ∷ k) (bound_rows (suc n) rs)
+    ap (λ t. cond (not t) (l ∷ filter (λ k. not (is_free k)) (row_lines_from (suc n) rs))
+    (filter (λ k. not (is_free k)) (row_lines_from (suc n) rs))) (kind_bound r)
+    ∙ ap (λ k. l ∷ k) (bound_rows (suc n) rs)
 
 free_rows : (n : ℕ) (rs : List Row) → filter is_free (row_lines_from n rs) ≡ []
 free_rows n [] = refl
 free_rows n (r ∷ rs) =
     let l : Line = record { number = n; is_item = true; section = codes "ROWS"; fields = kind_text r ∷ r.name ∷ [] } in
-    ap (λ t. cond t (l ∷ filter is_free (row_lines_from (suc n) rs)) (filter is_free (row_lines_from (suc n) rs))) (kind_bound r) ∙ free_rows (suc n) rs
+    ap (λ t. cond t (l ∷ filter is_free (row_lines_from (suc n) rs)) (filter is_free (row_lines_from (suc n) rs))) (kind_bound r)
+    ∙ free_rows (suc n) rs
 
-made_of : {A : Type 0} (f : List ℕ → List ℕ → A) (n : ℕ) (rs : List Row) → map (λ l. f (row_kind l) (row_name l)) (row_lines_from n rs) ≡ map (λ r. f (kind_text r) r.name) rs
+made_of : {A : Type 0} (f : List ℕ → List ℕ → A) (n : ℕ) (rs : List Row)
+    → map (λ l. f (row_kind l) (row_name l)) (row_lines_from n rs) ≡ map (λ r. f (kind_text r) r.name) rs
 made_of f n [] = refl
 made_of f n (r ∷ rs) = ap (λ k. f (kind_text r) r.name ∷ k) (made_of f (suc n) rs)
 
 -- what is made of the rows
-pub rows_read : {A : Type 0} (f : List ℕ → List ℕ → A) (m : Parts) → map (λ l. f (row_kind l) (row_name l)) (filter (λ l. not (is_free l)) (row_lines (lines_in (sections_of m)))) ≡ map (λ r. f (kind_text r) r.name) m.rows
+pub rows_read : {A : Type 0} (f : List ℕ → List ℕ → A) (m : Parts)
+    → map (λ l. f (row_kind l) (row_name l)) (filter (λ l. not (is_free l)) (row_lines (lines_in (sections_of m))))
+    ≡ map (λ r. f (kind_text r) r.name) m.rows
 rows_read f m =
     ap (λ ls. map (λ l. f (row_kind l) (row_name l)) (filter (λ l. not (is_free l)) ls)) (rows_are (sections_of m) (are_sections m))
     ∙ ap (map (λ l. f (row_kind l) (row_name l))) (bound_rows 4 m.rows) ∙ made_of f 4 m.rows
 
 free_read : (m : Parts) → map row_name (filter is_free (row_lines (lines_in (sections_of m)))) ≡ m.objective ∷ []
-free_read m = ap (λ ls. map row_name (filter is_free ls)) (rows_are (sections_of m) (are_sections m)) ∙ ap (λ k. m.objective ∷ map row_name k) (free_rows 4 m.rows)
+free_read m =
+    ap (λ ls. map row_name (filter is_free ls)) (rows_are (sections_of m) (are_sections m))
+    ∙ ap (λ k. m.objective ∷ map row_name k) (free_rows 4 m.rows)
 
 pub objective_is : (m : Parts) (name : List ℕ) → is_objective (lines_in (sections_of m)) name ≡ bytes_eq name m.objective
 objective_is m name = ap (λ o. option_map_or (bytes_eq name) o false) (objective_read m)
@@ -80,18 +89,15 @@ none_dropped m name =
 
 pub not_marker : (name : List ℕ) → is_printable_name name ≡ true → bytes_eq name (codes "'MARKER'") ≡ false
 not_marker name e =
-    let h = both_true (not (length name == 0) && not (bytes_eq name (codes "'MARKER'"))) (not (list_any (λ b. (b == 32) || (b == 9) || (b == 13) || (b == 10)) name)) e in
-    off (bytes_eq name (codes "'MARKER'")) (both_true (not (length name == 0)) (not (bytes_eq name (codes "'MARKER'"))) h.0).1
-  where
-    off : (t : Bool) → not t ≡ true → t ≡ false
-    off true g = absurd cc
-    off false g = refl
+    let h = both_true (not (length name == 0) && not (bytes_eq name (codes "'MARKER'"))) (not (list_any is_separator name)) e in
+    not-true (bytes_eq name (codes "'MARKER'")) (both_true (not (length name == 0)) (not (bytes_eq name (codes "'MARKER'"))) h.0).1
 
 triples_append : (xs ys : List Written) → AreTriples xs → AreTriples ys → AreTriples (xs ++ ys)
 triples_append [] ys h k = k
 triples_append (x ∷ xs) ys h k = (h.0, triples_append xs ys h.1 k)
 
-triples_flat : {A : Type 0} (P : A → Type 0) (f : A → List Written) (xs : List A) → Each P xs → ((x : A) → P x → AreTriples (f x)) → AreTriples (flat_map f xs)
+triples_flat : {A : Type 0} (P : A → Type 0) (f : A → List Written) (xs : List A) → Each P xs → ((x : A) → P x → AreTriples (f x))
+    → AreTriples (flat_map f xs)
 triples_flat P f [] all h = tt
 triples_flat P f (x ∷ xs) all h = triples_append (f x) (flat_map f xs) (h x all.0) (triples_flat P f xs all.1 h)
 
@@ -107,14 +113,21 @@ abbrev pub blocks_of : Parts → List Written
 blocks_of m = flat_map (column_block m) (enumerate_from 0 m.columns)
 
 pub blocks_triples : (m : Parts) → IsProgramText m → (xs : List (ℕ × Column)) → AreTriples (flat_map (column_block m) xs)
-blocks_triples m h xs = triples_flat (λ p. ⊤) (column_block m) xs (any xs) (λ p t. (not_marker m.objective h.objective, triples_flat IsRowText (coef_line p.0 p.1.name) m.rows h.rows (λ r k. coef_triples p.0 p.1.name r k)))
+blocks_triples m h xs =
+    triples_flat (λ p. ⊤) (column_block m) xs (any xs)
+    (λ p t. (
+      not_marker m.objective h.objective,
+      triples_flat IsRowText (coef_line p.0 p.1.name) m.rows h.rows
+          (λ r k. coef_triples p.0 p.1.name r k),
+    ))
   where
     any : (ys : List (ℕ × Column)) → Each (λ p. ⊤) ys
     any [] = tt
     any (y ∷ ys) = (tt, any ys)
 
 -- what the entries of COLUMNS tell
-pub columns_told : (m : Parts) → IsProgramText m → map told (all_entries (codes "COLUMNS") (lines_in (sections_of m))) ≡ flat_map tells (blocks_of m)
+pub columns_told : (m : Parts) → IsProgramText m
+    → map told (all_entries (codes "COLUMNS") (lines_in (sections_of m))) ≡ flat_map tells (blocks_of m)
 columns_told m h = ap (λ ls. map told (flat_map entries_of ls)) (columns_are (sections_of m) (are_sections m)) ∙ by m.columns
   where
     first : ℕ
@@ -126,11 +139,13 @@ columns_told m h = ap (λ ls. map told (flat_map entries_of ls)) (columns_are (s
     last : Written
     last = triple (codes "M") (codes "'MARKER'") (codes "'INTEND'")
 
-    after : (n : ℕ) (ds : List Written) → AreTriples ds → map told (flat_map entries_of (lines_from n (codes "COLUMNS") (ds ++ last ∷ []))) ≡ flat_map tells ds
+    after : (n : ℕ) (ds : List Written) → AreTriples ds
+        → map told (flat_map entries_of (lines_from n (codes "COLUMNS") (ds ++ last ∷ []))) ≡ flat_map tells ds
     after n [] t = refl
     after n (d ∷ ds) t = two d ds t (after (suc n) ds t.1)
       where
-        two : (e : Written) (es : List Written) → AreTriples (e ∷ es) → map told (flat_map entries_of (lines_from (suc n) (codes "COLUMNS") (es ++ last ∷ []))) ≡ flat_map tells es
+        two : (e : Written) (es : List Written) → AreTriples (e ∷ es)
+            → map told (flat_map entries_of (lines_from (suc n) (codes "COLUMNS") (es ++ last ∷ []))) ≡ flat_map tells es
             → map told (flat_map entries_of (lines_from n (codes "COLUMNS") (e ∷ (es ++ last ∷ [])))) ≡ flat_map tells (e ∷ es)
         two (true, a ∷ b ∷ c ∷ []) es k rest =
             ap (λ u. map told ((if u then [] else record { line = n; owner = a; row = b; text = c } ∷ []) ++ flat_map entries_of (lines_from (suc n) (codes "COLUMNS") (es ++ last ∷ [])))) k.0
@@ -141,10 +156,15 @@ columns_told m h = ap (λ ls. map told (flat_map entries_of ls)) (columns_are (s
         two (true, []) es k rest = absurd k.0
         two (false, fs) es k rest = absurd k.0
 
-    by : (cs : List Column) → map told (flat_map entries_of (lines_from first (codes "COLUMNS") (if length cs == 0 then [] else start ∷ flat_map (column_block m) (enumerate_from 0 cs) ++ last ∷ []))) ≡ flat_map tells (flat_map (column_block m) (enumerate_from 0 cs))
+    by : (cs : List Column)
+        → map told (flat_map entries_of (lines_from first (codes "COLUMNS") (if length cs == 0 then [] else start ∷ flat_map (column_block m) (enumerate_from 0 cs) ++ last ∷ [])))
+        ≡ flat_map tells (flat_map (column_block m) (enumerate_from 0 cs))
     by [] = refl
     by (c ∷ cs) =
-        ap (λ t. map told (flat_map entries_of (lines_from first (codes "COLUMNS") (if t then [] else start ∷ flat_map (column_block m) (enumerate_from 0 (c ∷ cs)) ++ last ∷ [])))) (ne_eqb (length (c ∷ cs)) 0 (λ e. omega arith))
+        ap (λ t. map told (flat_map entries_of
+        (lines_from first (codes "COLUMNS")
+        (if t then [] else start ∷ flat_map (column_block m)
+        (enumerate_from 0 (c ∷ cs)) ++ last ∷ [])))) (ne_eqb (length (c ∷ cs)) 0 (λ e. omega arith))
         ∙ after (suc first) (flat_map (column_block m) (enumerate_from 0 (c ∷ cs))) (blocks_triples m h (enumerate_from 0 (c ∷ cs)))
 
 -- ---- kept entries
@@ -153,9 +173,11 @@ all_pass : {A : Type 0} (test : A → Bool) (xs : List A) → ((x : A) → test 
 all_pass test [] h = refl
 all_pass test (x ∷ xs) h = ap (λ t. cond t (x ∷ filter test xs) (filter test xs)) (h x) ∙ ap (λ k. x ∷ k) (all_pass test xs h)
 
-pub columns_kept : (m : Parts) → IsProgramText m → map told (kept_entries (codes "COLUMNS") (lines_in (sections_of m))) ≡ flat_map tells (blocks_of m)
+pub columns_kept : (m : Parts) → IsProgramText m
+    → map told (kept_entries (codes "COLUMNS") (lines_in (sections_of m))) ≡ flat_map tells (blocks_of m)
 columns_kept m h =
-    ap (map told) (all_pass (is_kept (codes "COLUMNS") (lines_in (sections_of m))) (all_entries (codes "COLUMNS") (lines_in (sections_of m))) (λ e. ap (λ t. (not t && true) && true) (none_dropped m e.row)))
+    ap (map told) (all_pass (is_kept (codes "COLUMNS") (lines_in (sections_of m)))
+    (all_entries (codes "COLUMNS") (lines_in (sections_of m))) (λ e. ap (λ t. (not t && true) && true) (none_dropped m e.row)))
     ∙ columns_told m h
 
 -- lines of one set, whose rows have some property
@@ -170,12 +192,15 @@ IsOfSet set P (false, fs) = ⊥
 abbrev pub AreOfSet : List ℕ → (List ℕ → Type 0) → List Written → Type 0
 AreOfSet set P ds = Each (IsOfSet set P) ds
 
-set_kept : (word set : List ℕ) (P : List ℕ → Type 0) (ls : List Line) → bytes_eq word (codes "COLUMNS") ≡ false → ((e : Entry) → e.owner ≡ set → P e.row → is_kept word ls e ≡ true)
-    → (n : ℕ) (ds : List Written) → AreOfSet set P ds → map told (filter (is_kept word ls) (flat_map entries_of (lines_from n word ds))) ≡ flat_map tells ds
+set_kept : (word set : List ℕ) (P : List ℕ → Type 0) (ls : List Line) → bytes_eq word (codes "COLUMNS") ≡ false
+    → ((e : Entry) → e.owner ≡ set → P e.row → is_kept word ls e ≡ true)
+    → (n : ℕ) (ds : List Written) → AreOfSet set P ds
+    → map told (filter (is_kept word ls) (flat_map entries_of (lines_from n word ds))) ≡ flat_map tells ds
 set_kept word set P ls other h n [] all = refl
 set_kept word set P ls other h n (d ∷ ds) all = one d ds all (set_kept word set P ls other h (suc n) ds all.1)
   where
-    one : (w : Written) (ws : List Written) → AreOfSet set P (w ∷ ws) → map told (filter (is_kept word ls) (flat_map entries_of (lines_from (suc n) word ws))) ≡ flat_map tells ws
+    one : (w : Written) (ws : List Written) → AreOfSet set P (w ∷ ws)
+        → map told (filter (is_kept word ls) (flat_map entries_of (lines_from (suc n) word ws))) ≡ flat_map tells ws
         → map told (filter (is_kept word ls) (flat_map entries_of (lines_from n word (w ∷ ws)))) ≡ flat_map tells (w ∷ ws)
     one (true, a ∷ b ∷ c ∷ []) ws k rest =
         let e : Entry = record { line = n; owner = a; row = b; text = c } in
@@ -191,15 +216,17 @@ set_kept word set P ls other h n (d ∷ ds) all = one d ds all (set_kept word se
     one (false, fs) ws k rest = absurd k.0
 
 -- the set that is kept is that of the first line
-set_first : (word set : List ℕ) (P : List ℕ → Type 0) (n : ℕ) (d : Written) (ds : List Written) → IsOfSet set P d → option_map_or (λ l. bytes_eq (set_of l) set) (first_of (lines_from n word (d ∷ ds))) false ≡ true
-set_first word set P n (true, a ∷ b ∷ c ∷ []) ds h = ap (λ k. bytes_eq k set) h.0 ∙ bytes_same set
+set_first : (word set : List ℕ) (P : List ℕ → Type 0) (n : ℕ) (d : Written) (ds : List Written) → IsOfSet set P d
+    → option_map_or (λ l. bytes_eq (set_of l) set) (first_of (lines_from n word (d ∷ ds))) false ≡ true
+set_first word set P n (true, a ∷ b ∷ c ∷ []) ds h = ap (λ k. bytes_eq k set) h.0 ∙ text_self set
 set_first word set P n (true, a ∷ b ∷ c ∷ d' ∷ fs) ds h = absurd h
 set_first word set P n (true, a ∷ b ∷ []) ds h = absurd h
 set_first word set P n (true, a ∷ []) ds h = absurd h
 set_first word set P n (true, []) ds h = absurd h
 set_first word set P n (false, fs) ds h = absurd h
 
-of_set_append : (set : List ℕ) (P : List ℕ → Type 0) (xs ys : List Written) → AreOfSet set P xs → AreOfSet set P ys → AreOfSet set P (xs ++ ys)
+of_set_append : (set : List ℕ) (P : List ℕ → Type 0) (xs ys : List Written) → AreOfSet set P xs → AreOfSet set P ys
+    → AreOfSet set P (xs ++ ys)
 of_set_append set P [] ys h k = k
 of_set_append set P (x ∷ xs) ys h k = (h.0, of_set_append set P xs ys h.1 k)
 
@@ -207,24 +234,29 @@ of_set_when : (set : List ℕ) (P : List ℕ → Type 0) (t : Bool) (w : Written
 of_set_when set P true w h = (h, tt)
 of_set_when set P false w h = tt
 
-of_set_flat : (set : List ℕ) (P : List ℕ → Type 0) (Q : Row → Type 0) (f : Row → List Written) (rs : List Row) → Each Q rs → ((r : Row) → Q r → AreOfSet set P (f r)) → AreOfSet set P (flat_map f rs)
+of_set_flat : (set : List ℕ) (P : List ℕ → Type 0) (Q : Row → Type 0) (f : Row → List Written) (rs : List Row) → Each Q rs
+    → ((r : Row) → Q r → AreOfSet set P (f r)) → AreOfSet set P (flat_map f rs)
 of_set_flat set P Q f [] all h = tt
 of_set_flat set P Q f (r ∷ rs) all h = of_set_append set P (f r) (flat_map f rs) (h r all.0) (of_set_flat set P Q f rs all.1 h)
 
 rhs_set : (r : Row) → AreOfSet (codes "RHS") (λ b. ⊤) (rhs_line r)
 rhs_set r = by (right_side r)
   where
-    by : (o : Option ℤ) → AreOfSet (codes "RHS") (λ b. ⊤) (option_map_or (λ b. when (not (int_eq b (pos 0))) (triple (codes "RHS") r.name (decimal_text b r.decimals))) o (triple (codes "RHS") r.name (codes "1e30") ∷ []))
+    by : (o : Option ℤ)
+        → AreOfSet (codes "RHS") (λ b. ⊤) (option_map_or (side_line r) o (triple (codes "RHS") r.name (codes "1e30") ∷ []))
     by None = ((refl, tt), tt)
-    by (Some b) = of_set_when (codes "RHS") (λ y. ⊤) (not (int_eq b (pos 0))) (triple (codes "RHS") r.name (decimal_text b r.decimals)) (refl, tt)
+    by (Some b) =
+        of_set_when (codes "RHS") (λ y. ⊤) (not (int_eq b (pos 0))) (triple (codes "RHS") r.name (decimal_text b r.decimals)) (refl, tt)
 
 range_set : (P : List ℕ → Type 0) (r : Row) → P r.name → AreOfSet (codes "RNG") P (range_line r)
 range_set P r h = by r.low r.high
   where
-    by : (o p : Option ℤ) → AreOfSet (codes "RNG") P (option_map_or (λ low. option_map_or (λ high. when (not (int_eq low high)) (triple (codes "RNG") r.name (decimal_text (high -ℤ low) r.decimals))) p []) o [])
+    by : (o p : Option ℤ)
+        → AreOfSet (codes "RNG") P (option_map_or (λ low. option_map_or (width_line r low) p []) o [])
     by None p = tt
     by (Some low) None = tt
-    by (Some low) (Some high) = of_set_when (codes "RNG") P (not (int_eq low high)) (triple (codes "RNG") r.name (decimal_text (high -ℤ low) r.decimals)) (refl, h)
+    by (Some low) (Some high) =
+        of_set_when (codes "RNG") P (not (int_eq low high)) (triple (codes "RNG") r.name (decimal_text (high -ℤ low) r.decimals)) (refl, h)
 
 each_any : (rs : List Row) → Each (λ r. ⊤) rs
 each_any [] = tt
@@ -232,11 +264,16 @@ each_any (r ∷ rs) = (tt, each_any rs)
 
 right_sides_set : (m : Parts) → AreOfSet (codes "RHS") (λ b. ⊤) (constant_line m ++ flat_map rhs_line m.rows)
 right_sides_set m =
-    of_set_append (codes "RHS") (λ b. ⊤) (constant_line m) (flat_map rhs_line m.rows) (of_set_when (codes "RHS") (λ b. ⊤) (not (int_eq m.constant (pos 0))) (triple (codes "RHS") m.objective (value_text m (neg_ℤ m.constant))) (refl, tt))
+    of_set_append (codes "RHS") (λ b. ⊤) (constant_line m) (flat_map rhs_line m.rows)
+    (of_set_when (codes "RHS") (λ b. ⊤) (not (int_eq m.constant (pos 0)))
+    (triple (codes "RHS") m.objective (value_text m (neg_ℤ m.constant))) (refl, tt))
     (of_set_flat (codes "RHS") (λ b. ⊤) (λ r. ⊤) rhs_line m.rows (each_any m.rows) (λ r t. rhs_set r))
 
-pub right_sides_kept : (m : Parts) → map told (kept_entries (codes "RHS") (lines_in (sections_of m))) ≡ flat_map tells (constant_line m ++ flat_map rhs_line m.rows)
-right_sides_kept m = ap (λ ls. map told (filter (is_kept (codes "RHS") (lines_in (sections_of m))) (flat_map entries_of ls))) items ∙ by (constant_line m ++ flat_map rhs_line m.rows) refl (right_sides_set m)
+pub right_sides_kept : (m : Parts)
+    → map told (kept_entries (codes "RHS") (lines_in (sections_of m))) ≡ flat_map tells (constant_line m ++ flat_map rhs_line m.rows)
+right_sides_kept m =
+    ap (λ ls. map told (filter (is_kept (codes "RHS") (lines_in (sections_of m))) (flat_map entries_of ls))) items
+    ∙ by (constant_line m ++ flat_map rhs_line m.rows) refl (right_sides_set m)
   where
     at : ℕ
     at = right_sides_at (sections_of m)
@@ -244,23 +281,35 @@ right_sides_kept m = ap (λ ls. map told (filter (is_kept (codes "RHS") (lines_i
     items : items_of (codes "RHS") (lines_in (sections_of m)) ≡ lines_from at (codes "RHS") (constant_line m ++ flat_map rhs_line m.rows)
     items = right_sides_are (sections_of m) (are_sections m)
 
-    by : (ds : List Written) → constant_line m ++ flat_map rhs_line m.rows ≡ ds → AreOfSet (codes "RHS") (λ b. ⊤) (constant_line m ++ flat_map rhs_line m.rows)
-        → map told (filter (is_kept (codes "RHS") (lines_in (sections_of m))) (flat_map entries_of (lines_from at (codes "RHS") (constant_line m ++ flat_map rhs_line m.rows)))) ≡ flat_map tells (constant_line m ++ flat_map rhs_line m.rows)
-    by [] e all = ap (λ ds. map told (filter (is_kept (codes "RHS") (lines_in (sections_of m))) (flat_map entries_of (lines_from at (codes "RHS") ds)))) e ∙ sym (ap (flat_map tells) e)
+    by : (ds : List Written) → constant_line m ++ flat_map rhs_line m.rows ≡ ds
+        → AreOfSet (codes "RHS") (λ b. ⊤) (constant_line m ++ flat_map rhs_line m.rows)
+        → map told (filter (is_kept (codes "RHS") (lines_in (sections_of m))) (flat_map entries_of (lines_from at (codes "RHS") (constant_line m ++ flat_map rhs_line m.rows))))
+        ≡ flat_map tells (constant_line m ++ flat_map rhs_line m.rows)
+    by [] e all =
+        ap (λ ds. map told (filter (is_kept (codes "RHS") (lines_in (sections_of m)))
+        (flat_map entries_of (lines_from at (codes "RHS") ds)))) e
+        ∙ sym (ap (flat_map tells) e)
     by (d ∷ ds) e all =
         let here = subst (AreOfSet (codes "RHS") (λ b. ⊤)) e all in
         let kept : is_kept_set (codes "RHS") (lines_in (sections_of m)) (codes "RHS") ≡ true =
-        ap (λ ls. option_map_or (λ l. bytes_eq (set_of l) (codes "RHS")) (first_of ls) false) (items ∙ ap (lines_from at (codes "RHS")) e) ∙ set_first (codes "RHS") (codes "RHS") (λ b. ⊤) at d ds here.0 in
+        ap (λ ls. option_map_or (λ l. bytes_eq (set_of l) (codes "RHS")) (first_of ls) false) (items ∙ ap (lines_from at (codes "RHS")) e)
+        ∙ set_first (codes "RHS") (codes "RHS") (λ b. ⊤) at d ds here.0 in
         set_kept (codes "RHS") (codes "RHS") (λ b. ⊤) (lines_in (sections_of m)) refl
-        (λ x o t. ap (λ u. (not u && is_kept_set (codes "RHS") (lines_in (sections_of m)) x.owner) && true) (none_dropped m x.row) ∙ ap (λ k. is_kept_set (codes "RHS") (lines_in (sections_of m)) k && true) o ∙ ap (λ u. u && true) kept)
+        (λ x o t. ap (λ u. (not u && is_kept_set (codes "RHS") (lines_in (sections_of m)) x.owner) && true) (none_dropped m x.row)
+        ∙ ap (λ k. is_kept_set (codes "RHS") (lines_in (sections_of m)) k && true) o
+        ∙ ap (λ u. u && true) kept)
         at (constant_line m ++ flat_map rhs_line m.rows) all
 
 -- a name that is not the objective's
 abbrev pub IsApart : Parts → List ℕ → Type 0
 IsApart m name = bytes_eq name m.objective ≡ false
 
-pub ranges_kept : (m : Parts) → Each (λ r. IsApart m r.name) m.rows → map told (kept_entries (codes "RANGES") (lines_in (sections_of m))) ≡ flat_map tells (flat_map range_line m.rows)
-ranges_kept m apart = ap (λ ls. map told (filter (is_kept (codes "RANGES") (lines_in (sections_of m))) (flat_map entries_of ls))) items ∙ by (flat_map range_line m.rows) refl (of_set_flat (codes "RNG") (IsApart m) (λ r. IsApart m r.name) range_line m.rows apart (λ r h. range_set (IsApart m) r h))
+pub ranges_kept : (m : Parts) → Each (λ r. IsApart m r.name) m.rows
+    → map told (kept_entries (codes "RANGES") (lines_in (sections_of m))) ≡ flat_map tells (flat_map range_line m.rows)
+ranges_kept m apart =
+    ap (λ ls. map told (filter (is_kept (codes "RANGES") (lines_in (sections_of m))) (flat_map entries_of ls))) items
+    ∙ by (flat_map range_line m.rows) refl
+    (of_set_flat (codes "RNG") (IsApart m) (λ r. IsApart m r.name) range_line m.rows apart (λ r h. range_set (IsApart m) r h))
   where
     at : ℕ
     at = ranges_at (sections_of m)
@@ -269,14 +318,21 @@ ranges_kept m apart = ap (λ ls. map told (filter (is_kept (codes "RANGES") (lin
     items = ranges_are (sections_of m) (are_sections m)
 
     by : (ds : List Written) → flat_map range_line m.rows ≡ ds → AreOfSet (codes "RNG") (IsApart m) (flat_map range_line m.rows)
-        → map told (filter (is_kept (codes "RANGES") (lines_in (sections_of m))) (flat_map entries_of (lines_from at (codes "RANGES") (flat_map range_line m.rows)))) ≡ flat_map tells (flat_map range_line m.rows)
-    by [] e all = ap (λ ds. map told (filter (is_kept (codes "RANGES") (lines_in (sections_of m))) (flat_map entries_of (lines_from at (codes "RANGES") ds)))) e ∙ sym (ap (flat_map tells) e)
+        → map told (filter (is_kept (codes "RANGES") (lines_in (sections_of m))) (flat_map entries_of (lines_from at (codes "RANGES") (flat_map range_line m.rows))))
+        ≡ flat_map tells (flat_map range_line m.rows)
+    by [] e all =
+        ap (λ ds. map told (filter (is_kept (codes "RANGES") (lines_in (sections_of m)))
+        (flat_map entries_of (lines_from at (codes "RANGES") ds)))) e
+        ∙ sym (ap (flat_map tells) e)
     by (d ∷ ds) e all =
         let here = subst (AreOfSet (codes "RNG") (IsApart m)) e all in
         let kept : is_kept_set (codes "RANGES") (lines_in (sections_of m)) (codes "RNG") ≡ true =
-        ap (λ ls. option_map_or (λ l. bytes_eq (set_of l) (codes "RNG")) (first_of ls) false) (items ∙ ap (lines_from at (codes "RANGES")) e) ∙ set_first (codes "RANGES") (codes "RNG") (IsApart m) at d ds here.0 in
+        ap (λ ls. option_map_or (λ l. bytes_eq (set_of l) (codes "RNG")) (first_of ls) false)
+        (items ∙ ap (lines_from at (codes "RANGES")) e)
+        ∙ set_first (codes "RANGES") (codes "RNG") (IsApart m) at d ds here.0 in
         set_kept (codes "RANGES") (codes "RNG") (IsApart m) (lines_in (sections_of m)) refl
-        (λ x o t. ap (λ u. (not u && is_kept_set (codes "RANGES") (lines_in (sections_of m)) x.owner) && not (is_objective (lines_in (sections_of m)) x.row)) (none_dropped m x.row)
+        (λ x o t. ap (λ u. (not u && is_kept_set (codes "RANGES") (lines_in (sections_of m)) x.owner)
+        && not (is_objective (lines_in (sections_of m)) x.row)) (none_dropped m x.row)
         ∙ ap (λ k. is_kept_set (codes "RANGES") (lines_in (sections_of m)) k && not (is_objective (lines_in (sections_of m)) x.row)) o
         ∙ ap (λ u. u && not (is_objective (lines_in (sections_of m)) x.row)) kept
         ∙ ap not (objective_is m x.row ∙ t))

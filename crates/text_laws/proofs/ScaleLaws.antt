@@ -4,19 +4,25 @@ use Rattle.std.proofs.Common.{refl, arith, ap, sym, ◌∙◌}
 use Rattle.std.proofs.lemmas.Bool.{eqb-true}
 use Rattle.std.proofs.Math.Nat.{mul_assoc, mul-div_cancel, pow-suc}
 use Rattle.std.proofs.lemmas.Nat.{pow-add}
-use Rattle.decimals.proofs.DecimalLaws.{ten_positive, least_units, least-drop, units-drop, passes_at_k}
-use Rattle.ip_defs.specs.Lists.{least_from}
-use Rattle.ip_defs.specs.Numbers.{places, value_from, has_decimals, least_decimals}
+use Rattle.decimals.proofs.DecimalLaws.{least_units, least-drop, units-drop, passes_at_k}
+use Rattle.mps_defs.specs.Lists.{least_from}
+use Rattle.mps_defs.specs.Numbers.{places, value_from, has_decimals, least_decimals}
+use Rattle.mps_defs.proofs.NumberLaws.{ten_positive}
 
 -- ten times the digits of a rest, after a whole part
 pub places_value : (k rest w : ℕ) → rest < 10 ^ k → value_from w (places k rest) * 10 ^ (k - length (places k rest)) ≡ w * 10 ^ k + rest
 places_value zero rest w h = omega arith
-places_value (suc k) rest w h = by (rest == 0) refl (places_value k (rest % 10 ^ k) (10 * w + rest / 10 ^ k) (let p = ten_positive k in omega arith))
+places_value (suc k) rest w h =
+    by (rest == 0) refl (places_value k (rest % 10 ^ k) (10 * w + rest / 10 ^ k) (let p = ten_positive k in omega arith))
   where
     by : (t : Bool) → (rest == 0) ≡ t
-        → value_from (10 * w + rest / 10 ^ k) (places k (rest % 10 ^ k)) * 10 ^ (k - length (places k (rest % 10 ^ k))) ≡ (10 * w + rest / 10 ^ k) * 10 ^ k + rest % 10 ^ k
-        → value_from w (if t then [] else (48 + rest / 10 ^ k) ∷ places k (rest % 10 ^ k)) * 10 ^ (suc k - length (if t then [] else (48 + rest / 10 ^ k) ∷ places k (rest % 10 ^ k))) ≡ w * 10 ^ suc k + rest
-    by true e rec = let none = eqb-true rest 0 e in let all : suc k - 0 ≡ suc k = omega arith in ap (λ (y : ℕ). w * 10 ^ y) all ∙ omega arith
+        → value_from (10 * w + rest / 10 ^ k) (places k (rest % 10 ^ k)) * 10 ^ (k - length (places k (rest % 10 ^ k)))
+        ≡ (10 * w + rest / 10 ^ k) * 10 ^ k + rest % 10 ^ k
+        → value_from w (if t then [] else (48 + rest / 10 ^ k) ∷ places k (rest % 10 ^ k)) * 10 ^
+        (suc k - length (if t then [] else (48 + rest / 10 ^ k) ∷ places k (rest % 10 ^ k)))
+        ≡ w * 10 ^ suc k + rest
+    by true e rec =
+        let none = eqb-true rest 0 e in let all : suc k - 0 ≡ suc k = omega arith in ap (λ (y : ℕ). w * 10 ^ y) all ∙ omega arith
     by false e rec =
         let digit : 10 * w + (48 + rest / 10 ^ k - 48) ≡ 10 * w + rest / 10 ^ k = omega arith in
         let left : suc k - suc (length (places k (rest % 10 ^ k))) ≡ k - length (places k (rest % 10 ^ k)) = omega arith in
@@ -29,17 +35,25 @@ places_value (suc k) rest w h = by (rest == 0) refl (places_value k (rest % 10 ^
         parts t = omega arith
 
 -- zeros at the end are dropped
-pub zeros_dropped : (n k j : ℕ) → (least_units (n * 10 ^ j) (k + j) ≡ least_units n k) × (least_decimals (n * 10 ^ j) (k + j) ≡ least_decimals n k)
+pub zeros_dropped : (n k j : ℕ)
+    → (least_units (n * 10 ^ j) (k + j) ≡ least_units n k) × (least_decimals (n * 10 ^ j) (k + j) ≡ least_decimals n k)
 zeros_dropped n k zero =
     let one : n * 10 ^ 0 ≡ n = omega arith in
-    let none : k + 0 ≡ k = omega arith in
-    (ap (λ (m : ℕ). least_units m (k + 0)) one ∙ ap (least_units n) none, ap (λ (m : ℕ). least_decimals m (k + 0)) one ∙ ap (least_decimals n) none)
+    let none : k + 0 ≡ k = omega arith in (
+      ap (λ (m : ℕ). least_units m (k + 0)) one
+          ∙ ap (least_units n) none,
+      ap (λ (m : ℕ). least_decimals m (k + 0)) one
+          ∙ ap (least_decimals n) none,
+    )
 zeros_dropped n k (suc j) =
     let one : n * 10 ^ suc j ≡ n * 10 ^ j * 10 = ap (λ y. n * y) (pow-suc 10 j) ∙ sym (mul_assoc n (10 ^ j) 10) in
     let more : k + suc j ≡ suc (k + j) = omega arith in
     let rest = zeros_dropped n k j in (
       ap (λ (m : ℕ). least_units m (k + suc j)) one ∙ ap (least_units (n * 10 ^ j * 10)) more ∙ units-drop (n * 10 ^ j) (k + j) ∙ rest.0,
-      ap (λ (m : ℕ). least_decimals m (k + suc j)) one ∙ ap (least_decimals (n * 10 ^ j * 10)) more ∙ least-drop (n * 10 ^ j) (k + j) ∙ rest.1,
+      ap (λ (m : ℕ). least_decimals m (k + suc j)) one
+          ∙ ap (least_decimals (n * 10 ^ j * 10)) more
+          ∙ least-drop (n * 10 ^ j) (k + j)
+          ∙ rest.1,
     )
 
 -- the least place is no later than the last one, and passes where the last one does
@@ -71,7 +85,8 @@ units_back n k =
     let within = decimals_within n k in
     let sum : k - d + d ≡ k = omega arith in
     let split : 10 ^ (k - d) * 10 ^ d ≡ 10 ^ k = sym (pow-add 10 (k - d) d) ∙ ap (λ (y : ℕ). 10 ^ y) sum in
-    cancelled (least_units n k * 10 ^ (k - d)) n (10 ^ d) (ten_positive d) (mul_assoc (least_units n k) (10 ^ (k - d)) (10 ^ d) ∙ ap (λ (y : ℕ). least_units n k * y) split ∙ exact)
+    cancelled (least_units n k * 10 ^ (k - d)) n (10 ^ d) (ten_positive d)
+    (mul_assoc (least_units n k) (10 ^ (k - d)) (10 ^ d) ∙ ap (λ (y : ℕ). least_units n k * y) split ∙ exact)
   where
     divides : (a b : ℕ) → a % b ≡ 0 → a / b * b ≡ a
     divides a b e = omega arith

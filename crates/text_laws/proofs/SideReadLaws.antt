@@ -6,53 +6,70 @@ use Rattle.std.specs.Int.Signed.{lt_z}
 use Rattle.std.specs.Ordering.{int_eq}
 use Rattle.std.proofs.Common.{refl, arith, ap, sym, ◌∙◌, subst}
 use Rattle.std.proofs.lemmas.Int.{ints}
-use Rattle.ip_defs.specs.Lists.{is_among, when}
-use Rattle.ip_defs.specs.Numbers.{decimal_text, is_large, decimals_of}
-use Rattle.ip_defs.specs.Texts.{triple, kind_text, right_side, rhs_line, range_line, is_crossed}
-use Rattle.ip_defs.specs.TextModels.{number_at, no_number, units, row_sides, range_sides, plain_sides, is_negative_number}
-use Rattle.ip_defs.specs.declared.texts.Number.{Number}
+use Rattle.mps_defs.specs.Lists.{is_among, AreDistinct}
+use Rattle.ip_defs.specs.Lists.{when, Each}
+use Rattle.mps_defs.specs.Numbers.{decimal_text, is_large, decimals_of}
+use Rattle.mps_defs.specs.CanonicalText.{triple, kind_text, right_side, rhs_line, range_line, side_line, width_line}
+use Rattle.ip_defs.specs.Program.{is_crossed}
+use Rattle.mps_defs.specs.TextModels.{no_number, units, row_sides, range_sides, plain_sides, is_negative_number, number_or_zero}
+use Rattle.mps_defs.specs.declared.texts.Number.{Number}
 use Rattle.ip_defs.specs.declared.programs.Row.{Row}
-use Rattle.text_laws.specs.ReadBack.{AreDistinct}
-use Rattle.text_laws.proofs.ListLaws.{Each, append_nil}
 use Rattle.text_laws.proofs.NumberTextLaws.{decimal_text_units, decimal_text_finite}
 use Rattle.text_laws.proofs.ReadableLaws.{IsRowText, width_small}
-use Rattle.text_laws.proofs.EntryReadLaws.{bytes_same, Told, tells, told_for, told_decimals, for_append, decimals_append}
-use Rattle.text_laws.proofs.CoefReadLaws.{apart_turned, or_left, or_right, or_none, not_at, named_at}
+use Rattle.text_laws.proofs.EntryReadLaws.{Told, tells, told_for, told_decimals, for_append, decimals_append}
+use Rattle.ip_defs.proofs.BoolLaws.{left_false, right_false}
+use Rattle.ip_defs.proofs.ListLaws.{or_none}
+use Rattle.std.proofs.lemmas.List.{append-nil}
+use Rattle.ip_defs.proofs.TextLaws.{text_self}
+use Rattle.mps_defs.proofs.PlaceLaws.{apart_turned, not_at}
+use Rattle.mps_defs.proofs.ListLaws.{get_map}
+use Rattle.std.proofs.lemmas.Bool.Decides.{Decides-int_eq}
 
 abbrev pub AreOfRow : List ℕ → List Told → Type 0
 AreOfRow name ts = Each (λ t. t.row ≡ name) ts
 
-pub none_for : (name row : List ℕ) (ts : List Told) → AreOfRow name ts → bytes_eq name row ≡ false → (told_for ts row ≡ None) × (told_decimals ts row ≡ [])
+pub none_for : (name row : List ℕ) (ts : List Told) → AreOfRow name ts → bytes_eq name row ≡ false
+    → (told_for ts row ≡ None) × (told_decimals ts row ≡ [])
 none_for name row [] h e = (refl, refl)
 none_for name row (t ∷ ts) h e =
     let here : bytes_eq t.row row ≡ false = ap (λ n. bytes_eq n row) h.0 ∙ e in
     let rest = none_for name row ts h.1 e in (
-      ap (λ u. option_map (λ (k : Told). number_at k.text) (cond u (Some t) (find (λ k. bytes_eq k.row row) ts))) here ∙ rest.0,
-      ap (λ u. map (λ (k : Told). decimals_of (number_at k.text)) (cond u (t ∷ filter (λ k. bytes_eq k.row row) ts) (filter (λ k. bytes_eq k.row row) ts))) here ∙ rest.1,
+      ap (λ u. option_map (λ (k : Told). number_or_zero k.text) (cond u (Some t) (find (λ k. bytes_eq k.row row) ts))) here ∙ rest.0,
+      ap (λ u. map (λ (k : Told). decimals_of (number_or_zero k.text))
+          (cond u (t ∷ filter (λ k. bytes_eq k.row row) ts) (filter (λ k. bytes_eq k.row row) ts))) here
+          ∙ rest.1,
     )
 
 -- lists of entries by rows, each of its row: what is found for a row is what its own list has
 module _ (f : Row → List Told) (own : (r : Row) → AreOfRow r.name (f r)) where
-  pub none_of : (rs : List Row) (row : List ℕ) → is_among row (map (λ r. r.name) rs) ≡ false → (told_for (flat_map f rs) row ≡ None) × (told_decimals (flat_map f rs) row ≡ [])
+  pub none_of : (rs : List Row) (row : List ℕ) → is_among row (map (λ r. r.name) rs) ≡ false
+      → (told_for (flat_map f rs) row ≡ None) × (told_decimals (flat_map f rs) row ≡ [])
   none_of [] row e = (refl, refl)
   none_of (r ∷ rs) row e =
-      let here = none_for r.name row (f r) (own r) (apart_turned row r.name (or_left (bytes_eq row r.name) (is_among row (map (λ k. k.name) rs)) e)) in
-      let rest = none_of rs row (or_right (bytes_eq row r.name) (is_among row (map (λ k. k.name) rs)) e) in (
+      let here =
+      none_for r.name row (f r) (own r)
+      (apart_turned row r.name (left_false (bytes_eq row r.name) (is_among row (map (λ k. k.name) rs)) e)) in
+      let rest = none_of rs row (right_false (bytes_eq row r.name) (is_among row (map (λ k. k.name) rs)) e) in (
         for_append (f r) (flat_map f rs) row ∙ ap (λ o. option_or o (told_for (flat_map f rs) row)) here.0 ∙ rest.0,
         decimals_append (f r) (flat_map f rs) row ∙ ap (λ l. l ++ told_decimals (flat_map f rs) row) here.1 ∙ rest.1,
       )
 
-  pub own_of : (rs : List Row) (i : ℕ) (r : Row) → AreDistinct (map (λ k. k.name) rs) → slice_get rs i ≡ Some r → (told_for (flat_map f rs) r.name ≡ told_for (f r) r.name) × (told_decimals (flat_map f rs) r.name ≡ told_decimals (f r) r.name)
+  pub own_of : (rs : List Row) (i : ℕ) (r : Row) → AreDistinct (map (λ k. k.name) rs) → slice_get rs i ≡ Some r
+      → (told_for (flat_map f rs) r.name ≡ told_for (f r) r.name) × (told_decimals (flat_map f rs) r.name ≡ told_decimals (f r) r.name)
   own_of [] i r d at = absurd cc
   own_of (s ∷ rs) zero r d at =
       let same : s ≡ r = cc in
       let rest = none_of rs s.name d.0 in
-      subst (λ (k : Row). (told_for (flat_map f (s ∷ rs)) k.name ≡ told_for (f k) k.name) × (told_decimals (flat_map f (s ∷ rs)) k.name ≡ told_decimals (f k) k.name)) same (
+      subst (λ (k : Row). (told_for (flat_map f (s ∷ rs)) k.name ≡ told_for (f k) k.name) ×
+      (told_decimals (flat_map f (s ∷ rs)) k.name ≡ told_decimals (f k) k.name)) same (
         for_append (f s) (flat_map f rs) s.name ∙ ap (option_or (told_for (f s) s.name)) rest.0 ∙ or_none (told_for (f s) s.name),
-        decimals_append (f s) (flat_map f rs) s.name ∙ ap (λ l. told_decimals (f s) s.name ++ l) rest.1 ∙ append_nil (told_decimals (f s) s.name),
+        decimals_append (f s) (flat_map f rs) s.name
+            ∙ ap (λ l. told_decimals (f s) s.name ++ l) rest.1
+            ∙ append-nil (told_decimals (f s) s.name),
       )
   own_of (s ∷ rs) (suc i) r d at =
-      let here = none_for s.name r.name (f s) (own s) (not_at s.name (map (λ k. k.name) rs) i r.name d.0 (named_at (λ k. k.name) rs i r at)) in
+      let here =
+      none_for s.name r.name (f s) (own s) (not_at s.name (map (λ k. k.name) rs) i r.name d.0 (get_map (λ k. k.name) rs i r at)) in
       let rest = own_of rs i r d.1 at in (
         for_append (f s) (flat_map f rs) r.name ∙ ap (λ o. option_or o (told_for (flat_map f rs) r.name)) here.0 ∙ rest.0,
         decimals_append (f s) (flat_map f rs) r.name ∙ ap (λ l. l ++ told_decimals (flat_map f rs) r.name) here.1 ∙ rest.1,
@@ -73,33 +90,38 @@ when_row false owner name text = tt
 pub rhs_own : (r : Row) → AreOfRow r.name (rhs_told r)
 rhs_own r = by (right_side r)
   where
-    by : (o : Option ℤ) → AreOfRow r.name (flat_map tells (option_map_or (λ b. when (not (int_eq b (pos 0))) (triple (codes "RHS") r.name (decimal_text b r.decimals))) o (triple (codes "RHS") r.name (codes "1e30") ∷ [])))
+    by : (o : Option ℤ)
+        → AreOfRow r.name (flat_map tells (option_map_or (side_line r) o (triple (codes "RHS") r.name (codes "1e30") ∷ [])))
     by None = (refl, tt)
     by (Some b) = when_row (not (int_eq b (pos 0))) (codes "RHS") r.name (decimal_text b r.decimals)
 
 pub range_own : (r : Row) → AreOfRow r.name (range_told r)
 range_own r = by r.low r.high
   where
-    by : (o p : Option ℤ) → AreOfRow r.name (flat_map tells (option_map_or (λ low. option_map_or (λ high. when (not (int_eq low high)) (triple (codes "RNG") r.name (decimal_text (high -ℤ low) r.decimals))) p []) o []))
+    by : (o p : Option ℤ)
+        → AreOfRow r.name (flat_map tells (option_map_or (λ low. option_map_or (width_line r low) p []) o []))
     by None p = tt
     by (Some low) None = tt
     by (Some low) (Some high) = when_row (not (int_eq low high)) (codes "RNG") r.name (decimal_text (high -ℤ low) r.decimals)
 
-int_eq_true : (a b : ℤ) → int_eq a b ≡ true → a ≡ b
-int_eq_true a b e = grind (arith, ints)
-
 -- what a line of an amount says: nothing for 0
-pub amount_for : (t : Bool) (owner name text : List ℕ) → told_for (flat_map tells (when t (triple owner name text))) name ≡ (if t then Some (number_at text) else None)
-amount_for true owner name text = ap (λ u. option_map (λ (k : Told). number_at k.text) (cond u (Some (record { owner = owner; row = name; text = text })) None)) (bytes_same name)
+pub amount_for : (t : Bool) (owner name text : List ℕ)
+    → told_for (flat_map tells (when t (triple owner name text))) name ≡ (if t then Some (number_or_zero text) else None)
+amount_for true owner name text =
+    ap (λ u. option_map (λ (k : Told). number_or_zero k.text) (cond u (Some (record { owner = owner; row = name; text = text })) None))
+    (text_self name)
 amount_for false owner name text = refl
 
 pub amount_number : (b : ℤ) (k : ℕ) → unsigned_abs b < 2 ^ 64 → k ≤ 9
-    → (units k (unwrap_or (if not (int_eq b (pos 0)) then Some (number_at (decimal_text b k)) else None) no_number) ≡ b) × (is_large (unwrap_or (if not (int_eq b (pos 0)) then Some (number_at (decimal_text b k)) else None) no_number) ≡ false)
+    → (units k (unwrap_or (if not (int_eq b (pos 0)) then Some (number_or_zero (decimal_text b k)) else None) no_number) ≡ b) ×
+    (is_large (unwrap_or (if not (int_eq b (pos 0)) then Some (number_or_zero (decimal_text b k)) else None) no_number) ≡ false)
 amount_number b k small most = by (int_eq b (pos 0)) refl
   where
     by : (t : Bool) → int_eq b (pos 0) ≡ t
-        → (units k (unwrap_or (if not t then Some (number_at (decimal_text b k)) else None) no_number) ≡ b) × (is_large (unwrap_or (if not t then Some (number_at (decimal_text b k)) else None) no_number) ≡ false)
-    by true e = (let zero : pos 0 *ℤ pos (10 ^ (k - 0)) ≡ pos 0 = nothing (10 ^ (k - 0)) in zero ∙ sym (int_eq_true b (pos 0) e), refl)
+        → (units k (unwrap_or (if not t then Some (number_or_zero (decimal_text b k)) else None) no_number) ≡ b) ×
+        (is_large (unwrap_or (if not t then Some (number_or_zero (decimal_text b k)) else None) no_number) ≡ false)
+    by true e =
+        (let zero : pos 0 *ℤ pos (10 ^ (k - 0)) ≡ pos 0 = nothing (10 ^ (k - 0)) in zero ∙ sym ((Decides-int_eq b (pos 0)).0 e), refl)
       where
         nothing : (n : ℕ) → pos 0 *ℤ pos n ≡ pos 0
         nothing n = omega (arith, ints)
@@ -109,42 +131,58 @@ amount_number b k small most = by (int_eq b (pos 0)) refl
 abbrev pub read_sides : Row → Option ℤ × Option ℤ
 read_sides r = row_sides (kind_text r) r.decimals (unwrap_or (told_for (rhs_told r) r.name) no_number) (told_for (range_told r) r.name)
 
-finite_plain : (kind : List ℕ) (k : ℕ) (n : Number) (v : ℤ) → is_large n ≡ false → units k n ≡ v → row_sides kind k n None ≡ plain_sides kind v
+finite_plain : (kind : List ℕ) (k : ℕ) (n : Number) (v : ℤ) → is_large n ≡ false → units k n ≡ v
+    → row_sides kind k n None ≡ plain_sides kind v
 finite_plain kind k n v finite is =
-    ap (λ t. if t && ((bytes_eq kind (codes "L") && not (is_negative_number n)) || (bytes_eq kind (codes "G") && is_negative_number n)) then (None, None) else (if t then (Some (units k n), Some (units k n)) else plain_sides kind (units k n))) finite
+    ap (λ t. if t && ((bytes_eq kind (codes "L") && not (is_negative_number n)) || (bytes_eq kind (codes "G") && is_negative_number n)) then
+    (None, None) else (if t then (Some (units k n), Some (units k n)) else plain_sides kind (units k n))) finite
     ∙ ap (plain_sides kind) is
 
 abbrev row_with : Row → Option ℤ → Option ℤ → Row
 row_with r low' high' = record { name = r.name; decimals = r.decimals; coefs = r.coefs; low = low'; high = high' }
 
-sides_of : (r : Row) (low high : Option ℤ) → r.decimals ≤ 9 → ForSome low (λ b. unsigned_abs b ≤ 2 ^ 62) → ForSome high (λ b. unsigned_abs b ≤ 2 ^ 62) → is_crossed (row_with r low high) ≡ false → read_sides (row_with r low high) ≡ (low, high)
-sides_of r None None most l h c = ap (λ u. row_sides (codes "L") r.decimals (unwrap_or (option_map (λ (k : Told). number_at k.text) (cond u (Some (record { owner = codes "RHS"; row = r.name; text = codes "1e30" })) None)) no_number) None) (bytes_same r.name)
+sides_of : (r : Row) (low high : Option ℤ) → r.decimals ≤ 9 → ForSome low (λ b. unsigned_abs b ≤ 2 ^ 62)
+    → ForSome high (λ b. unsigned_abs b ≤ 2 ^ 62) → is_crossed (row_with r low high) ≡ false
+    → read_sides (row_with r low high) ≡ (low, high)
+sides_of r None None most l h c =
+    ap (λ u. row_sides (codes "L") r.decimals
+    (unwrap_or (option_map (λ (k : Told). number_or_zero k.text)
+    (cond u (Some (record { owner = codes "RHS"; row = r.name; text = codes "1e30" })) None)) no_number) None) (text_self r.name)
 sides_of r (Some low) None most l h c =
     let small : unsigned_abs low < 2 ^ 64 = let s = l low refl in omega arith in
     let given = amount_number low r.decimals small most in
-    ap (λ o. row_sides (codes "G") r.decimals (unwrap_or o no_number) None) (amount_for (not (int_eq low (pos 0))) (codes "RHS") r.name (decimal_text low r.decimals))
-    ∙ finite_plain (codes "G") r.decimals (unwrap_or (if not (int_eq low (pos 0)) then Some (number_at (decimal_text low r.decimals)) else None) no_number) low given.1 given.0
+    ap (λ o. row_sides (codes "G") r.decimals (unwrap_or o no_number) None)
+    (amount_for (not (int_eq low (pos 0))) (codes "RHS") r.name (decimal_text low r.decimals))
+    ∙ finite_plain (codes "G") r.decimals
+    (unwrap_or (if not (int_eq low (pos 0)) then Some
+    (number_or_zero (decimal_text low r.decimals)) else None) no_number) low given.1 given.0
 sides_of r None (Some high) most l h c =
     let small : unsigned_abs high < 2 ^ 64 = let s = h high refl in omega arith in
     let given = amount_number high r.decimals small most in
-    ap (λ o. row_sides (codes "L") r.decimals (unwrap_or o no_number) None) (amount_for (not (int_eq high (pos 0))) (codes "RHS") r.name (decimal_text high r.decimals))
-    ∙ finite_plain (codes "L") r.decimals (unwrap_or (if not (int_eq high (pos 0)) then Some (number_at (decimal_text high r.decimals)) else None) no_number) high given.1 given.0
+    ap (λ o. row_sides (codes "L") r.decimals (unwrap_or o no_number) None)
+    (amount_for (not (int_eq high (pos 0))) (codes "RHS") r.name (decimal_text high r.decimals))
+    ∙ finite_plain (codes "L") r.decimals
+    (unwrap_or (if not (int_eq high (pos 0)) then Some
+    (number_or_zero (decimal_text high r.decimals)) else None) no_number) high given.1 given.0
 sides_of r (Some low) (Some high) most l h c =
-    ap (λ o. row_sides (kind_text (row_with r (Some low) (Some high))) r.decimals (unwrap_or o no_number) (told_for (range_told (row_with r (Some low) (Some high))) r.name)) (amount_for (not (int_eq high (pos 0))) (codes "RHS") r.name (decimal_text high r.decimals))
-    ∙ ap (λ o. row_sides (kind_text (row_with r (Some low) (Some high))) r.decimals given o) (amount_for (not (int_eq low high)) (codes "RNG") r.name (decimal_text (high -ℤ low) r.decimals))
+    ap (λ o. row_sides (kind_text (row_with r (Some low) (Some high))) r.decimals (unwrap_or o no_number)
+    (told_for (range_told (row_with r (Some low) (Some high))) r.name)) (amount_for (not (int_eq high (pos 0))) (codes "RHS") r.name
+    (decimal_text high r.decimals))
+    ∙ ap (λ o. row_sides (kind_text (row_with r (Some low) (Some high))) r.decimals given o)
+    (amount_for (not (int_eq low high)) (codes "RNG") r.name (decimal_text (high -ℤ low) r.decimals))
     ∙ by (int_eq low high) refl
   where
     small : unsigned_abs high < 2 ^ 64
     small = let s = h high refl in omega arith
 
     given : Number
-    given = unwrap_or (if not (int_eq high (pos 0)) then Some (number_at (decimal_text high r.decimals)) else None) no_number
+    given = unwrap_or (if not (int_eq high (pos 0)) then Some (number_or_zero (decimal_text high r.decimals)) else None) no_number
 
     is_given : (units r.decimals given ≡ high) × (is_large given ≡ false)
     is_given = amount_number high r.decimals small most
 
     width : Number
-    width = number_at (decimal_text (high -ℤ low) r.decimals)
+    width = number_or_zero (decimal_text (high -ℤ low) r.decimals)
 
     narrow : unsigned_abs (high -ℤ low) < 2 ^ 64
     narrow = width_small low high (l low refl) (h high refl)
@@ -152,12 +190,18 @@ sides_of r (Some low) (Some high) most l h c =
     back : lt_z high low ≡ false → high -ℤ pos (unsigned_abs (high -ℤ low)) ≡ low
     back e = let order : low ≤ℤ high = grind (arith, ints) in omega (arith, ints)
 
-    by : (t : Bool) → int_eq low high ≡ t → row_sides (if t then codes "E" else codes "L") r.decimals given (if not t then Some width else None) ≡ (Some low, Some high)
-    by true e = finite_plain (codes "E") r.decimals given high is_given.1 is_given.0 ∙ ap (λ z. (Some z, Some high)) (sym (int_eq_true low high e))
+    by : (t : Bool) → int_eq low high ≡ t
+        → row_sides (if t then codes "E" else codes "L") r.decimals given (if not t then Some width else None) ≡ (Some low, Some high)
+    by true e =
+        finite_plain (codes "E") r.decimals given high is_given.1 is_given.0
+        ∙ ap (λ z. (Some z, Some high)) (sym ((Decides-int_eq low high).0 e))
     by false e =
-        ap (λ t. if t then (Some (units r.decimals given), Some (units r.decimals given)) else range_sides (codes "L") (units r.decimals given) (not (is_large width)) (units r.decimals width) (unsigned_abs (units r.decimals width))) is_given.1
-        ∙ ap (λ v. range_sides (codes "L") v (not (is_large width)) (units r.decimals width) (unsigned_abs (units r.decimals width))) is_given.0
-        ∙ ap (λ t. range_sides (codes "L") high (not t) (units r.decimals width) (unsigned_abs (units r.decimals width))) (decimal_text_finite (high -ℤ low) r.decimals narrow most)
+        ap (λ t. if t then (Some (units r.decimals given), Some (units r.decimals given)) else range_sides (codes "L")
+        (units r.decimals given) (not (is_large width)) (units r.decimals width) (unsigned_abs (units r.decimals width))) is_given.1
+        ∙ ap (λ v. range_sides (codes "L") v (not (is_large width)) (units r.decimals width)
+        (unsigned_abs (units r.decimals width))) is_given.0
+        ∙ ap (λ t. range_sides (codes "L") high (not t) (units r.decimals width) (unsigned_abs (units r.decimals width)))
+        (decimal_text_finite (high -ℤ low) r.decimals narrow most)
         ∙ ap (λ v. (Some (high -ℤ pos (unsigned_abs v)), Some high)) (decimal_text_units (high -ℤ low) r.decimals narrow most)
         ∙ ap (λ v. (Some v, Some high)) (back c)
 

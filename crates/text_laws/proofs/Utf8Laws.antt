@@ -12,21 +12,22 @@ use Rattle.std.proofs.lemmas.List.Elements.{All-cons, All-nil}
 use Rattle.std.proofs.lemmas.Str.{IsUtf8-append, IsUtf8-nil, IsUtf8-from_ascii, IsUtf8-from_is_utf8, is_utf8-from_IsUtf8}
 use Rattle.std.proofs.lemmas.Str.Ascii.{IsAscii-from_all}
 use Rattle.std.proofs.Math.Nat.{div-le_self}
-use Rattle.decimals.proofs.NumberLaws.{both_true}
-use Rattle.decimals.proofs.DecimalLaws.{ten_positive}
-use Rattle.ip_defs.specs.Lists.{when}
-use Rattle.ip_defs.specs.Numbers.{decimal_text, size_text, places, is_digit}
-use Rattle.ip_defs.specs.Texts.{Written, head, pair, triple, bound, kind_text, is_equation, is_from_below, coef_line, column_block, columns_block, right_side, rhs_line, constant_line, range_line, written_text, canonical_text, value_text, newline}
+use Rattle.ip_defs.specs.Lists.{Each}
+use Rattle.mps_defs.specs.Numbers.{decimal_text, size_text, places, is_digit}
+use Rattle.mps_defs.specs.CanonicalText.{Written, head, pair, triple, bound, kind_text, is_equation, is_from_below, coef_line, column_block, columns_block, right_side, rhs_line, constant_line, range_line, written_text, canonical_text, value_text, newline, side_line, width_line}
 use Rattle.ip_defs.specs.declared.programs.Column.{Column}
 use Rattle.ip_defs.specs.declared.programs.Row.{Row}
 use Rattle.ip_defs.specs.declared.programs.Parts.{Parts}
 use Rattle.text_laws.specs.ReadBack.{HasTextNames}
 use Rattle.text_laws.proofs.NumeralLaws.{digit_range, decimal_digits, places_digits}
 use Rattle.text_laws.proofs.NumberTextLaws.{signed_decimal_is}
-use Rattle.text_laws.proofs.ListLaws.{Each, each_append, each_flat, each_map, each_when, each_both}
+use Rattle.text_laws.proofs.ListLaws.{each_flat, each_map, each_when, each_both}
 use Rattle.text_laws.proofs.SectionLaws.{Sections, section_lines, after_columns, after_right_sides, after_ranges, after_bounds}
 use Rattle.text_laws.proofs.CanonicalLaws.{sections_of, canonical_sections}
-use Rattle.text_laws.proofs.ReadableLaws.{IsProgramText, IsRowText, IsColumnText, all_from, all_enumerated, found_small, right_side_small, width_small, negated_small}
+use Rattle.text_laws.proofs.ReadableLaws.{IsProgramText, IsRowText, IsColumnText, all_from, found_small, right_side_small, width_small, negated_small}
+use Rattle.ip_defs.proofs.BoolLaws.{both_true}
+use Rattle.ip_defs.proofs.ListLaws.{each_numbered, each_append}
+use Rattle.mps_defs.proofs.NumberLaws.{ten_positive}
 
 -- ---- numbers
 
@@ -43,11 +44,14 @@ digits_utf8 (d ∷ ds) e =
 size_utf8 : (n k : ℕ) → n < 2 ^ 64 → IsUtf8 (size_text n k)
 size_utf8 n k h =
     let w : n / 10 ^ k < 2 ^ 64 = let e = div-le_self n (10 ^ k) in omega arith in
-    IsUtf8-append (decimal (n / 10 ^ k)) (if n % 10 ^ k == 0 then [] else 46 ∷ places k (n % 10 ^ k)) (digits_utf8 (decimal (n / 10 ^ k)) (decimal_digits (n / 10 ^ k) w)) (by (n % 10 ^ k == 0))
+    IsUtf8-append (decimal (n / 10 ^ k)) (if n % 10 ^ k == 0 then [] else 46 ∷ places k (n % 10 ^ k))
+    (digits_utf8 (decimal (n / 10 ^ k)) (decimal_digits (n / 10 ^ k) w)) (by (n % 10 ^ k == 0))
   where
     by : (t : Bool) → IsUtf8 (if t then [] else 46 ∷ places k (n % 10 ^ k))
     by true = IsUtf8-nil
-    by false = IsUtf8-append (46 ∷ []) (places k (n % 10 ^ k)) (low_utf8 46 (omega arith)) (digits_utf8 (places k (n % 10 ^ k)) (places_digits k (n % 10 ^ k) (let p = ten_positive k in omega arith)))
+    by false =
+        IsUtf8-append (46 ∷ []) (places k (n % 10 ^ k)) (low_utf8 46 (omega arith))
+        (digits_utf8 (places k (n % 10 ^ k)) (places_digits k (n % 10 ^ k) (let p = ten_positive k in omega arith)))
 
 number_utf8 : (z : ℤ) (k : ℕ) → unsigned_abs z < 2 ^ 64 → IsUtf8 (decimal_text z k)
 number_utf8 (pos n) k h = size_utf8 n k h
@@ -67,7 +71,8 @@ AreTexts ws = Each IsText ws
 
 data_utf8 : (fs : List (List ℕ)) → Each IsUtf8 fs → IsUtf8 (flat_map (λ f. 32 ∷ f) fs)
 data_utf8 [] h = IsUtf8-nil
-data_utf8 (f ∷ fs) h = IsUtf8-append (32 ∷ f) (flat_map (λ g. 32 ∷ g) fs) (IsUtf8-append (32 ∷ []) f (low_utf8 32 (omega arith)) h.0) (data_utf8 fs h.1)
+data_utf8 (f ∷ fs) h =
+    IsUtf8-append (32 ∷ f) (flat_map (λ g. 32 ∷ g) fs) (IsUtf8-append (32 ∷ []) f (low_utf8 32 (omega arith)) h.0) (data_utf8 fs h.1)
 
 word_utf8 : (fs : List (List ℕ)) → Each IsUtf8 fs → IsUtf8 (concat fs)
 word_utf8 [] h = IsUtf8-nil
@@ -84,7 +89,9 @@ text_utf8 (w ∷ ws) h = IsUtf8-append (written_text w) (flat_map written_text w
 -- a word of ASCII
 ascii : (bs : List ℕ) → list_all (λ b. nat_lt b 128) bs ≡ true → IsUtf8 bs
 ascii [] e = IsUtf8-nil
-ascii (b ∷ bs) e = let h = both_true (nat_lt b 128) (list_all (λ x. nat_lt x 128) bs) e in IsUtf8-append (b ∷ []) bs (low_utf8 b (ltb-true b 128 h.0)) (ascii bs h.1)
+ascii (b ∷ bs) e =
+    let h = both_true (nat_lt b 128) (list_all (λ x. nat_lt x 128) bs) e in IsUtf8-append (b ∷ []) bs (low_utf8 b (ltb-true b 128 h.0))
+    (ascii bs h.1)
 
 -- ---- the lines of a program
 
@@ -119,25 +126,31 @@ kind_utf8 r = by (is_equation r) (is_from_below r)
 coef_utf8 : (j : ℕ) (name : List ℕ) (r : Row) → IsUtf8 name → IsRowUtf8 r → AreTexts (coef_line j name r)
 coef_utf8 j name r e h = by (find (λ p. p.0 == j) r.coefs) refl
   where
-    by : (o : Option (ℕ × ℤ)) → find (λ p. p.0 == j) r.coefs ≡ o → AreTexts (option_map_or (λ p. triple name r.name (decimal_text p.1 r.decimals) ∷ []) o [])
+    by : (o : Option (ℕ × ℤ)) → find (λ p. p.0 == j) r.coefs ≡ o
+        → AreTexts (option_map_or (λ p. triple name r.name (decimal_text p.1 r.decimals) ∷ []) o [])
     by None f = tt
     by (Some p) f = ((e, (h.name, (number_utf8 p.1 r.decimals (found_small r.coefs (λ q. q.0 == j) p h.text.coefs f), tt))), tt)
 
 rhs_utf8 : (r : Row) → IsRowUtf8 r → AreTexts (rhs_line r)
 rhs_utf8 r h = by (right_side r) (right_side_small r h.text)
   where
-    by : (o : Option ℤ) → ForSome o (λ b. unsigned_abs b ≤ 2 ^ 62) → AreTexts (option_map_or (λ b. when (not (int_eq b (pos 0))) (triple (codes "RHS") r.name (decimal_text b r.decimals))) o (triple (codes "RHS") r.name (codes "1e30") ∷ []))
+    by : (o : Option ℤ) → ForSome o (λ b. unsigned_abs b ≤ 2 ^ 62)
+        → AreTexts (option_map_or (side_line r) o (triple (codes "RHS") r.name (codes "1e30") ∷ []))
     by None s = ((ascii (codes "RHS") refl, (h.name, (ascii (codes "1e30") refl, tt))), tt)
-    by (Some b) s = each_when IsText (not (int_eq b (pos 0))) (triple (codes "RHS") r.name (decimal_text b r.decimals)) (ascii (codes "RHS") refl, (h.name, (number_utf8 b r.decimals (let l = s b refl in omega arith), tt)))
+    by (Some b) s =
+        each_when IsText (not (int_eq b (pos 0))) (triple (codes "RHS") r.name (decimal_text b r.decimals))
+        (ascii (codes "RHS") refl, (h.name, (number_utf8 b r.decimals (let l = s b refl in omega arith), tt)))
 
 range_utf8 : (r : Row) → IsRowUtf8 r → AreTexts (range_line r)
 range_utf8 r h = by r.low r.high h.text.low h.text.high
   where
     by : (o p : Option ℤ) → ForSome o (λ b. unsigned_abs b ≤ 2 ^ 62) → ForSome p (λ b. unsigned_abs b ≤ 2 ^ 62)
-        → AreTexts (option_map_or (λ low. option_map_or (λ high. when (not (int_eq low high)) (triple (codes "RNG") r.name (decimal_text (high -ℤ low) r.decimals))) p []) o [])
+        → AreTexts (option_map_or (λ low. option_map_or (width_line r low) p []) o [])
     by None p s t = tt
     by (Some low) None s t = tt
-    by (Some low) (Some high) s t = each_when IsText (not (int_eq low high)) (triple (codes "RNG") r.name (decimal_text (high -ℤ low) r.decimals)) (ascii (codes "RNG") refl, (h.name, (number_utf8 (high -ℤ low) r.decimals (width_small low high (s low refl) (t high refl)), tt)))
+    by (Some low) (Some high) s t =
+        each_when IsText (not (int_eq low high)) (triple (codes "RNG") r.name (decimal_text (high -ℤ low) r.decimals))
+        (ascii (codes "RNG") refl, (h.name, (number_utf8 (high -ℤ low) r.decimals (width_small low high (s low refl) (t high refl)), tt)))
 
 marker_utf8 : (word : List ℕ) → IsUtf8 word → Each IsUtf8 (codes "M" ∷ codes "'MARKER'" ∷ word ∷ [])
 marker_utf8 word h = (ascii (codes "M") refl, (ascii (codes "'MARKER'") refl, (h, tt)))
@@ -156,12 +169,26 @@ block_utf8 m h t = by (length m.columns == 0)
 
     are : AreTexts blocks
     are =
-        each_flat (λ p. IsColumnUtf8 p.1) IsText (column_block m) (enumerate_from 0 m.columns) (all_enumerated IsColumnUtf8 0 m.columns (columns_utf8 m h t))
-        (λ p c. ((c.name, (IsUtf8-from_is_utf8 m.objective t.objective, (number_utf8 p.1.cost m.cost_decimals c.text.cost, tt))), each_flat IsRowUtf8 IsText (coef_line p.0 p.1.name) m.rows (rows_utf8 m h t) (λ r k. coef_utf8 p.0 p.1.name r c.name k)))
+        each_flat (λ p. IsColumnUtf8 p.1) IsText (column_block m) (enumerate_from 0 m.columns)
+        (each_numbered IsColumnUtf8 0 m.columns (columns_utf8 m h t))
+        (λ p c. (
+          (
+            c.name,
+            (
+              IsUtf8-from_is_utf8 m.objective t.objective,
+              (number_utf8 p.1.cost m.cost_decimals c.text.cost, tt),
+            ),
+          ),
+          each_flat IsRowUtf8 IsText (coef_line p.0 p.1.name) m.rows (rows_utf8 m h t) (λ r k. coef_utf8 p.0 p.1.name r c.name k),
+        ))
 
     by : (u : Bool) → AreTexts (if u then [] else start ∷ blocks ++ last ∷ [])
     by true = tt
-    by false = (marker_utf8 (codes "'INTORG'") (ascii (codes "'INTORG'") refl), each_append IsText blocks (last ∷ []) are (marker_utf8 (codes "'INTEND'") (ascii (codes "'INTEND'") refl), tt))
+    by false = (
+      marker_utf8 (codes "'INTORG'") (ascii (codes "'INTORG'") refl),
+      each_append IsText blocks (last ∷ []) are
+          (marker_utf8 (codes "'INTEND'") (ascii (codes "'INTEND'") refl), tt),
+    )
 
 bound_utf8 : (kind name : List ℕ) (z : ℤ) → IsUtf8 kind → IsUtf8 name → unsigned_abs z < 2 ^ 64 → Each IsUtf8 (bound kind name z).1
 bound_utf8 kind name z e f h = (e, (ascii (codes "BND") refl, (f, (whole_utf8 z h, tt))))
@@ -200,15 +227,29 @@ canonical_utf8 m h t =
     rows = rows_utf8 m h t
 
     rows_are : AreTexts ((sections_of m).rows)
-    rows_are = ((ascii (codes "N") refl, (IsUtf8-from_is_utf8 m.objective t.objective, tt)), each_map IsRowUtf8 IsText (λ r. pair (kind_text r) r.name) m.rows (rows_utf8 m h t) (λ r k. (kind_utf8 r, (k.name, tt))))
+    rows_are = (
+      (ascii (codes "N") refl, (IsUtf8-from_is_utf8 m.objective t.objective, tt)),
+      each_map IsRowUtf8 IsText
+          (λ r. pair (kind_text r) r.name) m.rows (rows_utf8 m h t) (λ r k. (kind_utf8 r, (k.name, tt))),
+    )
 
     sides_are : AreTexts ((sections_of m).right_sides)
     sides_are =
         each_append IsText (constant_line m) (flat_map rhs_line m.rows)
-        (each_when IsText (not (int_eq m.constant (pos 0))) (triple (codes "RHS") m.objective (value_text m (neg_ℤ m.constant))) (ascii (codes "RHS") refl, (IsUtf8-from_is_utf8 m.objective t.objective, (number_utf8 (neg_ℤ m.constant) m.cost_decimals (negated_small m.constant h.constant), tt))))
+        (each_when IsText (not (int_eq m.constant (pos 0))) (triple (codes "RHS") m.objective (value_text m (neg_ℤ m.constant))) (
+          ascii (codes "RHS") refl,
+          (
+            IsUtf8-from_is_utf8 m.objective t.objective,
+            (number_utf8 (neg_ℤ m.constant) m.cost_decimals (negated_small m.constant h.constant), tt),
+          ),
+        ))
         (each_flat IsRowUtf8 IsText rhs_line m.rows (rows_utf8 m h t) rhs_utf8)
 
     bounds_are : AreTexts ((sections_of m).bounds)
     bounds_are =
-        each_flat IsColumnUtf8 IsText (λ c. bound (codes "LO") c.name c.lo ∷ bound (codes "UP") c.name c.hi ∷ []) m.columns (columns_utf8 m h t)
-        (λ c k. (bound_utf8 (codes "LO") c.name c.lo (ascii (codes "LO") refl) k.name k.text.lo, (bound_utf8 (codes "UP") c.name c.hi (ascii (codes "UP") refl) k.name k.text.hi, tt)))
+        each_flat IsColumnUtf8 IsText (λ c. bound (codes "LO") c.name c.lo ∷ bound (codes "UP") c.name c.hi ∷ []) m.columns
+        (columns_utf8 m h t)
+        (λ c k. (
+          bound_utf8 (codes "LO") c.name c.lo (ascii (codes "LO") refl) k.name k.text.lo,
+          (bound_utf8 (codes "UP") c.name c.hi (ascii (codes "UP") refl) k.name k.text.hi, tt),
+        ))

@@ -3,16 +3,16 @@ use Rattle.std.specs.Prelude.{◌≡◌, ℕ, ◌≤◌, true, false, List, [], 
 use Rattle.std.specs.Int.RustNames.{unsigned_abs}
 use Rattle.std.specs.Option.{option_map_or}
 use Rattle.std.specs.Str.{is_utf8}
-use Rattle.ip_defs.specs.Lists.{is_among}
+use Rattle.mps_defs.specs.Lists.{is_among}
 use Rattle.ip_defs.specs.Limits.{IsWithinLimits}
-use Rattle.ip_defs.specs.Numbers.{least_decimals}
-use Rattle.ip_defs.specs.Texts.{canonical_text, is_printable, right_side}
-use Rattle.ip_defs.specs.TextModels.{largest}
-use Rattle.ip_defs.specs.Faults.{mps_fault, model_of}
+use Rattle.mps_defs.specs.Numbers.{least_decimals}
+use Rattle.mps_defs.specs.CanonicalText.{canonical_text, is_printable, right_side}
+use Rattle.mps_defs.specs.TextModels.{largest}
+use Rattle.mps_defs.specs.Faults.{mps_fault, model_of}
 use Rattle.ip_defs.specs.declared.programs.Column.{Column}
 use Rattle.ip_defs.specs.declared.programs.Row.{Row}
 use Rattle.ip_defs.specs.declared.programs.Parts.{Parts}
-use Rattle.ip_defs.specs.declared.texts.How.{How}
+use Rattle.mps_defs.specs.declared.texts.How.{How}
 
 -- no text stands twice in a list
 abbrev pub AreDistinct : List (List ℕ) → Type 0
@@ -37,7 +37,8 @@ cost_amounts m = map (λ c. c.cost) m.columns ++ m.constant ∷ []
 -- the decimals are the least ones that write the amounts, and no fewer than those asked for
 pub record HasLeastDecimals (digits : ℕ) (m : Parts) : Type 0 where
   pub costs : m.cost_decimals ≡ largest digits (map (needed_decimals m.cost_decimals) (cost_amounts m))
-  pub rows : (i : ℕ) (r : Row) → slice_get m.rows i ≡ Some r → r.decimals ≡ largest digits (map (needed_decimals r.decimals) (row_amounts r))
+  pub rows : (i : ℕ) (r : Row) → slice_get m.rows i ≡ Some r
+      → r.decimals ≡ largest digits (map (needed_decimals r.decimals) (row_amounts r))
 
 -- the names of a program are UTF-8
 pub record HasTextNames (m : Parts) : Type 0 where
@@ -65,10 +66,14 @@ CanonicalTextsAreReadBack = (m : Parts) (how : How) → IsCanonical m how → mo
 
 -- each printable program that was read of a text without a fault is such a program
 abbrev pub ModelsReadAreCanonical : Type 0
-ModelsReadAreCanonical = (text : List ℕ) (how : How) → how.digits ≤ 9 → mps_fault text how ≡ None → is_printable (model_of text how) ≡ true → IsCanonical (model_of text how) how
+ModelsReadAreCanonical =
+    (text : List ℕ) (how : How) → how.digits ≤ 9 → mps_fault text how ≡ None → is_printable (model_of text how) ≡ true
+    → IsCanonical (model_of text how) how
 
 -- so its canonical text, read with the same digits and any box side, has no fault and gives the program again
 abbrev pub ModelsReadArePrintedAndReadBack : Type 0
 ModelsReadArePrintedAndReadBack =
-    (text : List ℕ) (how again : How) → how.digits ≤ 9 → again.digits ≡ how.digits → mps_fault text how ≡ None → is_printable (model_of text how) ≡ true
-    → (mps_fault (canonical_text (model_of text how)) again ≡ None) × (model_of (canonical_text (model_of text how)) again ≡ model_of text how)
+    (text : List ℕ) (how again : How) → how.digits ≤ 9 → again.digits ≡ how.digits → mps_fault text how ≡ None
+    → is_printable (model_of text how) ≡ true
+    → (mps_fault (canonical_text (model_of text how)) again ≡ None)
+    × (model_of (canonical_text (model_of text how)) again ≡ model_of text how)

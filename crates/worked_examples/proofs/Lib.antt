@@ -1,4 +1,4 @@
-pub mod AnswerExamples
+pub mod CanonicalExamples
 pub mod NumberExamples
 pub mod ProgramExamples
 pub mod TextExamples

@@ -1,8 +1,8 @@
 -- Numbers of texts and decimal texts, computed.
 use Rattle.std.specs.Prelude.{◌≡◌, [], codes, refl, None, Some, pos, negsuc, true, false}
 use Rattle.std.specs.Fmt.{digits}
-use Rattle.ip_defs.specs.Numbers.{number_of, scaled_lem, decimal_text}
-use Rattle.ip_defs.specs.declared.texts.Number.TheVariants.{Dec, Large}
+use Rattle.mps_defs.specs.Numbers.{number_of, exact_units, decimal_text}
+use Rattle.mps_defs.specs.declared.texts.Number.TheVariants.{Dec, Large}
 
 pub two_and_a_half : number_of (codes "2.50") ≡ Some (Dec (pos 25) 1)
 two_and_a_half = refl
@@ -76,10 +76,10 @@ zero_large = refl
 pub large_exponent : number_of (codes "-1e9999") ≡ Some (Large true)
 large_exponent = refl
 
-pub scaled_1 : scaled_lem (Dec (pos 25) 1) 3 ≡ Some (pos 2500)
+pub scaled_1 : exact_units (Dec (pos 25) 1) 3 ≡ Some (pos 2500)
 scaled_1 = refl
 
-pub scaled_2 : scaled_lem (Dec (pos 25) 1) 0 ≡ None
+pub scaled_2 : exact_units (Dec (pos 25) 1) 0 ≡ None
 scaled_2 = refl
 
 pub text_1 : decimal_text (negsuc 2499) 3 ≡ codes "-2.5"

@@ -19,6 +19,10 @@ loop-j-preserved c =
     let is : width ≡ high_at b j -ℤ low_at b j = rw (high, low) at c.width_of-width.ensures in
     let back : to_z w64 (of_z w64 width) ≡ width = omega (arith, ints) in
     elim c.if-width-most.branch [
-      | then-width-most w ↦ rw (w.widest-is, w.most-is, back) (widest_more b j c.loop-j.widest (to_z w64 c.loop-j.most-bits) width c.loop-j.invariant is (let t = w.if-width-most.true in omega (arith, ints)))
-      | else-width-most w ↦ rw (w.widest-is, w.most-is) (widest_same b j c.loop-j.widest (to_z w64 c.loop-j.most-bits) width c.loop-j.invariant is (let t = w.if-width-most.false in omega (arith, ints)))
+      | then-width-most w ↦ rw (w.widest-is, w.most-is, back)
+          (widest_more b j c.loop-j.widest (to_z w64 c.loop-j.most-bits) width c.loop-j.invariant is
+          (let t = w.if-width-most.true in omega (arith, ints)))
+      | else-width-most w ↦ rw (w.widest-is, w.most-is)
+          (widest_same b j c.loop-j.widest (to_z w64 c.loop-j.most-bits) width c.loop-j.invariant is
+          (let t = w.if-width-most.false in omega (arith, ints)))
     ]

@@ -2,7 +2,7 @@ use Rattle.std.proofs.Common.{◌∙◌, ap, sym, arith}
 use Rattle.std.specs.Prelude.{pos, negsuc}
 use Rattle.std.proofs.lemmas.Int.{ints}
 use Rattle.ip_defs.specs.Certificates.{leaf_bound}
-use Rattle.branching.specs.Search.{lowest}
+use Rattle.branching.specs.Internal.Search.{lowest}
 use Rattle.branching.proofs.RowLaws.{other_ray, ray_cert, broken_within}
 use Rattle.branching.proofs.ends.ray_of.Goals as goal
 
@@ -21,4 +21,5 @@ returns-in-At-clause-infinite c =
     let m = c.args.model.now in
     let b = c.args.area.now in
     let low_is = ap (leaf_bound m b) (sym c.in_ok-ray.ensures) ∙ sym c.in-At.ensures.bound in
-    rw (c.set.ensures, c.in_ok-ray.ensures) (other_ray m b c.args.row c.in-At.field-0 c.requires.single c.requires.open c.requires.broken low_is)
+    rw (c.set.ensures, c.in_ok-ray.ensures)
+    (other_ray m b c.args.row c.in-At.field-0 c.requires.single c.requires.open c.requires.broken low_is)

@@ -7,4 +7,5 @@ pub end_at_point-requires-clause-below : goal.end_at_point-requires-clause-below
 end_at_point-requires-clause-below g c =
     let m = c.args.model.now in
     let b = c.args.area.now in
-    (not_closed m b c.args.search.now.found c.leaf_bound-bound.result (c.leaf_bound-bound.ensures.bound ∙ ap (leaf_bound m b) c.plain_cert-plain.ensures) c.if-is_closed.ensures).1
+    (not_closed m b c.args.search.now.found c.leaf_bound-bound.result
+    (c.leaf_bound-bound.ensures.bound ∙ ap (leaf_bound m b) c.plain_cert-plain.ensures) c.if-is_closed.ensures).1

@@ -4,8 +4,8 @@ use Rattle.std.specs.Int.{w64, w128}
 use Rattle.std.proofs.lemmas.Int.{ints}
 use Rattle.frac128.specs.Rationals.{Rational, of, AtMost}
 use Rattle.branching.specs.declared.reasons.Why.TheVariants.{Fractional}
-use Rattle.branching.specs.Relaxed.{IsSmallNumber, IsWholeNumber}
-use Rattle.branching.specs.Search.{IsSplit}
+use Rattle.branching.specs.Internal.Relaxed.{IsSmallNumber, IsWholeNumber}
+use Rattle.branching.specs.Internal.Search.{IsSplit}
 use Rattle.branching.proofs.BoundedLaws.{fraction_splits, number_small, point_better, point_closes, point_feasible}
 use Rattle.branching.proofs.WholeLaws.{number_read}
 use Rattle.branching.proofs.relaxations.bounded.Goals as goal
@@ -13,20 +13,24 @@ use Rattle.branching.proofs.relaxations.bounded.Goals as goal
 pub floor_of-at-requires-clause-broken : goal.floor_of-at-requires-clause-broken
 floor_of-at-requires-clause-broken c =
     let found = rw c.as_slice.ensures at c.in-Some.ensures.some in
-    let read = number_read c.args.point c.in-Some.col c.index-as_slice-col.result found.0 (rw c.as_slice-in-Some.ensures at c.index-as_slice-col.is) in
+    let read = number_read c.args.point c.in-Some.col c.index-as_slice-col.result found.0
+    (rw c.as_slice-in-Some.ensures at c.index-as_slice-col.is) in
     subst (λ (p : Rational). IsWholeNumber p → ⊥) read found.1
 
 pub floor_of-at-requires-clause-small : goal.floor_of-at-requires-clause-small
 floor_of-at-requires-clause-small c =
     let found = rw c.as_slice.ensures at c.in-Some.ensures.some in
-    let read = number_read c.args.point c.in-Some.col c.index-as_slice-col.result found.0 (rw c.as_slice-in-Some.ensures at c.index-as_slice-col.is) in
-    subst IsSmallNumber read (number_small c.args.model.now c.args.area.now c.args.point c.args.cert c.requires.bounds c.requires.area c.in-Some.col found.0)
+    let read = number_read c.args.point c.in-Some.col c.index-as_slice-col.result found.0
+    (rw c.as_slice-in-Some.ensures at c.index-as_slice-col.is) in
+    subst IsSmallNumber read (number_small c.args.model.now c.args.area.now c.args.point c.args.cert c.requires.bounds c.requires.area
+    c.in-Some.col found.0)
 
 pub whole_point-requires-clause-whole : goal.whole_point-requires-clause-whole
 whole_point-requires-clause-whole c = rw (c.as_slice-in-None.ensures, sym c.as_slice.ensures) c.in-None.ensures.none
 
 pub whole_point-requires-clause-small : goal.whole_point-requires-clause-small
-whole_point-requires-clause-small c = rw c.as_slice-in-None.ensures (number_small c.args.model.now c.args.area.now c.args.point c.args.cert c.requires.bounds c.requires.area)
+whole_point-requires-clause-small c =
+    rw c.as_slice-in-None.ensures (number_small c.args.model.now c.args.area.now c.args.point c.args.cert c.requires.bounds c.requires.area)
 
 pub returns-in-Some-clause-relaxed : goal.returns-in-Some-clause-relaxed
 returns-in-Some-clause-relaxed c = λ pivots.
@@ -34,11 +38,13 @@ returns-in-Some-clause-relaxed c = λ pivots.
     let b = c.args.area.now in
     let col = c.in-Some.col in
     let found = rw c.as_slice.ensures at c.in-Some.ensures.some in
-    let read = number_read c.args.point col c.index-as_slice-col.result found.0 (rw c.as_slice-in-Some.ensures at c.index-as_slice-col.is) in
+    let read = number_read c.args.point col c.index-as_slice-col.result found.0
+    (rw c.as_slice-in-Some.ensures at c.index-as_slice-col.is) in
     let cut = c.floor_of-at.result in
     let least = subst (AtMost (of cut)) (sym read) c.floor_of-at.ensures.least in
     let most = subst (λ (p : Rational). AtMost p (of (cut +ℤ pos 1))) (sym read) c.floor_of-at.ensures.most in
-    let split = fraction_splits m b c.args.point c.args.cert c.requires.bounds c.requires.area pivots col cut c.requires.limits c.requires.open found.0 found.1 least most in
+    let split = fraction_splits m b c.args.point c.args.cert c.requires.bounds c.requires.area pivots col cut c.requires.limits
+    c.requires.open found.0 found.1 least most in
     let small = split.cut_small in
     let back : to_z w64 (of_z w64 cut) ≡ cut = omega (arith, ints) in
     subst (λ (z : ℤ). IsSplit m pivots b col z (Fractional c.args.point c.args.cert)) (sym back) split
@@ -47,18 +53,24 @@ pub returns-in_ok-point-in-None-clause-relaxed : goal.returns-in_ok-point-in-Non
 returns-in_ok-point-in-None-clause-relaxed c = λ pivots.
     let size = rw c.as_slice-in-None.ensures at c.in_ok-point-in-None.ensures.size in
     let same = rw c.as_slice-in-None.ensures at c.in_ok-point-in-None.ensures.same in
-    point_closes c.args.model.now c.args.area.now c.args.point c.args.cert c.requires.bounds c.requires.area c.in_ok-point-in-None.point size same (to_z w128 (of_z w128 c.cost-cost.result)) c.requires.limits c.requires.open
+    point_closes c.args.model.now c.args.area.now c.args.point c.args.cert c.requires.bounds c.requires.area c.in_ok-point-in-None.point
+    size same (to_z w128 (of_z w128 c.cost-cost.result)) c.requires.limits c.requires.open
 
 pub returns-in_ok-point-in-None-clause-sound : goal.returns-in_ok-point-in-None-clause-sound
 returns-in_ok-point-in-None-clause-sound c =
     let size = rw c.as_slice-in-None.ensures at c.in_ok-point-in-None.ensures.size in
     let same = rw c.as_slice-in-None.ensures at c.in_ok-point-in-None.ensures.same in
-    let back : to_z w128 (of_z w128 c.cost-cost.result) ≡ c.cost-cost.result = omega (arith, ints) in
-    (point_feasible c.args.model.now c.args.area.now c.args.point c.args.cert c.requires.bounds c.requires.area c.in_ok-point-in-None.point size same, sym c.cost-cost.ensures ∙ sym back)
+    let back : to_z w128 (of_z w128 c.cost-cost.result) ≡ c.cost-cost.result = omega (arith, ints) in (
+      point_feasible c.args.model.now c.args.area.now c.args.point c.args.cert c.requires.bounds c.requires.area c.in_ok-point-in-None.point
+          size same,
+      sym c.cost-cost.ensures ∙ sym back,
+    )
 
 pub returns-in_ok-point-in-None-clause-improves : goal.returns-in_ok-point-in-None-clause-improves
 returns-in_ok-point-in-None-clause-improves c =
     let size = rw c.as_slice-in-None.ensures at c.in_ok-point-in-None.ensures.size in
     let same = rw c.as_slice-in-None.ensures at c.in_ok-point-in-None.ensures.same in
     let back : to_z w128 (of_z w128 c.cost-cost.result) ≡ c.cost-cost.result = omega (arith, ints) in
-    point_better c.args.model.now c.args.area.now c.args.point c.args.cert c.requires.bounds c.requires.area c.in_ok-point-in-None.point size same c.args.search.now.found c.leaf_bound-bound.result (to_z w128 (of_z w128 c.cost-cost.result)) c.requires.open c.leaf_bound-bound.ensures.bound c.if-is_closed.ensures (sym c.cost-cost.ensures ∙ sym back)
+    point_better c.args.model.now c.args.area.now c.args.point c.args.cert c.requires.bounds c.requires.area c.in_ok-point-in-None.point
+    size same c.args.search.now.found c.leaf_bound-bound.result (to_z w128 (of_z w128 c.cost-cost.result)) c.requires.open
+    c.leaf_bound-bound.ensures.bound c.if-is_closed.ensures (sym c.cost-cost.ensures ∙ sym back)

@@ -13,7 +13,10 @@ loop-j-preserved c =
     let l = c.loop-j-test.true in
     let read = number_read xs i x l c.index-point-j.is in
     elim c.if-not-is_whole.branch [
-      | then-not-is_whole+then-is_none w ↦ subst (λ (k : Option ℕ). IsBrokenAt xs (i + 1) k) (sym w.nearest-is) (broken_here xs i (value_of x) l read w.if-not-is_whole.ensures)
-      | then-not-is_whole+else-is_none+else-distance-least w ↦ subst (λ (k : Option ℕ). IsBrokenAt xs (i + 1) k) (sym w.nearest-is) (broken_before xs i c.loop-j.nearest c.loop-j.invariant w.if-is_none.ensures)
-      | else-not-is_whole w ↦ subst (λ (k : Option ℕ). IsBrokenAt xs (i + 1) k) (sym w.nearest-is) (whole_more xs i (value_of x) c.loop-j.nearest c.loop-j.invariant read w.if-not-is_whole.ensures)
+      | then-not-is_whole+then-is_none w ↦ subst (λ (k : Option ℕ). IsBrokenAt xs (i + 1) k) (sym w.nearest-is)
+          (broken_here xs i (value_of x) l read w.if-not-is_whole.ensures)
+      | then-not-is_whole+else-is_none+else-distance-least w ↦ subst (λ (k : Option ℕ). IsBrokenAt xs (i + 1) k) (sym w.nearest-is)
+          (broken_before xs i c.loop-j.nearest c.loop-j.invariant w.if-is_none.ensures)
+      | else-not-is_whole w ↦ subst (λ (k : Option ℕ). IsBrokenAt xs (i + 1) k) (sym w.nearest-is)
+          (whole_more xs i (value_of x) c.loop-j.nearest c.loop-j.invariant read w.if-not-is_whole.ensures)
     ]

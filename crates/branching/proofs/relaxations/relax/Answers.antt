@@ -1,12 +1,12 @@
 use Rattle.std.proofs.Common.{rules, ◌∙◌, ◌≤◌, sym}
 use Rattle.branching.specs.Reasons.{wide_within, long_prices, long_ray}
-use Rattle.branching.proofs.LeafLaws.{open_none}
+use Rattle.ip_defs.proofs.BoxLaws.{open_sides}
 use Rattle.branching.proofs.PriceLaws.{prices_bound}
 use Rattle.branching.proofs.StepLaws.{answered_least}
 use Rattle.branching.proofs.relaxations.relax.Goals as goal
 
 pub solve_lp-requires-clause-proper : goal.solve_lp-requires-clause-proper
-solve_lp-requires-clause-proper g c = open_none c.args.area.now c.requires.open
+solve_lp-requires-clause-proper g c = open_sides c.args.area.now c.requires.open
 
 pub bounded-requires-clause-bounds : goal.bounded-requires-clause-bounds
 bounded-requires-clause-bounds g c =

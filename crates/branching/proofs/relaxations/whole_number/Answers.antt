@@ -1,7 +1,7 @@
 use Rattle.std.proofs.Common.{arith, ◌∙◌, ap, subst}
 use Rattle.std.proofs.lemmas.Int.{ints}
 use Rattle.frac128.specs.Rationals.{of}
-use Rattle.branching.specs.Relaxed.{IsSmallNumber}
+use Rattle.branching.specs.Internal.Relaxed.{IsSmallNumber}
 use Rattle.branching.proofs.WholeLaws.{small_whole, whole_is}
 use Rattle.branching.proofs.relaxations.whole_number.Goals as goal
 

@@ -5,4 +5,5 @@ use Rattle.lp_duality.specs.Relaxations.{numbers_of}
 use Rattle.branching.proofs.relaxations.whole_point.Given as goal
 
 abbrev pub invariant-loop-number : goal.invariant-loop-number
-invariant-loop-number l = (length l.numbers.items ≡ l.number-index) × ((j : ℕ) → j < l.number-index → numbers_of l.point j ≡ of (number_at l.numbers.items j))
+invariant-loop-number l = (length l.numbers.items ≡ l.number-index)
+    × ((j : ℕ) → j < l.number-index → numbers_of l.point j ≡ of (number_at l.numbers.items j))

@@ -1,7 +1,7 @@
 use Rattle.std.proofs.Common.{arith, ap, sym, ◌∙◌, ◌≤◌, ◌+◌, ◌*◌, ◌^◌, length, ℕ}
 use Rattle.std.proofs.Math.Nat.{mul-le-mul_right}
 use Rattle.std.proofs.lemmas.Nat.{pow-add}
-use Rattle.ip_defs.specs.Numbers.{whole_part, rest_part, value_from}
+use Rattle.mps_defs.specs.Numbers.{whole_part, rest_part, value_from}
 use Rattle.decimals.proofs.NumberLaws.{digits_short, tens_rise, value_from-append}
 use Rattle.decimals.proofs.numbers.digits_of.Goals as goal
 

@@ -1,13 +1,14 @@
 use Rattle.std.proofs.Common.{arith, ap, ◌∙◌, length}
 use Rattle.std.proofs.lemmas.Int.{ints}
 use Rattle.std.specs.List.{list_all}
-use Rattle.ip_defs.specs.Numbers.{is_digit, without_sign}
+use Rattle.mps_defs.specs.Numbers.{is_digit, without_sign}
 use Rattle.decimals.proofs.NumberLaws.{exponent_digits, tens_rise}
 use Rattle.decimals.proofs.numbers.exponent_of.Goals as goal
 
 pub value_from-requires-clause-digits : goal.value_from-requires-clause-digits
 value_from-requires-clause-digits c =
-    ap (list_all is_digit) (c.without_sign.ensures ∙ ap without_sign c.exponent_part-exponent.ensures) ∙ (exponent_digits c.args.body.now c.requires).0
+    ap (list_all is_digit) (c.without_sign.ensures ∙ ap without_sign c.exponent_part-exponent.ensures)
+    ∙ (exponent_digits c.args.body.now c.requires).0
 
 pub value_from-requires-clause-room : goal.value_from-requires-clause-room
 value_from-requires-clause-room c =

@@ -1,5 +1,5 @@
 use Rattle.std.proofs.Common.{◌≡◌, ◌≤◌}
-use Rattle.ip_defs.specs.Numbers.{least_decimals}
+use Rattle.mps_defs.specs.Numbers.{least_decimals}
 use Rattle.decimals.proofs.DecimalLaws.{least_units}
 use Rattle.decimals.proofs.numbers.least_fraction.Given as goal
 

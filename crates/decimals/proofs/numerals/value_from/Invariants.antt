@@ -1,5 +1,5 @@
 use Rattle.std.proofs.Common.{◌≡◌, ◌≤◌, ◌+◌, ◌*◌, ◌^◌, take}
-use Rattle.ip_defs.specs.Numbers.{value_from}
+use Rattle.mps_defs.specs.Numbers.{value_from}
 use Rattle.decimals.proofs.numerals.value_from.Given as goal
 
 abbrev pub invariant-loop-digit : goal.invariant-loop-digit

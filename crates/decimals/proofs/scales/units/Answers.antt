@@ -12,4 +12,5 @@ times_tens-requires-clause-fits c =
     let more = c.saturating_sub.ensures in
     let most = c.requires.decimals in
     let back : to_z w128 (of_z w128 c.in-Dec.units) ≡ c.in-Dec.units = omega (arith, ints) in
-    rw back (more_units_fit c.in-Dec.units c.in-Dec.written c.from.result c.saturating_sub.result below (omega (arith, ints)) (omega arith) (omega arith))
+    rw back (more_units_fit c.in-Dec.units c.in-Dec.written c.from.result c.saturating_sub.result below (omega (arith, ints)) (omega arith)
+    (omega arith))

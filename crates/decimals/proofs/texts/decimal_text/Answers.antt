@@ -1,5 +1,5 @@
 use Rattle.std.proofs.Common.{arith, ap, ◌^◌, ℕ}
-use Rattle.decimals.proofs.DecimalLaws.{ten_positive}
+use Rattle.mps_defs.proofs.NumberLaws.{ten_positive}
 use Rattle.decimals.proofs.texts.decimal_text.Goals as goal
 
 pub push_rest-requires : goal.push_rest-requires

@@ -1,5 +1,5 @@
 use Rattle.std.proofs.Common.{◌≡◌, ◌++◌, ◌<◌, ◌^◌, string_bytes}
-use Rattle.ip_defs.specs.Numbers.{places}
+use Rattle.mps_defs.specs.Numbers.{places}
 use Rattle.decimals.proofs.texts.push_places.Given as goal
 
 abbrev pub invariant-loop-rest : goal.invariant-loop-rest

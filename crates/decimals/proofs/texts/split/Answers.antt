@@ -1,5 +1,5 @@
 use Rattle.std.proofs.Common.{arith}
-use Rattle.decimals.proofs.DecimalLaws.{ten_positive}
+use Rattle.mps_defs.proofs.NumberLaws.{ten_positive}
 use Rattle.decimals.proofs.texts.split.Goals as goal
 
 pub nonzero_div-result : goal.nonzero_div-result

@@ -1,7 +1,7 @@
 use Rattle.std.proofs.Common.{◌∙◌, ap, sym, subst, Some}
 use Rattle.frac128.specs.Values.{value_of}
 use Rattle.dual_rays.specs.Certificates.{values, certificate_of_prices}
-use Rattle.dual_rays.specs.Quotients.{AreQuotients}
+use Rattle.dual_rays.specs.Internal.Quotients.{AreQuotients}
 use Rattle.dual_rays.proofs.RayCertificateLaws.{certificate, zero-ray, wide-ray, unit-ray, without_divisor}
 use Rattle.dual_rays.proofs.rays.ray_certificate.Goals as goal
 

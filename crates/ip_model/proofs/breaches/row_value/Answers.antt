@@ -1,12 +1,11 @@
-use Rattle.std.proofs.Common.{arith, rules, ap, sym, ◌∙◌, ◌≡◌, ◌≤◌, ◌^◌, ◌*ℤ◌, take, take_all, ℤ, ℕ, pos, to_z, of_z}
+use Rattle.std.proofs.Common.{arith, rules, ap, sym, ◌∙◌, ◌≡◌, ◌*ℤ◌, take, take_all, ℤ, ℕ, pos, to_z, of_z}
 use Rattle.std.specs.Int.{w64, w128}
-use Rattle.std.specs.Int.RustNames.{unsigned_abs}
 use mir.Val.{SFits}
 use Rattle.std.proofs.lemmas.Int.{ints, to_z-of_z}
 use Rattle.ip_defs.specs.Sums.{sum_over}
 use Rattle.ip_defs.specs.Program.{at}
 use Rattle.ip_defs.specs.Limits.{number_at, value_at}
-use Rattle.ip_model.proofs.WalkLaws.{place_below, row_walk, sum_over_more}
+use Rattle.ip_model.proofs.WalkLaws.{place_below, row_walk, small_fits, sum_over_more}
 use Rattle.ip_model.proofs.breaches.row_value.Goals as goal
 
 pub total_of-total-requires : goal.total_of-total-requires
@@ -18,9 +17,6 @@ total_of-total-requires c =
     let e = c.term.ensures.small in
     let is = c.loop-column.total-is in
     omega (arith, ints)
-
-small_fits : (z : ℤ) → unsigned_abs z ≤ 2 ^ 40 → SFits w64 z
-small_fits z h = omega (arith, ints)
 
 pub loop-column-preserved : goal.loop-column-preserved
 loop-column-preserved c =

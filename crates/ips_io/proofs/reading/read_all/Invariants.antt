@@ -1,6 +1,6 @@
 use Rattle.std.proofs.Common.{◌≡◌, ◌≤◌, ◌-◌, ◌++◌, ℕ, true, vec_len, List, Some}
 use Rattle.std.specs.Option.{ForSome}
-use Rattle.ip_defs.specs.Files.{Keeps, file_of}
+use Rattle.ips_io.specs.Files.{Keeps, file_of}
 use Rattle.ips_io.specs.Shelves.{IsUntold}
 use Rattle.ips_io.proofs.reading.read_all.Given as goal
 

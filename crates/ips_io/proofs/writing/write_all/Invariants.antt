@@ -1,5 +1,5 @@
 use Rattle.std.proofs.Common.{◌≤◌, ◌-◌, length, take}
-use Rattle.ip_defs.specs.Files.{Takes}
+use Rattle.ips_io.specs.Files.{Takes}
 use Rattle.ips_io.proofs.writing.write_all.Given as goal
 
 abbrev pub invariant-loop-done : goal.invariant-loop-done

@@ -5,7 +5,7 @@ use Rattle.std.specs.Int.{w64}
 use mir.Val.{SFits}
 use Rattle.std.proofs.lemmas.Int.{to_z-of_z}
 use Rattle.std.proofs.lemmas.Option.{slice_get_read}
-use Rattle.ip_defs.specs.Texts.{value_line}
+use Rattle.ipsens_core.specs.AnswerTexts.{value_line}
 use Rattle.ip_defs.specs.Program.{at}
 use Rattle.ipsens_core.proofs.TextLaws.{values_more, values_all}
 use Rattle.ipsens_core.proofs.messages.push_values.Goals as goal

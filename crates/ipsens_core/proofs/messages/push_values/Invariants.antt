@@ -1,6 +1,6 @@
 use Rattle.std.proofs.Common.{◌≡◌, ◌++◌, take}
 use Rattle.std.specs.Prelude.{flat_map, string_bytes, zip}
-use Rattle.ip_defs.specs.Texts.{value_line}
+use Rattle.ipsens_core.specs.AnswerTexts.{value_line}
 use Rattle.ipsens_core.proofs.messages.push_values.Given as goal
 
 abbrev pub invariant-loop-j : goal.invariant-loop-j

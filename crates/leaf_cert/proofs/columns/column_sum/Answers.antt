@@ -5,7 +5,7 @@ use mir.Val.{SFits}
 use Rattle.std.proofs.lemmas.Int.{ints, to_z-of_z}
 use Rattle.ip_model.proofs.PlaceLaws.{read_at, cost_of_column}
 use Rattle.ip_defs.specs.Program.{at, low_at, high_at, costs_of}
-use Rattle.leaf_cert.specs.Columns.{least_part}
+use Rattle.leaf_cert.specs.Internal.Columns.{least_part}
 use Rattle.leaf_cert.proofs.Taken.{sum_step}
 use Rattle.leaf_cert.proofs.columns.column_sum.Goals as goal
 

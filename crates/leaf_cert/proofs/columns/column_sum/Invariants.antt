@@ -2,7 +2,7 @@ use Rattle.std.proofs.Common.{◌≡◌, ◌*◌, ◌^◌, ◌≤◌}
 use Rattle.std.specs.Int.RustNames.{unsigned_abs}
 use Rattle.ip_defs.specs.Program.{costs_of}
 use Rattle.ip_defs.specs.Sums.{sum_below}
-use Rattle.leaf_cert.specs.Columns.{least_part}
+use Rattle.leaf_cert.specs.Internal.Columns.{least_part}
 use Rattle.leaf_cert.proofs.columns.column_sum.Given as goal
 
 abbrev pub invariant-loop-j : goal.invariant-loop-j

@@ -8,12 +8,9 @@ use Rattle.std.proofs.lemmas.Option.{slice_get_read}
 use Rattle.ip_defs.specs.Program.{coefficient}
 use Rattle.ip_defs.specs.Certificates.{entry, coefs_of}
 use Rattle.ip_defs.specs.Limits.{number_at, value_at}
-use Rattle.ip_model.proofs.WalkLaws.{place_below}
+use Rattle.ip_model.proofs.WalkLaws.{place_below, small_fits}
 use Rattle.leaf_cert.proofs.Taken.{taken_small, taken_more}
 use Rattle.leaf_cert.proofs.columns.take_rows.Goals as goal
-
-fits_small : (z : ℤ) → unsigned_abs z ≤ 2 ^ 36 → SFits w64 z
-fits_small z h = omega (arith, ints)
 
 pub add_row-requires-clause-small : goal.add_row-requires-clause-small
 add_row-requires-clause-small c = λ j l.
@@ -40,7 +37,7 @@ loop-row-preserved c = λ j l.
     let inside = c.requires.ordered.within i test in
     let found : slice_get m.rows (number_at y i) ≡ Some row = slice_get_read m.rows (length m.rows) (number_at y i) row refl inside (rw c.as_slice-rows.ensures at c.index-rows-row.is) in
     let read : entry m.rows (number_at y i) j ≡ coefficient row.coefs j = ap (λ o. coefficient (coefs_of o) j) found in
-    let fits : SFits w64 (value_at y i) = fits_small (value_at y i) (c.requires.multipliers i test) in
+    let fits : SFits w64 (value_at y i) = small_fits (value_at y i) (let small = (c.requires.multipliers i test) in omega (arith, ints)) in
     let back = to_z-of_z w64 (value_at y i) fits in
     let taken' = rw (back, c.as_slice.ensures, ← read) at taken in
     omega (arith, ints)

@@ -6,13 +6,10 @@ use mir.Val.{SFits}
 use Rattle.std.proofs.lemmas.Int.{ints, to_z-of_z}
 use Rattle.ip_defs.specs.Certificates.{pay, payment}
 use Rattle.ip_defs.specs.Limits.{value_at}
-use Rattle.ip_model.proofs.WalkLaws.{place_below}
+use Rattle.ip_model.proofs.WalkLaws.{place_below, small_fits}
 use Rattle.leaf_cert.proofs.Rows.{length_below}
 use Rattle.leaf_cert.proofs.PaymentLaws.{pay_next, so_far, onto}
 use Rattle.leaf_cert.proofs.payments.paid.Goals as goal
-
-fits_small : (z : ℤ) → unsigned_abs z ≤ 2 ^ 36 → SFits w64 z
-fits_small z h = omega (arith, ints)
 
 pub total_of-total-requires : goal.total_of-total-requires
 total_of-total-requires c =
@@ -34,7 +31,7 @@ loop-row-preserved c =
     let total = c.loop-row.total in
     let one = c.in-Some.one in
     let rest = pay rows (drop (i + 1) y) in
-    let fits : SFits w64 (value_at y i) = fits_small (value_at y i) (c.requires.multipliers i c.loop-row-test.true) in
+    let fits : SFits w64 (value_at y i) = small_fits (value_at y i) (let small = (c.requires.multipliers i c.loop-row-test.true) in omega (arith, ints)) in
     let read = to_z-of_z w64 (value_at y i) fits in
     let back : to_z w128 (of_z w128 c.total_of-total.result) ≡ c.total_of-total.result = omega (arith, ints) in
     let back' : to_z w128 (of_z w128 one) ≡ one = omega (arith, ints) in

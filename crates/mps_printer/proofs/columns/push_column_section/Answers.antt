@@ -1,8 +1,8 @@
 use Rattle.std.proofs.Common.{◌≡◌, ◌==◌, ◌++◌, ◌∙◌, ap, false, length, subst, sym, List, ℕ}
 use Rattle.std.specs.Prelude.{OnOk, codes, flat_map, string_bytes}
 use Rattle.std.specs.List.{enumerate_from}
-use Rattle.ip_defs.specs.Texts.{column_block, triple, written_text}
-use Rattle.mps_printer.specs.Sections.{lines_text}
+use Rattle.mps_defs.specs.CanonicalText.{column_block, triple, written_text}
+use Rattle.mps_printer.specs.Internal.Sections.{lines_text}
 use Rattle.mps_printer.proofs.SectionLaws.{columns_are}
 use Rattle.mps_printer.proofs.columns.push_column_section.Goals as goal
 

@@ -5,10 +5,10 @@ use Rattle.std.specs.Option.{option_map_or}
 use Rattle.std.proofs.lemmas.Int.{ints, to_z-of_z}
 use Rattle.std.proofs.lemmas.Option.{slice_get-get_or, slice_get_read}
 use mir.Val.{SFits}
-use Rattle.ip_defs.specs.Numbers.{decimal_text}
-use Rattle.ip_defs.specs.Texts.{triple, written_text}
-use Rattle.mps_printer.specs.Entries.{entry_line}
-use Rattle.mps_printer.specs.Sections.{lines_text}
+use Rattle.mps_defs.specs.Numbers.{decimal_text}
+use Rattle.mps_defs.specs.CanonicalText.{triple, written_text}
+use Rattle.mps_printer.specs.Internal.Entries.{entry_line}
+use Rattle.mps_printer.specs.Internal.Sections.{lines_text}
 use Rattle.mps_printer.proofs.LineLaws.{one_line, text_more}
 use Rattle.mps_printer.proofs.columns.push_entries.Goals as goal
 
@@ -29,10 +29,12 @@ loop-i-preserved c =
     let wide : to_z w128 (of_z w128 units) ≡ e.1 = omega (arith, ints) in
     let before = string_bytes c.args.text.now ++ lines_text (flat_map (entry_line name rows) (take k entries)) in
     let line = triple name row.name (decimal_text e.1 row.decimals) in
-    let listed : entry_line name rows e ≡ line ∷ [] = ap (λ o. option_map_or (λ r. triple name r.name (decimal_text e.1 r.decimals) ∷ []) o []) found in
+    let listed : entry_line name rows e ≡ line ∷ [] =
+    ap (λ o. option_map_or (λ r. triple name r.name (decimal_text e.1 r.decimals) ∷ []) o []) found in
     rw add-one (
     c.in_ok-push_amount.ensures
-    ∙ ap (λ bs. bs ++ written_text (triple name c.as_str.result.now (decimal_text (to_z w128 (of_z w128 units)) row.decimals))) c.loop-i.invariant
+    ∙ ap (λ bs. bs ++ written_text
+    (triple name c.as_str.result.now (decimal_text (to_z w128 (of_z w128 units)) row.decimals))) c.loop-i.invariant
     ∙ ap (λ (n : List ℕ). before ++ written_text (triple name n (decimal_text (to_z w128 (of_z w128 units)) row.decimals))) c.as_str.ensures
     ∙ ap (λ u. before ++ written_text (triple name row.name (decimal_text u row.decimals))) wide
     ∙ one_line before line

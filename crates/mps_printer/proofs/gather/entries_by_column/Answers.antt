@@ -2,7 +2,7 @@ use Rattle.std.proofs.Common.{◌≡◌, ◌<◌, ◌∙◌, ◌+◌, ◌++◌, 
 use Rattle.std.specs.Prelude.{Some, slice_get}
 use Rattle.std.proofs.lemmas.Option.{slice_get_read}
 use Rattle.ip_defs.specs.declared.programs.Row.{Row}
-use Rattle.mps_printer.specs.Entries.{column_entries, listed_for}
+use Rattle.mps_printer.specs.Internal.Entries.{column_entries, listed_for}
 use Rattle.mps_printer.proofs.EntryLaws.{entries_more}
 use Rattle.mps_printer.proofs.gather.entries_by_column.Goals as goal
 
@@ -23,5 +23,9 @@ loop-i-preserved c =
       lists = λ j l.
           let within : j < length c.loop-i.lists.items = omega arith in
           let before = column_entries j 0 (take i rows) in
-          rw add-one (c.in_ok-push_row.ensures.lists j within ∙ ap (λ es. es ++ listed_for j i coefs) (c.loop-i.invariant.lists j l) ∙ ap (λ ps. before ++ listed_for j i ps) c.as_slice-in-loop-i.ensures ∙ ap (λ n. before ++ listed_for j n row.coefs) (sym first) ∙ sym (entries_more j 0 rows i row found));
+          rw add-one (c.in_ok-push_row.ensures.lists j within
+          ∙ ap (λ es. es ++ listed_for j i coefs) (c.loop-i.invariant.lists j l)
+          ∙ ap (λ ps. before ++ listed_for j i ps) c.as_slice-in-loop-i.ensures
+          ∙ ap (λ n. before ++ listed_for j n row.coefs) (sym first)
+          ∙ sym (entries_more j 0 rows i row found));
     }

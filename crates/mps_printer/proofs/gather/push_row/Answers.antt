@@ -5,7 +5,7 @@ use Rattle.std.proofs.lemmas.Int.{to_z-of_z}
 use Rattle.std.proofs.lemmas.List.{length-set}
 use Rattle.std.proofs.lemmas.Option.{get_or_from_slice_get, slice_get-get_or, slice_get_read}
 use mir.Val.{SFits}
-use Rattle.mps_printer.specs.Entries.{listed_for}
+use Rattle.mps_printer.specs.Internal.Entries.{listed_for}
 use Rattle.mps_printer.proofs.EntryLaws.{added, listed_more, pushed}
 use Rattle.mps_printer.proofs.gather.push_row.Goals as goal
 
@@ -26,8 +26,14 @@ loop-column-preserved c =
     let was = c.index_mut.result.now in
     let here : slice_get lists p.0 ≡ Some was = slice_get_read lists (length lists) p.0 was refl within c.index_mut.ensures.value in
     let read : get_or lists p.0 [] ≡ was = get_or_from_slice_get lists p.0 was [] here in
-    let grown : c.push.new.self ≡ get_or lists p.0 [] ++ (row, p.1) ∷ [] = c.in_ok-push.ensures.ok ∙ ap (λ z. was ++ (row, z) ∷ []) back ∙ ap (λ l. l ++ (row, p.1) ∷ []) (sym read) in
+    let grown : c.push.new.self ≡ get_or lists p.0 [] ++ (row, p.1) ∷ [] =
+    c.in_ok-push.ensures.ok ∙ ap (λ z. was ++ (row, z) ∷ []) back ∙ ap (λ l. l ++ (row, p.1) ∷ []) (sym read) in
     record {
       size = length-set lists p.0 c.push.new.self ∙ size;
-      lists = λ j l. rw add-one (ap (λ v. get_or (set lists p.0 v) j []) grown ∙ pushed lists row p j within ∙ ap (λ es. es ++ added j row p) (c.loop-column.invariant.lists j l) ∙ append_assoc (get_or old j []) (listed_for j row (take k coefs)) (added j row p) ∙ ap (λ es. get_or old j [] ++ es) (sym (listed_more j row coefs k p found)));
+      lists = λ j l. rw add-one
+          (ap (λ v. get_or (set lists p.0 v) j []) grown
+          ∙ pushed lists row p j within
+          ∙ ap (λ es. es ++ added j row p) (c.loop-column.invariant.lists j l)
+          ∙ append_assoc (get_or old j []) (listed_for j row (take k coefs)) (added j row p)
+          ∙ ap (λ es. get_or old j [] ++ es) (sym (listed_more j row coefs k p found)));
     }

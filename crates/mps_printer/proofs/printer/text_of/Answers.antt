@@ -1,7 +1,7 @@
 use Rattle.std.proofs.Common.{◌++◌, ◌∙◌, ap}
 use Rattle.std.specs.Prelude.{codes}
-use Rattle.ip_defs.specs.Texts.{head, written_text}
-use Rattle.mps_printer.specs.Sections.{lines_text, row_section, column_section, side_section, range_section, bound_section}
+use Rattle.mps_defs.specs.CanonicalText.{head, written_text}
+use Rattle.mps_printer.specs.Internal.Sections.{lines_text, row_section, column_section, side_section, range_section, bound_section}
 use Rattle.mps_printer.proofs.SectionLaws.{sections_are}
 use Rattle.mps_printer.proofs.printer.text_of.Goals as goal
 

@@ -1,8 +1,8 @@
 use Rattle.std.proofs.Common.{◌≡◌, add-one, ◌∙◌, ◌++◌, ap, refl, length}
 use Rattle.std.specs.Prelude.{Some, slice_get, string_bytes}
 use Rattle.std.proofs.lemmas.Option.{slice_get_read}
-use Rattle.ip_defs.specs.Texts.{range_line}
-use Rattle.mps_printer.specs.Sections.{lines_text}
+use Rattle.mps_defs.specs.CanonicalText.{range_line}
+use Rattle.mps_printer.specs.Internal.Sections.{lines_text}
 use Rattle.mps_printer.proofs.LineLaws.{text_more, text_all}
 use Rattle.mps_printer.proofs.rows.push_ranges.Goals as goal
 
@@ -12,7 +12,11 @@ loop-row-preserved c =
     let row = c.row-item.result in
     let i = c.loop-row.row-index in
     let found : slice_get rows i ≡ Some row = slice_get_read rows (length rows) i row refl c.loop-row-test.true c.row-item.is in
-    rw add-one (c.in_ok-push_range.ensures ∙ ap (λ bs. bs ++ lines_text (range_line row)) c.loop-row.invariant ∙ text_more range_line (string_bytes c.args.text.now) rows i row found)
+    rw add-one (c.in_ok-push_range.ensures
+    ∙ ap (λ bs. bs ++ lines_text (range_line row)) c.loop-row.invariant
+    ∙ text_more range_line (string_bytes c.args.text.now) rows i row found)
 
 pub returns : goal.returns
-returns c = c.loop-row.invariant ∙ ap (λ bs. string_bytes c.args.text.now ++ bs) (text_all range_line c.args.rows.now c.loop-row.row-index c.loop-row-test.false)
+returns c =
+    c.loop-row.invariant
+    ∙ ap (λ bs. string_bytes c.args.text.now ++ bs) (text_all range_line c.args.rows.now c.loop-row.row-index c.loop-row-test.false)

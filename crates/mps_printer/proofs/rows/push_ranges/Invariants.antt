@@ -1,7 +1,7 @@
 use Rattle.std.proofs.Common.{◌≡◌, ◌++◌, take}
 use Rattle.std.specs.Prelude.{flat_map, string_bytes}
-use Rattle.ip_defs.specs.Texts.{range_line}
-use Rattle.mps_printer.specs.Sections.{lines_text}
+use Rattle.mps_defs.specs.CanonicalText.{range_line}
+use Rattle.mps_printer.specs.Internal.Sections.{lines_text}
 use Rattle.mps_printer.proofs.rows.push_ranges.Given as goal
 
 abbrev pub invariant-loop-row : goal.invariant-loop-row

@@ -1,5 +1,5 @@
 use Rattle.std.specs.Prelude.{map, codes, refl}
-use Rattle.ip_defs.specs.Records.{words_of}
+use Rattle.mps_defs.specs.Records.{words_of}
 use Rattle.mps_reader.proofs.BoundLaws.{bound_item, wrong_count, wrong_kind}
 use Rattle.mps_reader.proofs.SectionLaws.{last_is_among}
 use Rattle.mps_reader.proofs.bounds.take_bound_line.Goals as goal
@@ -21,4 +21,5 @@ returns c before h rows last =
     let fields = map (λ f. f.now) c.args.fields.now in
     let l = bound_item c.args.line fields in
     let kind = c.in-Some.ensures l refl in
-    c.take_bound.ensures before fields h rows (last_is_among (words_of before) (codes "BOUNDS") last) (c.in-Some-fields_after.ensures l kind refl)
+    c.take_bound.ensures before fields h rows (last_is_among (words_of before) (codes "BOUNDS") last)
+    (c.in-Some-fields_after.ensures l kind refl)

@@ -8,6 +8,7 @@ pub returns-then-first-column-clause-below : goal.returns-then-first-column-clau
 returns-then-first-column-clause-below c x e =
     let costs = c.args.costs.now in
     let first = c.in-Some.first.now in
-    let found : slice_get costs c.args.next ≡ Some first = slice_get_read costs (length costs) c.args.next first refl c.in-Some.ensures.lookup.3.0 (c.in-Some.ensures.lookup.3.1 first) in
+    let found : slice_get costs c.args.next ≡ Some first =
+    slice_get_read costs (length costs) c.args.next first refl c.in-Some.ensures.lookup.3.0 (c.in-Some.ensures.lookup.3.1 first) in
     let same : first.1 ≡ x = cc in
     subst IsBelowLarge same (c.requires c.args.next first found)

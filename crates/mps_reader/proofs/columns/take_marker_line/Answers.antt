@@ -12,4 +12,5 @@ returns-in-len3 c before h there has_rows marker =
     let low = c.in-len3.len_at_least in
     let high = c.in-len3.len_below in
     let three : length (words fields) ≡ 3 = omega arith in
-    marker_line before c.args.draft.now c.args.line fields _ c.take_marker.new.columns c.take_marker.result (eq-eqb (length (words fields)) 3 three) (omega arith) h there has_rows marker c.take_marker.ensures
+    marker_line before c.args.draft.now c.args.line fields _ c.take_marker.new.columns c.take_marker.result
+    (eq-eqb (length (words fields)) 3 three) (omega arith) h there has_rows marker c.take_marker.ensures

@@ -1,8 +1,8 @@
 use Rattle.std.specs.Prelude.{◌≡◌, false, map, take}
 use Rattle.std.specs.List.{list_any}
-use Rattle.ip_defs.specs.Records.{opens_end}
-use Rattle.mps_reader.specs.Progress.{Stands}
-use Rattle.mps_reader.specs.Reading.{lines_by}
+use Rattle.mps_defs.specs.Records.{opens_end}
+use Rattle.mps_reader.specs.Internal.Progress.{Stands}
+use Rattle.mps_reader.specs.Internal.Reading.{lines_by}
 use Rattle.mps_reader.proofs.TextLaws.{read_from}
 use Rattle.mps_reader.proofs.reader.draft_of.Given as goal
 

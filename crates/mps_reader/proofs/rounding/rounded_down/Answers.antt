@@ -3,8 +3,9 @@ use Rattle.std.specs.Int.{w128}
 use Rattle.std.specs.Int.RustNames.{unsigned_abs}
 use Rattle.std.proofs.Common.{ap, sym, ◌∙◌, arith, to_z, of_z}
 use Rattle.std.proofs.lemmas.Int.{ints}
-use Rattle.ip_defs.specs.TextModels.{rounded_down}
-use Rattle.mps_reader.proofs.RoundingLaws.{tens_positive, down_below, down_above}
+use Rattle.mps_defs.specs.TextModels.{rounded_down}
+use Rattle.mps_reader.proofs.RoundingLaws.{down_below, down_above}
+use Rattle.mps_defs.proofs.NumberLaws.{ten_positive}
 use Rattle.mps_reader.proofs.rounding.rounded_down.Goals as goal
 
 pub returns-then-units-lt0 : goal.returns-then-units-lt0
@@ -15,8 +16,9 @@ returns-then-units-lt0 c =
     let side : units <ℤ pos 0 = omega (arith, ints, c.if-units-lt0.true) in
     back
     ∙ c.signed.ensures
-    ∙ ap (λ q. neg_ℤ (pos (q + 1))) (c.whole_part.ensures.value ∙ ap (λ n. (n - 1) / 10 ^ c.in-Dec.decimals) (c.unsigned_abs-size.ensures.value ∙ ap unsigned_abs read))
-    ∙ down_below units (10 ^ c.in-Dec.decimals) (tens_positive c.in-Dec.decimals) side
+    ∙ ap (λ q. neg_ℤ (pos (q + 1)))
+    (c.whole_part.ensures.value ∙ ap (λ n. (n - 1) / 10 ^ c.in-Dec.decimals) (c.unsigned_abs-size.ensures.value ∙ ap unsigned_abs read))
+    ∙ down_below units (10 ^ c.in-Dec.decimals) (ten_positive c.in-Dec.decimals) side
     ∙ ap rounded_down (sym c.in-Dec.is)
 
 pub returns-else-units-lt0 : goal.returns-else-units-lt0
@@ -27,6 +29,7 @@ returns-else-units-lt0 c =
     let side : pos 0 ≤ℤ units = omega (arith, ints, c.if-units-lt0.false) in
     back
     ∙ c.signed-else-units-lt0.ensures
-    ∙ ap (λ q. pos q) (c.whole_part-else-units-lt0.ensures.value ∙ ap (λ n. n / 10 ^ c.in-Dec.decimals) (c.unsigned_abs-size.ensures.value ∙ ap unsigned_abs read))
+    ∙ ap (λ q. pos q) (c.whole_part-else-units-lt0.ensures.value
+    ∙ ap (λ n. n / 10 ^ c.in-Dec.decimals) (c.unsigned_abs-size.ensures.value ∙ ap unsigned_abs read))
     ∙ down_above units (10 ^ c.in-Dec.decimals) side
     ∙ ap rounded_down (sym c.in-Dec.is)

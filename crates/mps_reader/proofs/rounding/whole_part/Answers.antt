@@ -1,10 +1,12 @@
 use Rattle.std.specs.Prelude.{◌<◌, ◌/◌, ◌^◌}
 use Rattle.std.proofs.Common.{sym, subst}
-use Rattle.mps_reader.proofs.RoundingLaws.{tens_positive, whole_is_small}
+use Rattle.mps_reader.proofs.RoundingLaws.{whole_is_small}
+use Rattle.mps_defs.proofs.NumberLaws.{ten_positive}
 use Rattle.mps_reader.proofs.rounding.whole_part.Goals as goal
 
 pub nonzero_div-result : goal.nonzero_div-result
-nonzero_div-result c = subst (λ n. 0 < n) (sym c.in-Some.ensures.1) (tens_positive c.args.decimals)
+nonzero_div-result c = subst (λ n. 0 < n) (sym c.in-Some.ensures.1) (ten_positive c.args.decimals)
 
 pub returns-in-Some-clause-small : goal.returns-in-Some-clause-small
-returns-in-Some-clause-small c = subst (λ n. c.args.size / n < 10 ^ 20) (sym c.in-Some.ensures.1) (whole_is_small c.args.size c.args.decimals c.requires)
+returns-in-Some-clause-small c =
+    subst (λ n. c.args.size / n < 10 ^ 20) (sym c.in-Some.ensures.1) (whole_is_small c.args.size c.args.decimals c.requires)

@@ -1,9 +1,9 @@
 use Rattle.std.proofs.Common.{arith, sym, ap, ◌∙◌, ◌≡◌, ◌++◌, ◌+◌, [], drop, get_or, ◌∷◌, drop-cons, pos, suc, to_z, of_z}
 use Rattle.std.specs.Int.{w128, w64}
 use Rattle.std.proofs.lemmas.Int.{ints}
-use Rattle.ip_defs.specs.declared.texts.Number.TheVariants.{Dec}
-use Rattle.mps_reader.specs.Clamps.{clamped, clamped_coefs}
-use Rattle.mps_reader.specs.Drafted.{drafted_coefs}
+use Rattle.mps_defs.specs.declared.texts.Number.TheVariants.{Dec}
+use Rattle.mps_reader.specs.Internal.Clamps.{clamped, clamped_coefs}
+use Rattle.mps_reader.specs.Internal.Drafted.{drafted_coefs}
 use Rattle.mps_reader.proofs.FinishLaws.{coefs_skip, coefs_take}
 use Rattle.mps_reader.proofs.row_list.coefs_of.Goals as goal
 use Rattle.mps_reader.proofs.row_list.coefs_of.Goals.{then-coefficient-ne0+in_ok-push, else-coefficient-ne0}
@@ -16,9 +16,11 @@ loop-entry-preserved c =
     let p = get_or entries i (0, Dec (pos 0) 0) in
     let rest = drop (i + 1) entries in
     let next : i + 1 ≡ suc i = omega arith in
-    let split : drop i entries ≡ p ∷ rest = drop-cons entries i (0, Dec (pos 0) 0) c.loop-entry-test.true ∙ ap (λ j. p ∷ drop j entries) (sym next) in
+    let split : drop i entries ≡ p ∷ rest =
+    drop-cons entries i (0, Dec (pos 0) 0) c.loop-entry-test.true ∙ ap (λ j. p ∷ drop j entries) (sym next) in
     let done = c.loop-entry.coefs.items in
-    let before : done ++ clamped_coefs (drafted_coefs k (p ∷ rest)) ≡ clamped_coefs (drafted_coefs k entries) = ap (λ l. done ++ clamped_coefs (drafted_coefs k l)) (sym split) ∙ c.loop-entry.invariant in
+    let before : done ++ clamped_coefs (drafted_coefs k (p ∷ rest)) ≡ clamped_coefs (drafted_coefs k entries) =
+    ap (λ l. done ++ clamped_coefs (drafted_coefs k l)) (sym split) ∙ c.loop-entry.invariant in
     let back : to_z w128 (of_z w128 c.units.result) ≡ c.units.result = omega (arith, ints) in
     let is = c.clamped-coefficient.ensures ∙ ap clamped back ∙ ap clamped c.units.ensures in
     let back_word : to_z w64 (of_z w64 c.clamped-coefficient.result) ≡ c.clamped-coefficient.result = omega (arith, ints) in

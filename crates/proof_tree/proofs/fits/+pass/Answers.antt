@@ -1,56 +1,42 @@
 use Rattle.std.proofs.Common.{arith, ◌≡◌, ◌∙◌, ◌<◌, ap, sym, ◌+◌, None}
-use Rattle.proof_tree.specs.Numbered.{passed_over}
-use Rattle.proof_tree.specs.Trees.{plain, depth, split_node, nodes, own_misfit, misfit_at}
-use Rattle.proof_tree.proofs.NumberedLaws.{fit_on, fit_stop, pass_count, split_count}
+use Rattle.proof_tree.specs.Internal.Numbered.{passed_over}
+use Rattle.proof_tree.specs.LabelledTrees.{depth, split_node, nodes}
+use Rattle.proof_tree.specs.Trees.{plain, own_misfit, with_number, misfit_at}
+use Rattle.proof_tree.proofs.LabelledTreeLaws.{nodes_counted}
+use Rattle.proof_tree.proofs.NumberedLaws.{pass_left, pass_right, pass_count}
 use Rattle.proof_tree.proofs.fits.+pass.Goals as goal
-
-pub pass-requires : goal.pass-requires
-pass-requires t c =
-    let k = c.args.node in
-    let columns = c.args.columns in
-    let rows = c.args.rows in
-    let left = plain c.in-Split.left.value in
-    let right = plain c.in-Split.right.value in
-    let count = split_count c.in-Split.col c.in-Split.at left right in
-    let room = rw c.in-Split.is at c.requires in
-    let deep = rw c.in-Split.is at c.decreases in
-    let falls : depth (plain c.deref.result.now) < t = rw c.deref.ensures (omega arith) in
-    (falls, rw c.deref.ensures (omega arith))
 
 pub pass-requires-in-Ok : goal.pass-requires-in-Ok
 pass-requires-in-Ok t c =
-    let k = c.args.node in
-    let columns = c.args.columns in
-    let rows = c.args.rows in
     let left = plain c.in-Split.left.value in
-    let right = plain c.in-Split.right.value in
-    let count = split_count c.in-Split.col c.in-Split.at left right in
+    let f = misfit_at c.args.columns c.args.rows in
     let room = rw c.in-Split.is at c.requires in
     let deep = rw c.in-Split.is at c.decreases in
     let falls : depth (plain c.deref-in-Ok.result.now) < t = rw c.deref-in-Ok.ensures (omega arith) in
-    let next = pass_count (misfit_at columns rows) (k + 1) (nodes left) c.in-Ok.next (rw c.deref.ensures at (sym c.pass.ensures ∙ c.in-Ok.is)) in
+    let next = pass_count f (c.args.node + 1) (nodes left) c.in-Ok.next (rw c.deref.ensures at (sym c.pass.ensures ∙ c.in-Ok.is)) in
+    let same = nodes_counted left in
     (falls, rw c.deref-in-Ok.ensures (omega arith))
 
 pub returns-in-Ok : goal.returns-in-Ok
 returns-in-Ok t c =
     let k = c.args.node in
-    let columns = c.args.columns in
-    let rows = c.args.rows in
-    let left = plain c.in-Split.left.value in
-    let right = plain c.in-Split.right.value in
-    let none : own_misfit columns rows (split_node c.in-Split.col c.in-Split.at) ≡ None = rw c.in-Split.is at (sym c.node_misfit.ensures ∙ c.in-None.is) in
+    let f = misfit_at c.args.columns c.args.rows in
+    let left = nodes (plain c.in-Split.left.value) in
+    let right = nodes (plain c.in-Split.right.value) in
+    let top = split_node c.in-Split.col c.in-Split.at tt in
+    let own : own_misfit c.args.columns c.args.rows top ≡ None = rw c.in-Split.is at (sym c.node_misfit.ensures ∙ c.in-None.is) in
     let first = rw c.deref.ensures at (sym c.pass.ensures ∙ c.in-Ok.is) in
-    let on = fit_on columns rows k c.in-Split.col c.in-Split.at left right c.in-Ok.next none first in
-    rw c.deref-in-Ok.ensures at c.pass-in-Ok.ensures ∙ sym on ∙ ap (λ (s : _). passed_over (misfit_at columns rows) k (nodes (plain s))) (sym c.in-Split.is)
+    let on = pass_right f k top left right c.in-Ok.next (ap (with_number k) own) first in
+    rw c.deref-in-Ok.ensures at c.pass-in-Ok.ensures ∙ sym on ∙ ap (λ (s : _). passed_over f k (nodes (plain s))) (sym c.in-Split.is)
 
 pub returns-in-Err : goal.returns-in-Err
 returns-in-Err t c =
     let k = c.args.node in
-    let columns = c.args.columns in
-    let rows = c.args.rows in
-    let left = plain c.in-Split.left.value in
-    let right = plain c.in-Split.right.value in
-    let none : own_misfit columns rows (split_node c.in-Split.col c.in-Split.at) ≡ None = rw c.in-Split.is at (sym c.node_misfit.ensures ∙ c.in-None.is) in
+    let f = misfit_at c.args.columns c.args.rows in
+    let left = nodes (plain c.in-Split.left.value) in
+    let right = nodes (plain c.in-Split.right.value) in
+    let top = split_node c.in-Split.col c.in-Split.at tt in
+    let own : own_misfit c.args.columns c.args.rows top ≡ None = rw c.in-Split.is at (sym c.node_misfit.ensures ∙ c.in-None.is) in
     let first = rw c.deref.ensures at (sym c.pass.ensures ∙ c.in-Err.is) in
-    let stop = fit_stop columns rows k c.in-Split.col c.in-Split.at left right c.in-Err.shape none first in
-    sym stop ∙ ap (λ (s : _). passed_over (misfit_at columns rows) k (nodes (plain s))) (sym c.in-Split.is)
+    let stop = pass_left f k top left right c.in-Err.shape (ap (with_number k) own) first in
+    sym stop ∙ ap (λ (s : _). passed_over f k (nodes (plain s))) (sym c.in-Split.is)

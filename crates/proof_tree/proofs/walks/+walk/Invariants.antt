@@ -1,4 +1,5 @@
-use Rattle.proof_tree.specs.Trees.{plain, depth}
+use Rattle.proof_tree.specs.LabelledTrees.{depth}
+use Rattle.proof_tree.specs.Trees.{plain}
 use Rattle.proof_tree.proofs.walks.+walk.Given as goal
 
 abbrev pub decreases-walk : goal.decreases-walk

@@ -1,7 +1,8 @@
 use Rattle.std.proofs.Common.{◌≡◌, None}
-use Rattle.simplex_laws.specs.Steps.{first, breach}
-use Rattle.simplex_exact.specs.Numbers.{AreNumbersBelow}
+use Rattle.simplex_laws.specs.Steps.{breach}
+use Rattle.simplex_exact.specs.Internal.Numbers.{AreNumbersBelow}
 use Rattle.simplex_exact.proofs.numbers.first_breach.Given as goal
+use Rattle.ip_defs.specs.Lists.{first}
 
 abbrev pub invariant-loop-v : goal.invariant-loop-v
 invariant-loop-v l = record {

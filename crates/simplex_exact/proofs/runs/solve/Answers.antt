@@ -1,8 +1,8 @@
 use Rattle.std.proofs.Common.{arith, rules, ◌≡◌, ◌<◌, ◌+◌, ◌∙◌, sym, ap, subst, length, List, Ok}
 use Rattle.frac128.specs.Fractions.{Fraction}
 use Rattle.tableau.specs.Tables.{at}
-use Rattle.simplex_exact.specs.Numbers.{IsNumber}
-use Rattle.simplex_exact.specs.Reads.{IsRead}
+use Rattle.simplex_exact.specs.Internal.Numbers.{IsNumber}
+use Rattle.simplex_exact.specs.Internal.Reads.{IsRead}
 use Rattle.simplex_exact.proofs.ScanLaws.{written_back}
 use Rattle.ip_defs.specs.declared.programs.Parts.{Parts}
 use Rattle.ip_defs.specs.declared.programs.Column.{Column}

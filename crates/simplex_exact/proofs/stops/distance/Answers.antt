@@ -1,8 +1,8 @@
 use Rattle.std.proofs.Common.{◌∙◌, ◌≡◌, ◌≢◌, sym, ap, arith, Some, None, to_z, of_z}
 use Rattle.std.proofs.lemmas.Int.{ints}
 use Rattle.std.specs.Int.{w64}
-use Rattle.frac128.specs.Fractions.{Fraction, difference_of, quotient_of}
-use Rattle.tableau.specs.Tables.{basic_at, variable_at, whole}
+use Rattle.frac128.specs.Fractions.{Fraction, difference_of, quotient_of, whole}
+use Rattle.tableau.specs.Tables.{basic_at, variable_at}
 use Rattle.tableau.specs.Numbers.{side_at, and_then}
 use Rattle.simplex_laws.specs.Wides.{wide_ratio}
 use Rattle.simplex_exact.proofs.ScanLaws.{ratio_wide}

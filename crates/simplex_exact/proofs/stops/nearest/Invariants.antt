@@ -1,6 +1,6 @@
 use Rattle.std.proofs.Common.{◌≡◌}
 use Rattle.simplex_laws.specs.Steps.{nearest, stop}
-use Rattle.simplex_exact.specs.Numbers.{stop_value}
+use Rattle.simplex_exact.specs.Internal.Numbers.{stop_value}
 use Rattle.simplex_exact.proofs.stops.nearest.Given as goal
 
 abbrev pub invariant-loop-w : goal.invariant-loop-w

@@ -1,5 +1,5 @@
 use Rattle.std.proofs.Common.{◌∙◌, ◌≡◌, sym, ap, length, arith, ◌<◌, ℕ, Bool, Some, option_map}
-use Rattle.simplex_laws.proofs.ChoiceLaws.{first_at}
+use Rattle.ip_model.proofs.StepLaws.{first_here}
 use Rattle.simplex_exact.proofs.ScanLaws.{lowering}
 use Rattle.simplex_exact.proofs.ways.entering.Goals as goal
 
@@ -10,7 +10,7 @@ returns-in-Ok-Some-clause-first c =
     let go : Bool → ℕ × Bool = λ up. (v, up) in
     let inside : v < length T.variables = omega arith in
     let found : lowering T v ≡ Some (go c.in-Ok-Some.up) = ap (option_map go) (sym c.in-Ok-Some.ensures.way ∙ c.in-Ok-Some.field-0-is) in
-    sym (first_at (lowering T) v (length T.variables) (go c.in-Ok-Some.up) c.loop-var.invariant found inside)
+    sym (first_here (lowering T) (length T.variables) v (go c.in-Ok-Some.up) c.loop-var.invariant found inside)
 
 pub returns-in-Err-clause-wide : goal.returns-in-Err-clause-wide
 returns-in-Err-clause-wide c = c.in-Err.ensures.wide

@@ -1,8 +1,8 @@
 use Rattle.std.proofs.Common.{◌∙◌, sym, ap, length, arith, ◌<◌, option_map}
 use Rattle.tableau.specs.Nodes.{number}
 use Rattle.simplex_laws.specs.Steps.{way}
-use Rattle.simplex_laws.proofs.ChoiceLaws.{first_at}
-use Rattle.simplex_exact.specs.Numbers.{turned}
+use Rattle.ip_model.proofs.StepLaws.{first_here}
+use Rattle.simplex_exact.specs.Internal.Numbers.{turned}
 use Rattle.simplex_exact.proofs.ways.mender.Goals as goal
 
 pub returns-in-Some : goal.returns-in-Some
@@ -10,5 +10,5 @@ returns-in-Some c =
     let T = c.args.tableau.now in
     let v = c.loop-var.var in
     let inside : v < length T.variables = omega arith in
-    sym (first_at (λ v. option_map (λ go. v) (way T (turned c.args.up (number T c.args.row v)) v)) v (length T.variables) v c.loop-var.invariant
+    sym (first_here (λ v. option_map (λ go. v) (way T (turned c.args.up (number T c.args.row v)) v)) (length T.variables) v v c.loop-var.invariant
     (ap (option_map (λ go. v)) (sym c.mending_way.ensures ∙ c.in-Some.is)) inside)

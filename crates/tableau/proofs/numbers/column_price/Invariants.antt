@@ -3,7 +3,8 @@ use Rattle.frac128.specs.Rationals.{of, sub, mul}
 use Rattle.frac128.specs.Values.{value_of}
 use Rattle.frac128.proofs.Rationals.{rationals}
 use Rattle.ring_laws.proofs.Sums.{sum}
-use Rattle.tableau.specs.Tables.{entry, basic_at, variable_at, whole}
+use Rattle.frac128.specs.Fractions.{whole}
+use Rattle.tableau.specs.Tables.{entry, basic_at, variable_at}
 use Rattle.tableau.specs.Numbers.{after_steps, less_product}
 use Rattle.tableau.proofs.numbers.column_price.Given as goal
 

@@ -1,8 +1,8 @@
 use Rattle.std.proofs.Common.{arith, ◌≡◌, ◌∙◌, sym, ap, refl, Ok, Err, ℕ, ◌+◌, length, Result, pos, Option, ℤ}
 use Rattle.std.proofs.lemmas.List.{get_or_read_under}
-use Rattle.frac128.specs.Fractions.{Fraction}
+use Rattle.frac128.specs.Fractions.{Fraction, whole}
 use Rattle.frac128.specs.declared.fraction.Wide.{Wide}
-use Rattle.tableau.specs.Tables.{at, rest_at, variable_at, whole}
+use Rattle.tableau.specs.Tables.{at, rest_at, variable_at}
 use Rattle.frac128.specs.Rationals.{of, sub, mul}
 use Rattle.frac128.specs.Values.{value_of}
 use Rattle.tableau.specs.Numbers.{less_resting, resting, side_or_zero}
@@ -24,8 +24,8 @@ returns-in-Err-clause-exact c =
 
 pub loop-v-init : goal.loop-v-init
 loop-v-init c = record {
-  exact = ap (λ (x : Fraction). Ok x) c.whole-value.ensures.exact;
-  number = c.whole-value.ensures.value ∙ no_loss;
+  exact = ap (λ (x : Fraction). Ok x) c.from_whole-value.ensures.exact;
+  number = c.from_whole-value.ensures.value ∙ no_loss;
 }
 
 pub loop-v-preserved : goal.loop-v-preserved

@@ -3,7 +3,8 @@ use Rattle.frac128.specs.Rationals.{of, mul, neg}
 use Rattle.frac128.specs.Values.{value_of}
 use Rattle.frac128.proofs.Rationals.{rationals}
 use Rattle.ring_laws.proofs.Sums.{sum}
-use Rattle.tableau.specs.Tables.{at, rest_at, variable_at, whole}
+use Rattle.frac128.specs.Fractions.{whole}
+use Rattle.tableau.specs.Tables.{at, rest_at, variable_at}
 use Rattle.tableau.specs.Numbers.{after_steps, less_resting, resting, side_or_zero}
 use Rattle.tableau.proofs.numbers.row_value.Given as goal
 

@@ -1,6 +1,6 @@
 use Rattle.std.proofs.Common.{◌≡◌, ◌<◌, ◌≤◌, ℕ, length, if◌then◌else◌}
 use Rattle.tableau.specs.Tables.{line}
-use Rattle.tableau.specs.Changes.{is_changed}
+use Rattle.tableau.specs.Internal.Changes.{is_changed}
 use Rattle.tableau.proofs.pivots.exchange_rows.Given as goal
 
 abbrev pub invariant-loop-i : goal.invariant-loop-i

@@ -1,8 +1,8 @@
 use Rattle.std.proofs.Common.{arith, ◌≡◌, ◌∙◌, sym, ap, refl, pos, Err, ℕ, length, Result}
 use Rattle.std.proofs.lemmas.List.{get_or_read_under}
-use Rattle.frac128.specs.Fractions.{Fraction}
+use Rattle.frac128.specs.Fractions.{Fraction, whole}
 use Rattle.frac128.specs.declared.fraction.Wide.{Wide}
-use Rattle.tableau.specs.Tables.{at, whole}
+use Rattle.tableau.specs.Tables.{at}
 use Rattle.tableau.specs.Numbers.{less_product}
 use Rattle.tableau.proofs.ListLaws.{all_below-ok, all_below-wide, is_wide}
 use Rattle.tableau.proofs.pivots.lessen_row.Goals as goal

@@ -1,6 +1,6 @@
 use Rattle.std.proofs.Common.{◌≡◌, ◌<◌, ℕ, length, Ok, true}
 use Rattle.tableau.specs.Tables.{line, entry}
-use Rattle.tableau.specs.Changes.{is_changed, lessened_row}
+use Rattle.tableau.specs.Internal.Changes.{is_changed, lessened_row}
 use Rattle.tableau.proofs.pivots.lessen_rows.Given as goal
 
 abbrev pub invariant-loop-i : goal.invariant-loop-i

@@ -4,7 +4,7 @@ use Rattle.frac128.specs.Fractions.{Fraction, quotient_of}
 use Rattle.frac128.specs.declared.fraction.Wide.{Wide}
 use Rattle.tableau.specs.Tables.{at, line, entry}
 use Rattle.tableau.specs.Pivots.{all_below}
-use Rattle.tableau.specs.Changes.{AreLessened, HasWideRow}
+use Rattle.tableau.specs.Internal.Changes.{AreLessened, HasWideRow}
 use Rattle.tableau.proofs.RowLaws.{wide_pivot_row, wide_other_row, new_rows-are}
 use Rattle.tableau.proofs.pivots.pivot_rows.Goals as goal
 

@@ -1,6 +1,7 @@
 use Rattle.std.proofs.Common.{◌≡◌, ◌<◌, ℕ, length, take, neg_ℤ}
 use Rattle.ip_defs.specs.Program.{coefficient}
-use Rattle.tableau.specs.Tables.{at, whole}
+use Rattle.frac128.specs.Fractions.{whole}
+use Rattle.tableau.specs.Tables.{at}
 use Rattle.tableau.proofs.starts.put_coefs.Given as goal
 
 abbrev pub invariant-loop-column : goal.invariant-loop-column

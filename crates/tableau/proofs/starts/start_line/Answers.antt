@@ -1,11 +1,10 @@
 use Rattle.std.proofs.Common.{arith, ◌≡◌, ◌+◌, ◌∙◌, ap, length, Some, ℕ, ℤ, List, neg_ℤ}
 use Rattle.std.specs.Prelude.{slice_get, slice_set}
-use Rattle.frac128.specs.Fractions.{Fraction}
+use Rattle.frac128.specs.Fractions.{Fraction, whole}
 use Rattle.ip_defs.specs.Program.{coefficient}
 use Rattle.ip_defs.specs.declared.programs.Column.{Column}
 use Rattle.ip_defs.specs.declared.programs.Row.{Row}
 use Rattle.ip_model.proofs.PlaceLaws.{read_at}
-use Rattle.tableau.specs.Tables.{whole}
 use Rattle.tableau.proofs.StartLaws.{AreOrdered-wider, start_line_is}
 use Rattle.tableau.proofs.starts.start_line.Goals as goal
 
@@ -37,7 +36,7 @@ returns c =
     let first = c.in_ok-line.ensures.size in
     let second = c.put_coefs.ensures.size in
     c.set.ensures
-    ∙ ap (λ z. slice_set numbers (z + k) c.whole.result) columns
-    ∙ ap (λ (y : Fraction). slice_set numbers (length m.columns + k) y) c.whole.ensures.exact
+    ∙ ap (λ z. slice_set numbers (z + k) c.from_whole.result) columns
+    ∙ ap (λ (y : Fraction). slice_set numbers (length m.columns + k) y) c.from_whole.ensures.exact
     ∙ start_line_is m k row numbers found (c.requires.limits.shape.rows k row found).coefs c.requires.row (omega arith)
     (λ v l. c.put_coefs.ensures.numbers v (omega arith) ∙ ap (λ (cs : List (ℕ × ℤ)). whole (neg_ℤ (coefficient cs v))) c.as_slice.ensures)

@@ -1,5 +1,5 @@
 use Rattle.std.proofs.Common.{◌≡◌, ◌∙◌, sym, ap}
-use Rattle.ip_defs.specs.Files.{file_of}
+use Rattle.ips_io.specs.Files.{file_of}
 use Rattle.ips_io.proofs.ShelfLaws.{put_file, put_others}
 use Rattle.ips_io.proofs.memory_shelves.MemShelfShelf.save.Goals as goal
 

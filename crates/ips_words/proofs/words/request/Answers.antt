@@ -1,0 +1,54 @@
+use Rattle.std.proofs.Common.{◌∙◌, Some, ap, map, option_map, string_bytes, sym, drop}
+use Rattle.clap.specs.Words.{found_of}
+use Rattle.ips_words.specs.Commands.{command_named}
+use Rattle.ips_words.specs.Internal.Rows.{command_row}
+use Rattle.ips_words.proofs.ParseLaws.{limits_read, number_read, plain_words, reading_read, request_is, same_request}
+use Rattle.ips_words.proofs.RangeLaws.{is_in_range, is_request_built}
+use Rattle.ips_words.proofs.words.request.Goals as goal
+
+pub request_by-requires-clause-limits : goal.request_by-requires-clause-limits
+request_by-requires-clause-limits c =
+    let command = c.in-Some.command in
+    let words = c.args.words.now in
+    let plain = plain_words string_bytes words command c.are_plain.result c.are_plain.ensures c.if-not-are_plain.false in
+    limits_read command (map string_bytes words) (found_of c.in-Ok.matches) plain c.in-Ok.ensures
+
+pub request_by-requires-clause-reading : goal.request_by-requires-clause-reading
+request_by-requires-clause-reading c =
+    let command = c.in-Some.command in
+    let words = c.args.words.now in
+    let plain = plain_words string_bytes words command c.are_plain.result c.are_plain.ensures c.if-not-are_plain.false in
+    reading_read command (map string_bytes words) (found_of c.in-Ok.matches) plain c.in-Ok.ensures
+
+pub request_by-requires-clause-number : goal.request_by-requires-clause-number
+request_by-requires-clause-number c =
+    let command = c.in-Some.command in
+    let words = c.args.words.now in
+    let plain = plain_words string_bytes words command c.are_plain.result c.are_plain.ensures c.if-not-are_plain.false in
+    number_read command (map string_bytes words) (found_of c.in-Ok.matches) plain c.in-Ok.ensures
+
+pub returns-in-Ok-request_by-clause-request : goal.returns-in-Ok-request_by-clause-request
+returns-in-Ok-request_by-clause-request c =
+    let command = c.in-Some.command in
+    let words = c.args.words.now in
+    let plain = plain_words string_bytes words command c.are_plain.result c.are_plain.ensures c.if-not-are_plain.false in
+    let named = sym (ap (option_map command_row) c.in-Some.is) ∙ c.named.ensures ∙ ap command_named c.as_str.ensures.value in
+    let read = same_request command (map string_bytes words) (found_of c.in-Ok.matches) plain c.in-Ok.ensures in
+    request_is string_bytes words c.first-item.result command c.in-len1-up.len_at_least c.first-item.is named plain
+    ∙ ap Some (sym (c.in-Ok-request_by.ensures ∙ read))
+
+pub returns-in-Ok-request_by-clause-ranges : goal.returns-in-Ok-request_by-clause-ranges
+returns-in-Ok-request_by-clause-ranges c =
+    let command = c.in-Some.command in
+    let words = c.args.words.now in
+    let plain = plain_words string_bytes words command c.are_plain.result c.are_plain.ensures c.if-not-are_plain.false in
+    let read = same_request command (map string_bytes words) (found_of c.in-Ok.matches) plain c.in-Ok.ensures in
+    rw (c.in-Ok-request_by.ensures ∙ read) (is_in_range command (drop 1 (map string_bytes words)) plain)
+
+pub returns-in-Ok-request_by-clause-built : goal.returns-in-Ok-request_by-clause-built
+returns-in-Ok-request_by-clause-built c =
+    let command = c.in-Some.command in
+    let words = c.args.words.now in
+    let plain = plain_words string_bytes words command c.are_plain.result c.are_plain.ensures c.if-not-are_plain.false in
+    let read = same_request command (map string_bytes words) (found_of c.in-Ok.matches) plain c.in-Ok.ensures in
+    rw (c.in-Ok-request_by.ensures ∙ read) (is_request_built command (drop 1 (map string_bytes words)) plain)

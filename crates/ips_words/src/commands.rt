@@ -1,0 +1,146 @@
+//! The commands, their operands and their options, in one table.
+
+ghost use Rattle.std.specs.Prelude.{◌≡◌, map, option_map};
+ghost use Rattle.ips_words.specs.Commands.{command_named};
+ghost use Rattle.ips_words.specs.Internal.Rows.{choice_row, command_row};
+
+/// What an operand is, or the value of an option.
+#[derive(Clone, Copy, Debug, PartialEq, Eq)]
+pub enum Kind {
+    /// The name of a file.
+    Name,
+    /// A number from `low` to `high`.
+    Number { low: u32, high: u32 },
+}
+
+/// An option of a command.
+#[derive(Clone, Copy, Debug, PartialEq, Eq)]
+pub struct Choice {
+    /// The word that stands for it.
+    pub word: &'static str,
+    /// What its value is.
+    pub value: Kind,
+    /// Whether the program has it yet.
+    pub built: bool,
+}
+
+/// A command.
+#[derive(Clone, Copy, Debug, PartialEq, Eq)]
+pub enum Command {
+    Solve,
+    Check,
+    Ask,
+    Sweep,
+    Recheck,
+    Show,
+    Trial,
+}
+
+const TREE: Choice = Choice {
+    word: "--tree",
+    value: Kind::Name,
+    built: false,
+};
+
+const PROOF: Choice = Choice {
+    word: "--proof",
+    value: Kind::Name,
+    built: false,
+};
+
+const NODES: Choice = Choice {
+    word: "--nodes",
+    value: Kind::Number {
+        low: 1,
+        high: 1_000_000,
+    },
+    built: true,
+};
+
+const DEPTH: Choice = Choice {
+    word: "--depth",
+    value: Kind::Number { low: 0, high: 800 },
+    built: true,
+};
+
+const PIVOTS: Choice = Choice {
+    word: "--pivots",
+    value: Kind::Number {
+        low: 0,
+        high: 100_000,
+    },
+    built: true,
+};
+
+const DIGITS: Choice = Choice {
+    word: "--digits",
+    value: Kind::Number { low: 0, high: 9 },
+    built: true,
+};
+
+const BOX: Choice = Choice {
+    word: "--box",
+    value: Kind::Number {
+        low: 0,
+        high: 16_777_216,
+    },
+    built: true,
+};
+
+impl Command {
+    /// The command that a word is.
+    #[tactic(auto, unfolding(crate::specs::Commands::commands))]
+    pub fn named(word: &str) -> Option<Command>
+        ensures { option_map command_row result ≡ command_named word.now }
+    {
+        match word {
+            "solve" => Some(Command::Solve),
+            "check" => Some(Command::Check),
+            "ask" => Some(Command::Ask),
+            "sweep" => Some(Command::Sweep),
+            "recheck" => Some(Command::Recheck),
+            "show" => Some(Command::Show),
+            "trial" => Some(Command::Trial),
+            _ => None,
+        }
+    }
+
+    /// What its operands are.
+    pub fn operands(self) -> &'static [Kind]
+        ensures { result.now ≡ (command_row self).operands }
+    {
+        match self {
+            Command::Solve | Command::Show => &[Kind::Name],
+            Command::Check | Command::Sweep => &[Kind::Name, Kind::Name],
+            Command::Ask | Command::Recheck => &[Kind::Name, Kind::Name, Kind::Name],
+            Command::Trial => &[Kind::Number {
+                low: 0,
+                high: u32::MAX,
+            }],
+        }
+    }
+
+    /// Its options.
+    pub fn choices(self) -> &'static [Choice]
+        ensures { map choice_row result.now ≡ (command_row self).choices }
+    {
+        match self {
+            Command::Solve => &[TREE, NODES, DEPTH, PIVOTS, DIGITS, BOX],
+            Command::Sweep => &[PROOF, NODES, DEPTH, PIVOTS, DIGITS, BOX],
+            Command::Check | Command::Ask | Command::Recheck | Command::Show => &[DIGITS, BOX],
+            Command::Trial => &[],
+        }
+    }
+
+    /// Whether the program has it yet.
+    pub fn is_built(self) -> bool
+        ensures { result ≡ (command_row self).built }
+    {
+        match self {
+            Command::Solve | Command::Show => true,
+            Command::Check | Command::Ask | Command::Sweep | Command::Recheck | Command::Trial => {
+                false
+            }
+        }
+    }
+}

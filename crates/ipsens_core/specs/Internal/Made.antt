@@ -1,0 +1,68 @@
+-- What reading the files of a command and making its answer come to, before anything is written.
+use Rattle.std.specs.declared.alloc.Global.{Global}
+use Rattle.std.specs.Prelude.{◌≡◌, ◌⊎◌, ◌≤◌, ℕ, List, [], ◌∷◌, length, Vec, Option, Some, None, Result, Ok, Err, codes}
+use Rattle.ip_defs.specs.declared.programs.Parts.{Parts}
+use Rattle.ips_io.specs.Files.{Files}
+use Rattle.mps_defs.specs.Faults.{mps_fault, model_of}
+use Rattle.mps_defs.specs.declared.texts.How.{How}
+use Rattle.mps_defs.specs.declared.texts.MpsError.{MpsError}
+use Rattle.ipsens_core.specs.Answers.{Answer, says}
+use Rattle.ipsens_core.specs.Models.{ReadsModel, longest_model}
+use Rattle.ipsens_core.specs.Reads.{Reads, Agrees}
+use Rattle.ipsens_core.specs.RefusalTexts.{refusal_text, refused_model}
+use Rattle.ipsens_core.specs.Runs.{IsOwed}
+use Rattle.ipsens_core.specs.declared.answers.Stop.{Stop}
+use Rattle.ipsens_core.specs.declared.answers.Stop.TheVariants as Stops
+use Rattle.ipsens_core.specs.declared.models.NoModel.{NoModel}
+use Rattle.ipsens_core.specs.declared.models.NoModel.TheVariants as No
+use Rattle.ipsens_core.specs.declared.statuses.Status.{Status}
+use Rattle.ipsens_core.specs.declared.statuses.Status.TheVariants.{Answered, Refused, Budget}
+
+-- statuses that a command may answer with a text
+abbrev pub IsWritten : Status → Type 0
+IsWritten status = (status ≡ Answered) ⊎ ((status ≡ Refused) ⊎ (status ≡ Budget))
+
+-- an answer that is owed to the files that were read, and whose text is to be written
+pub record IsMade (IsRun : Reads → Answer → Type 0) (before after : Option Files) (made : Status × Vec ℕ Global) : Type 0 where
+  pub written : IsWritten made.0
+  pub owed : IsOwed IsRun before after (says made.0 made.1.items)
+
+-- ---- the model file
+
+-- the text of a refusal, or out of memory
+abbrev pub IsRefusalOf : List ℕ → NoModel → Type 0
+IsRefusalOf why (No.Refused text) = text.items ≡ refused_model why
+IsRefusalOf why No.ReadFault = ⊥
+IsRefusalOf why No.Memory = Unit {0}
+
+-- what a model text comes to: its model, or the refusal of its first fault
+abbrev pub IsModelText : List ℕ → How → Result Parts NoModel → Type 0
+IsModelText bytes how (Ok m) = (mps_fault bytes how ≡ None) × (m ≡ model_of bytes how)
+IsModelText bytes how (Err (No.Refused text)) = (e : MpsError) × (mps_fault bytes how ≡ Some e) × (text.items ≡ refused_model (refusal_text e))
+IsModelText bytes how (Err No.ReadFault) = ⊥
+IsModelText bytes how (Err No.Memory) = Unit {0}
+
+-- the model file was read, is within its length, and its text without a fault is this model
+pub record IsModelRead (before after : Option Files) (name : List ℕ) (how : How) (m : Parts) : Type 0 where
+  pub bytes : List ℕ
+  pub agrees : Agrees before after ((name, bytes) ∷ [])
+  pub short : length bytes ≤ longest_model
+  pub sound : mps_fault bytes how ≡ None
+  pub model : m ≡ model_of bytes how
+
+-- a refusal of the model file is owed, whatever a command owes to models
+abbrev pub IsFileRefused : Option Files → Option Files → List ℕ → How → List ℕ → Type 0
+IsFileRefused before after name how text = IsOwed (ReadsModel name how (λ m rs a. ⊥)) before after (says Refused text)
+
+-- what reading a model file comes to: its model, or the text of its refusal
+abbrev pub IsModelFile : Option Files → Option Files → List ℕ → How → Result Parts NoModel → Type 0
+IsModelFile before after name how (Ok m) = IsModelRead before after name how m
+IsModelFile before after name how (Err (No.Refused text)) = IsFileRefused before after name how text.items
+IsModelFile before after name how (Err No.ReadFault) = Unit {0}
+IsModelFile before after name how (Err No.Memory) = Unit {0}
+
+-- the answer of a command without a model
+abbrev pub IsWithoutModel : NoModel → Result (Status × Vec ℕ Global) Stop → Type 0
+IsWithoutModel (No.Refused text) result = result ≡ Ok (Refused, text)
+IsWithoutModel No.ReadFault result = result ≡ Err Stops.ReadFault
+IsWithoutModel No.Memory result = result ≡ Err Stops.Memory

@@ -1,5 +1,6 @@
 -- What closes a box: its sum, its one point, or a ray on a row that its one point breaks.
-use Rattle.std.specs.Prelude.{◌≡◌, ℕ, ◌<◌, Bool, true, false, if◌then◌else◌, List, [], ◌∷◌, length, slice_get, Option, Some, None, option_map, ℤ, pos, negsuc, ◌+ℤ◌, ◌-ℤ◌, ◌*ℤ◌, ◌<ℤ◌}
+use Rattle.std.specs.Prelude.{◌≡◌, ℕ, ◌<◌, Bool, true, false, if◌then◌else◌, List, [], ◌∷◌, length, slice_get, Option, Some, None,
+    option_map, ℤ, pos, negsuc, ◌+ℤ◌, ◌-ℤ◌, ◌*ℤ◌, ◌<ℤ◌}
 use Rattle.std.specs.Int.{int_min}
 use Rattle.std.specs.Int.Signed.{lt_z}
 use Rattle.std.specs.List.{list_any}
@@ -15,7 +16,8 @@ use Rattle.ip_defs.specs.declared.certificates.Cert.{Cert}
 use Rattle.ip_defs.specs.declared.programs.Parts.{Parts}
 use Rattle.ip_defs.specs.declared.programs.Row.{Row}
 use Rattle.ip_defs.specs.Boxes.{IsOpen}
-use Rattle.ip_defs.specs.Certificates.{coefs_of, side_for, pay, entry, reduced, column_part, dual_value, box_sum, ceiling, is_empty_side, bound_by, leaf_bound}
+use Rattle.ip_defs.specs.Certificates.{coefs_of, side_for, pay, entry, reduced, column_part, dual_value, box_sum, ceiling, is_empty_side,
+    bound_by, leaf_bound}
 use Rattle.ip_defs.specs.Limits.{IsCert, IsWithinLimits}
 use Rattle.ip_defs.specs.Program.{at, box_of, coefficient, costs_of, row_sum, low_at, high_at, IsIn, cost}
 use Rattle.ip_defs.specs.Sums.{sum_below}
@@ -24,7 +26,8 @@ use Rattle.ip_defs.proofs.BoxLaws.{box_within, open_from, open_sides}
 use Rattle.proof_tree.specs.Verdicts.{IsAtLeast}
 use Rattle.branching.specs.OpenTrees.{plain_cert}
 use Rattle.branching.specs.Outcomes.{IsClosedBy}
-use Rattle.branching.specs.Internal.Search.{Closes, Found, Improves, IsBelow, IsEnd, IsPartOf, IsSearchArea, IsSingle, IsSound, lowest, point_of, ray_on}
+use Rattle.branching.specs.Internal.Search.{Closes, Found, Improves, IsBelow, IsEnd, IsPartOf, IsSearchArea, IsSingle, IsSound, lowest,
+    point_of, ray_on}
 use Rattle.ip_defs.proofs.OrderLaws.{less_true}
 
 -- ---- boxes of a search
@@ -40,7 +43,8 @@ ceiling_one (pos a) = omega (arith, ints)
 ceiling_one (negsuc a) = omega (arith, ints)
 
 -- of an open box the dual value bounds
-pub open_bound : (m : Parts) (b : List (ℤ × ℤ)) (c : Cert) → IsOpen b → leaf_bound m b c ≡ bound_by c.q (box_sum m b) (dual_value m b c.q c.y)
+pub open_bound : (m : Parts) (b : List (ℤ × ℤ)) (c : Cert) → IsOpen b → leaf_bound m b c
+    ≡ bound_by c.q (box_sum m b) (dual_value m b c.q c.y)
 open_bound m b c open' = ap (λ t. if t then Infinite else bound_by c.q (box_sum m b) (dual_value m b c.q c.y)) (open_sides b open')
 
 -- the bound of the certificate without multipliers is the sum of the box
@@ -48,7 +52,8 @@ pub plain_bound : (m : Parts) (b : List (ℤ × ℤ)) → list_any is_empty_side
 plain_bound m b none = rw none (ap At (ceiling_one (pos 0 +ℤ (pos 1 *ℤ m.constant) +ℤ column_part m b (pos 1) []) ∙ omega (arith, ints)))
 
 -- a box that the sum does not close has no empty column, and its sum is below what was found
-pub not_closed : (m : Parts) (b : List (ℤ × ℤ)) (found : Found) (v : Bound) → v ≡ leaf_bound m b plain_cert → IsBelow v found → IsOpen b × IsBelow (At (box_sum m b)) found
+pub not_closed : (m : Parts) (b : List (ℤ × ℤ)) (found : Found) (v : Bound) → v ≡ leaf_bound m b plain_cert → IsBelow v found → IsOpen b
+    × IsBelow (At (box_sum m b)) found
 not_closed m b found v is below = by (list_any is_empty_side b) refl
   where
     by : (t : Bool) → list_any is_empty_side b ≡ t → IsOpen b × IsBelow (At (box_sum m b)) found
@@ -67,8 +72,10 @@ module _ (b : List (ℤ × ℤ)) (single : IsSingle b) (open' : IsOpen b) where
   pub point_in : (whole_box : List (ℤ × ℤ)) → length b ≡ length whole_box → IsPartOf b whole_box → IsIn whole_box (lowest b)
   point_in whole_box size part = record {
     size = point_size ∙ size;
-    low = λ j l. let l' : j < length b = omega (arith, l, size) in let is = point_at j l' in let from = (part j l').0 in omega (arith, ints);
-    high = λ j l. let l' : j < length b = omega (arith, l, size) in let is = point_at j l' in let to' = (part j l').1 in let meet = open' j l' in omega (arith, ints);
+    low = λ j l. let l' : j < length b = omega (arith, l, size) in let is = point_at j l' in let from = (part j l').0 in
+        omega (arith, ints);
+    high = λ j l. let l' : j < length b = omega (arith, l, size) in let is = point_at j l' in let to' = (part j l').1 in
+        let meet = open' j l' in omega (arith, ints);
   }
 
   -- each end of a column is its number there
@@ -84,9 +91,11 @@ module _ (b : List (ℤ × ℤ)) (single : IsSingle b) (open' : IsOpen b) where
   -- its cost is the sum of the box
   pub point_sum : (m : Parts) → box_sum m b ≡ cost m (lowest b)
   point_sum m =
-      let each : (j : ℕ) → j < length b → int_min (reduced m (pos 1) [] j *ℤ low_at b j) (reduced m (pos 1) [] j *ℤ high_at b j) ≡ at (costs_of m) j *ℤ at (lowest b) j = λ j l.
+      let each : (j : ℕ) → j < length b → int_min (reduced m (pos 1) [] j *ℤ low_at b j) (reduced m (pos 1) [] j *ℤ high_at b j)
+              ≡ at (costs_of m) j *ℤ at (lowest b) j = λ j l.
       ends_meet (reduced m (pos 1) [] j) j l ∙ ring2' (at (costs_of m) j) (at (lowest b) j) in
-      let same = sum_same (λ j. int_min (reduced m (pos 1) [] j *ℤ low_at b j) (reduced m (pos 1) [] j *ℤ high_at b j)) (λ j. at (costs_of m) j *ℤ at (lowest b) j) (length b) each in
+      let same = sum_same (λ j. int_min (reduced m (pos 1) [] j *ℤ low_at b j) (reduced m (pos 1) [] j *ℤ high_at b j))
+              (λ j. at (costs_of m) j *ℤ at (lowest b) j) (length b) each in
       let sized = ap (sum_below (λ j. at (costs_of m) j *ℤ at (lowest b) j)) point_size in
       omega (arith, ints)
     where
@@ -94,25 +103,32 @@ module _ (b : List (ℤ × ℤ)) (single : IsSingle b) (open' : IsOpen b) where
       ring2' c x = ring3 whole (λ c x z. (num (pos 1) ⊗ c ⊖ num (pos 0)) ⊗ x) (λ c x z. c ⊗ x) refl c x (pos 0)
 
   -- ---- rays
-  ray_part : (m : Parts) (i : ℕ) (r : Row) (k : ℤ) → slice_get m.rows i ≡ Some r → column_part m b (pos 0) ((i, k) ∷ []) ≡ (pos 0 -ℤ k) *ℤ row_sum r.coefs (lowest b)
+  ray_part : (m : Parts) (i : ℕ) (r : Row) (k : ℤ) → slice_get m.rows i ≡ Some r →
+      column_part m b (pos 0) ((i, k) ∷ []) ≡ (pos 0 -ℤ k) *ℤ row_sum r.coefs (lowest b)
   ray_part m i r k is =
       let y : List (ℕ × ℤ) = (i, k) ∷ [] in
-      let each : (j : ℕ) → j < length b → int_min (reduced m (pos 0) y j *ℤ low_at b j) (reduced m (pos 0) y j *ℤ high_at b j) ≡ (pos 0 -ℤ k) *ℤ (coefficient r.coefs j *ℤ at (lowest b) j) = λ j l.
-      ends_meet (reduced m (pos 0) y j) j l ∙ turned (at (costs_of m) j) (entry m.rows i j) (at (lowest b) j) ∙ ap (λ (o : Option Row). (pos 0 -ℤ k) *ℤ (coefficient (coefs_of o) j *ℤ at (lowest b) j)) is in
-      let same = sum_same (λ j. int_min (reduced m (pos 0) y j *ℤ low_at b j) (reduced m (pos 0) y j *ℤ high_at b j)) (λ j. (pos 0 -ℤ k) *ℤ (coefficient r.coefs j *ℤ at (lowest b) j)) (length b) each in
+      let each : (j : ℕ) → j < length b → int_min (reduced m (pos 0) y j *ℤ low_at b j) (reduced m (pos 0) y j *ℤ high_at b j)
+              ≡ (pos 0 -ℤ k) *ℤ (coefficient r.coefs j *ℤ at (lowest b) j) = λ j l.
+      ends_meet (reduced m (pos 0) y j) j l ∙ turned (at (costs_of m) j) (entry m.rows i j) (at (lowest b) j)
+          ∙ ap (λ (o : Option Row). (pos 0 -ℤ k) *ℤ (coefficient (coefs_of o) j *ℤ at (lowest b) j)) is in
+      let same = sum_same (λ j. int_min (reduced m (pos 0) y j *ℤ low_at b j) (reduced m (pos 0) y j *ℤ high_at b j))
+              (λ j. (pos 0 -ℤ k) *ℤ (coefficient r.coefs j *ℤ at (lowest b) j)) (length b) each in
       let scaled = sum_scale (pos 0 -ℤ k) (λ j. coefficient r.coefs j *ℤ at (lowest b) j) (length b) in
       let sized = ap (λ n. (pos 0 -ℤ k) *ℤ sum_below (λ j. coefficient r.coefs j *ℤ at (lowest b) j) n) point_size in
       same ∙ scaled ∙ sym sized
     where
       turned : (c e x : ℤ) → (pos 0 *ℤ c -ℤ (k *ℤ e +ℤ pos 0)) *ℤ x ≡ (pos 0 -ℤ k) *ℤ (e *ℤ x)
-      turned c e x = ring4 whole (λ k c e x. (num (pos 0) ⊗ c ⊖ (k ⊗ e ⊕ num (pos 0))) ⊗ x) (λ k c e x. (num (pos 0) ⊖ k) ⊗ (e ⊗ x)) refl k c e x
+      turned c e x = ring4 whole (λ k c e x. (num (pos 0) ⊗ c ⊖ (k ⊗ e ⊕ num (pos 0))) ⊗ x) (λ k c e x. (num (pos 0) ⊖ k) ⊗ (e ⊗ x)) refl k
+          c e x
 
   -- a ray on a row is infinite, where the multiplier pays more than the row's value
-  pub ray_infinite : (m : Parts) (i : ℕ) (r : Row) (k side : ℤ) → slice_get m.rows i ≡ Some r → side_for k r ≡ Some side → (k *ℤ row_sum r.coefs (lowest b)) <ℤ (k *ℤ side) → leaf_bound m b (ray_on i k) ≡ Infinite
+  pub ray_infinite : (m : Parts) (i : ℕ) (r : Row) (k side : ℤ) → slice_get m.rows i ≡ Some r → side_for k r ≡ Some side →
+      (k *ℤ row_sum r.coefs (lowest b)) <ℤ (k *ℤ side) → leaf_bound m b (ray_on i k) ≡ Infinite
   ray_infinite m i r k side is side_is more =
       let y : List (ℕ × ℤ) = (i, k) ∷ [] in
       let part = ray_part m i r k is in
-      let turned = ring3 whole (λ k v z. (num (pos 0) ⊖ k) ⊗ v) (λ k v z. num (pos 0) ⊖ k ⊗ v) refl k (row_sum r.coefs (lowest b)) (pos 0) in
+      let turned = ring3 whole (λ k v z. (num (pos 0) ⊖ k) ⊗ v) (λ k v z. num (pos 0) ⊖ k ⊗ v) refl k (row_sum r.coefs (lowest b))
+              (pos 0) in
       let g = (k *ℤ side +ℤ pos 0) +ℤ (pos 0 *ℤ m.constant) +ℤ column_part m b (pos 0) y in
       let positive : lt_z (pos 0) g ≡ true = less_true (pos 0) g (omega (arith, ints)) in
       let paid : pay m.rows y ≡ Some (k *ℤ side +ℤ pos 0) = rw (is, side_is) refl in
@@ -125,7 +141,8 @@ plain_cert_ok : IsCert 1024 plain_cert
 plain_cert_ok = record {
   not_negative = omega (arith, ints);
   divisor = omega (arith, ints);
-  ordered = record { rising = λ i k p q. absurd (omega arith); within = λ i p. absurd (omega arith); present = λ i p. absurd (omega arith) };
+  ordered = record { rising = λ i k p q. absurd (omega arith); within = λ i p. absurd (omega arith);
+      present = λ i p. absurd (omega arith) };
   multipliers = λ i p. absurd (omega arith);
 }
 
@@ -134,12 +151,14 @@ pub cert_within : (m : Parts) (c : Cert) → IsWithinLimits m → IsCert (length
 cert_within m c limits ok = record {
   not_negative = ok.not_negative;
   divisor = ok.divisor;
-  ordered = record { rising = ok.ordered.rising; within = λ i p. let row = ok.ordered.within i p in omega (arith, row, limits.row_count); present = ok.ordered.present };
+  ordered = record { rising = ok.ordered.rising; within = λ i p. let row = ok.ordered.within i p in omega (arith, row, limits.row_count);
+      present = ok.ordered.present };
   multipliers = ok.multipliers;
 }
 
 -- a box with a bound that the best point closes ends with the certificate that bounds so
-pub closed_end : (m : Parts) (b : List (ℤ × ℤ)) (found : Found) (c : Cert) (v : Bound) → IsSound m found → IsCert 1024 c → v ≡ leaf_bound m b c → Closes found v → IsEnd m b found c
+pub closed_end : (m : Parts) (b : List (ℤ × ℤ)) (found : Found) (c : Cert) (v : Bound) → IsSound m found → IsCert 1024 c →
+    v ≡ leaf_bound m b c → Closes found v → IsEnd m b found c
 closed_end m b found c v sound ok bound closes = record {
   cert = ok;
   closed = subst (IsClosedBy m (point_of found)) bound (by found sound closes);
@@ -150,7 +169,8 @@ closed_end m b found c v sound ok bound closes = record {
     by (Some p) s h = subst (λ (w : ℤ). IsAtLeast v w) (sym s.1) h
 
 -- so does one with the certificate without multipliers
-pub plain_end : (m : Parts) (b : List (ℤ × ℤ)) (found : Found) (c : Cert) (v : Bound) → IsSound m found → c ≡ plain_cert → v ≡ leaf_bound m b c → Closes found v → IsEnd m b found c
+pub plain_end : (m : Parts) (b : List (ℤ × ℤ)) (found : Found) (c : Cert) (v : Bound) → IsSound m found → c ≡ plain_cert →
+    v ≡ leaf_bound m b c → Closes found v → IsEnd m b found c
 plain_end m b found c v sound is bound closes = closed_end m b found c v sound (subst (IsCert 1024) (sym is) plain_cert_ok) bound closes
 
 module _ (m : Parts) (b : List (ℤ × ℤ)) (p : List ℤ) (w : ℤ) (single : IsSingle b) (open' : IsOpen b) (is : p ≡ lowest b) where

@@ -7,7 +7,8 @@ use Rattle.ip_defs.specs.declared.programs.Parts.{Parts}
 use Rattle.ip_defs.specs.Certificates.{leaf_bound}
 use Rattle.ip_defs.specs.Program.{box_of}
 use Rattle.ip_model.specs.Sizes.{width_sum}
-use Rattle.proof_tree.specs.LabelledTrees.{leaf, split, leaf_node, split_node, place, node_count, depth, split_at, splits_over, split_labels}
+use Rattle.proof_tree.specs.LabelledTrees.{leaf, split, leaf_node, split_node, place, node_count, depth, split_at, splits_over,
+    split_labels}
 use Rattle.proof_tree.specs.Trees.{tree_bound, tree_limit}
 use Rattle.branching.specs.declared.budgets.Limits.{Limits}
 use Rattle.branching.specs.declared.budgets.BudgetWhat.{BudgetWhat}

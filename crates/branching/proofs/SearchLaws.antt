@@ -1,5 +1,6 @@
 -- Halves of a search make the whole, and the whole is a right outcome.
-use Rattle.std.specs.Prelude.{◌≡◌, ℕ, suc, ◌+◌, ◌*◌, ◌≤◌, ◌<◌, ◌==◌, Bool, true, false, ℤ, pos, ◌+ℤ◌, ◌≤ℤ◌, List, [], ◌∷◌, length, Option, Some, None, IfSome, IsSome}
+use Rattle.std.specs.Prelude.{◌≡◌, ℕ, suc, ◌+◌, ◌*◌, ◌≤◌, ◌<◌, ◌==◌, Bool, true, false, ℤ, pos, ◌+ℤ◌, ◌≤ℤ◌, List, [], ◌∷◌, length, Option,
+    Some, None, IfSome, IsSome}
 use Rattle.std.proofs.Math.Nat.{add-mul}
 use Rattle.std.specs.Int.{int_min, int_max}
 use Rattle.std.specs.Option.{is_some}
@@ -28,8 +29,10 @@ use Rattle.branching.specs.declared.outcomes.Outcome.{Outcome}
 use Rattle.branching.specs.declared.outcomes.Outcome.TheVariants.{Best, Empty, Budget}
 use Rattle.branching.specs.declared.reasons.Why.{Why}
 use Rattle.branching.specs.OpenTrees.{PlainOpen, pending, stuck, ended, OpenPlace, places, cert_of, IsDone, tree_of}
-use Rattle.branching.specs.Outcomes.{HasOneStuck, SomeOf, Pairwise, ClaimsPoint, IsFinished, IsRightOutcome, IsStopped, IsStuckNode, IsStuckAt}
-use Rattle.branching.specs.Internal.Search.{Found, point_of, IsSound, Improves, IsAnswerOf, IsPartOf, IsSearchArea, IsSplit, ArePlacesOf, EndsBy, IsGrown}
+use Rattle.branching.specs.Outcomes.{HasOneStuck, SomeOf, Pairwise, ClaimsPoint, IsFinished, IsRightOutcome, IsStopped, IsStuckNode,
+    IsStuckAt}
+use Rattle.branching.specs.Internal.Search.{Found, point_of, IsSound, Improves, IsAnswerOf, IsPartOf, IsSearchArea, IsSplit, ArePlacesOf,
+    EndsBy, IsGrown}
 use Rattle.branching.specs.Counts.{IsCounted}
 use Rattle.branching.specs.Reasons.{IsReasoned}
 use Rattle.branching.proofs.BoxSizeLaws.{cut_low, cut_high}

@@ -1,5 +1,6 @@
 -- Whole numbers among the rational ones, and the floor of a number between two of them.
-use Rattle.std.specs.Prelude.{◌≡◌, ℕ, zero, suc, ◌^◌, ℤ, pos, negsuc, ◌+ℤ◌, ◌-ℤ◌, ◌*ℤ◌, ◌≤ℤ◌, ◌<ℤ◌, unsigned_abs, ◌≤◌, ◌==◌, Bool, true, false, MatchBool, List, length, ◌<◌, ◌+◌, Option, Some, None}
+use Rattle.std.specs.Prelude.{◌≡◌, ℕ, zero, suc, ◌^◌, ℤ, pos, negsuc, ◌+ℤ◌, ◌-ℤ◌, ◌*ℤ◌, ◌≤ℤ◌, ◌<ℤ◌, unsigned_abs, ◌≤◌, ◌==◌, Bool, true,
+    false, MatchBool, List, length, ◌<◌, ◌+◌, Option, Some, None}
 use Rattle.std.specs.Option.{is_some}
 use Rattle.std.proofs.Common.{arith, refl, ap, sym, ◌∙◌, subst, get_or, below_more}
 use Rattle.std.proofs.Math.Nat.{dvd-one}
@@ -7,7 +8,7 @@ use Rattle.std.proofs.lemmas.Bool.{eqb-true, eqb-false}
 use Rattle.std.proofs.lemmas.Int.{ints}
 use Rattle.std.proofs.lemmas.Option.{get_or_from_slice_get, slice_get_read}
 use Rattle.frac128.specs.Fractions.{Fraction, IsFraction}
-use Rattle.frac128.specs.Rationals.{Rational, bottom, of, rational, AtMost, IsBelow}
+use Rattle.frac128.specs.Rationals.{Rational, denominator, of, rational, AtMost, IsBelow}
 use Rattle.frac128.specs.Values.{value_of}
 use Rattle.frac128.proofs.Fractions.{lowest-is}
 use Rattle.frac128.proofs.GcdLaws.{gcd-is}
@@ -17,18 +18,18 @@ use Rattle.lp_duality.proofs.SignLaws.{of_at_most}
 use Rattle.branching.specs.Internal.Relaxed.{IsSmallNumber, IsWholeNumber}
 
 -- ---- the parts of whole numbers and of fractions
-whole_parts : (z : ℤ) → ((of z).top ≡ z) × (bottom (of z) ≡ pos 1)
+whole_parts : (z : ℤ) → ((of z).numerator ≡ z) × (denominator (of z) ≡ pos 1)
 unfolding of rational
 whole_parts z = lowest-is z (pos 1) (omega (arith, ints)) (dvd-one.0 (gcd-is (unsigned_abs z) 1).1)
 
-value_parts : (x : Fraction) → IsFraction x.num x.den → ((value_of x).top ≡ x.num) × (bottom (value_of x) ≡ x.den)
+value_parts : (x : Fraction) → IsFraction x.num x.den → ((value_of x).numerator ≡ x.num) × (denominator (value_of x) ≡ x.den)
 value_parts x f = lowest-is x.num x.den f.positive f.lowest
 
 -- products with the parts of a whole number
-times_bottom : (a z : ℤ) → a *ℤ bottom (of z) ≡ a
+times_bottom : (a z : ℤ) → a *ℤ denominator (of z) ≡ a
 times_bottom a z = ap (λ w. a *ℤ w) (whole_parts z).1 ∙ omega (arith, ints)
 
-top_times : (z d : ℤ) → (of z).top *ℤ d ≡ z *ℤ d
+top_times : (z d : ℤ) → (of z).numerator *ℤ d ≡ z *ℤ d
 top_times z d = ap (λ w. w *ℤ d) (whole_parts z).0
 
 -- a number of a list by its place
@@ -38,13 +39,13 @@ number_read xs i x l e = ap value_of
 
 -- ---- the order of whole numbers
 pub of_injective : (a b : ℤ) → of a ≡ of b → a ≡ b
-of_injective a b e = sym (whole_parts a).0 ∙ ap (λ p. p.top) e ∙ (whole_parts b).0
+of_injective a b e = sym (whole_parts a).0 ∙ ap (λ p. p.numerator) e ∙ (whole_parts b).0
 
 pub from_at_most : (l h : ℤ) → AtMost (of l) (of h) → l ≤ℤ h
 from_at_most l h le =
     let cross = at_most_cross (of l) (of h) le in
-    let left : (of l).top *ℤ bottom (of h) ≡ l = times_bottom (of l).top h ∙ (whole_parts l).0 in
-    let right : (of h).top *ℤ bottom (of l) ≡ h = times_bottom (of h).top l ∙ (whole_parts h).0 in
+    let left : (of l).numerator *ℤ denominator (of h) ≡ l = times_bottom (of l).numerator h ∙ (whole_parts l).0 in
+    let right : (of h).numerator *ℤ denominator (of l) ≡ h = times_bottom (of h).numerator l ∙ (whole_parts h).0 in
     omega (arith, ints)
 
 -- ---- whole fractions
@@ -55,7 +56,7 @@ whole_value x e = ap (λ d. rational x.num d) e
 
 -- and only there
 whole_den : (x : Fraction) → IsFraction x.num x.den → IsWholeNumber (value_of x) → x.den ≡ pos 1
-whole_den x f whole = sym (value_parts x f).1 ∙ ap bottom whole.1 ∙ (whole_parts whole.0).1
+whole_den x f whole = sym (value_parts x f).1 ∙ ap denominator whole.1 ∙ (whole_parts whole.0).1
 
 -- so a test of the denominator tells
 pub whole_test : (x : Fraction) (d : ℕ) → IsFraction x.num x.den → pos d ≡ x.den
@@ -73,15 +74,16 @@ whole_is x f whole = whole_value x (whole_den x f whole)
 -- ---- floors of fractions
 floor_at_most : (x : Fraction) (z : ℤ) → IsFraction x.num x.den → (z *ℤ x.den) ≤ℤ x.num → AtMost (of z) (value_of x)
 floor_at_most x z f le =
-    let left : (of z).top *ℤ bottom (value_of x) ≡ z *ℤ x.den = ap (λ w. (of z).top *ℤ w) (value_parts x f).1 ∙ top_times z x.den in
-    let right : (value_of x).top *ℤ bottom (of z) ≡ x.num = times_bottom (value_of x).top z ∙ (value_parts x f).0 in
+    let left : (of z).numerator *ℤ denominator (value_of x) ≡ z *ℤ x.den = ap (λ w. (of z).numerator *ℤ w) (value_parts x f).1
+            ∙ top_times z x.den in
+    let right : (value_of x).numerator *ℤ denominator (of z) ≡ x.num = times_bottom (value_of x).numerator z ∙ (value_parts x f).0 in
     cross_at_most (of z) (value_of x) (omega (arith, ints))
 
 floor_greatest : (x : Fraction) (z : ℤ) → IsFraction x.num x.den → x.num <ℤ ((z +ℤ pos 1) *ℤ x.den) → AtMost (value_of x) (of (z +ℤ pos 1))
 floor_greatest x z f less =
     let next = z +ℤ pos 1 in
-    let left : (value_of x).top *ℤ bottom (of next) ≡ x.num = times_bottom (value_of x).top next ∙ (value_parts x f).0 in
-    let right : (of next).top *ℤ bottom (value_of x) ≡ next *ℤ x.den = ap (λ w. (of next).top *ℤ w) (value_parts x f).1
+    let left : (value_of x).numerator *ℤ denominator (of next) ≡ x.num = times_bottom (value_of x).numerator next ∙ (value_parts x f).0 in
+    let right : (of next).numerator *ℤ denominator (value_of x) ≡ next *ℤ x.den = ap (λ w. (of next).numerator *ℤ w) (value_parts x f).1
     ∙ top_times next x.den in
     cross_at_most (value_of x) (of next) (omega (arith, ints))
 

@@ -1,5 +1,6 @@
 -- Digits as numbers, one more at a time; the digits of a rest; and the number of a fraction in its least decimals.
-use Rattle.std.specs.Prelude.{◌≡◌, ℕ, zero, suc, ◌+◌, ◌-◌, ◌*◌, ◌^◌, ◌<◌, ◌≤◌, Bool, true, false, ◌&&◌, ◌||◌, not, ◌==◌, ◌/◌, ◌%◌, if◌then◌else◌, nat_le, List, [], ◌∷◌, ◌++◌, length, take, drop, cond, ℤ, pos, negsuc, IfSome, ◌*ℤ◌}
+use Rattle.std.specs.Prelude.{◌≡◌, ℕ, zero, suc, ◌+◌, ◌-◌, ◌*◌, ◌^◌, ◌<◌, ◌≤◌, Bool, true, false, ◌&&◌, ◌||◌, not, ◌==◌, ◌/◌, ◌%◌,
+    if◌then◌else◌, nat_le, List, [], ◌∷◌, ◌++◌, length, take, drop, cond, ℤ, pos, negsuc, IfSome, ◌*ℤ◌}
 use Rattle.std.specs.List.{list_all, list_any, before_first, after_first, position_or_len}
 use Rattle.std.specs.Int.{w128}
 use Rattle.std.specs.Int.RustNames.{unsigned_abs, FitsSigned}
@@ -11,7 +12,9 @@ use Rattle.std.proofs.lemmas.List.{take_more, length-take, length-drop}
 use Rattle.std.proofs.lemmas.Int.{unsigned_abs-mul, ints}
 use Rattle.decimals.proofs.DecimalLaws.{least_units, units-none, units-keep, units-drop, least-keep, least-drop}
 use Rattle.mps_defs.specs.Lists.{where_true}
-use Rattle.mps_defs.specs.Numbers.{is_number, is_infinity, is_minus, number_of, fraction_of, is_digit, is_point, is_exponent_mark, is_exponent, is_numeral, without_sign, whole_part, rest_part, exponent_part, value_from, places, signed, number_from, least_decimals, over_tens}
+use Rattle.mps_defs.specs.Numbers.{is_number, is_infinity, is_minus, number_of, fraction_of, is_digit, is_point, is_exponent_mark,
+    is_exponent, is_numeral, without_sign, whole_part, rest_part, exponent_part, value_from, places, signed, number_from, least_decimals,
+    over_tens}
 use Rattle.decimals.specs.Decimals.{IsBelowLarge}
 use Rattle.mps_defs.specs.declared.texts.Number.TheVariants.{Dec, Large}
 use Rattle.ip_defs.proofs.BoolLaws.{both_true}
@@ -228,7 +231,8 @@ pub read_below : (text : List ℕ) → IfSome (number_of text) IsBelowLarge
 read_below text = by (is_number text) (is_infinity (without_sign text))
   where
     by : (t u : Bool)
-        → IfSome (where_true t (if u then Large (is_minus text) else number_from (is_minus text) (fraction_of (without_sign text)).0 (fraction_of (without_sign text)).1)) IsBelowLarge
+        → IfSome (where_true t (if u then Large (is_minus text)
+            else number_from (is_minus text) (fraction_of (without_sign text)).0 (fraction_of (without_sign text)).1)) IsBelowLarge
     by false u = tt
     by true true = tt
     by true false = number_below (is_minus text) (fraction_of (without_sign text)).0 (fraction_of (without_sign text)).1

@@ -2,7 +2,8 @@
 use Rattle.std.specs.Prelude.{◌≡◌, ℕ, zero, suc, ◌+◌, ◌*◌, ◌/◌, ◌<◌, ◌≤◌, List, [], ◌∷◌, ◌++◌, length, take, drop, slice_index_or}
 use Rattle.std.specs.Int.{◌∣◌}
 use Rattle.std.proofs.Common.{arith, refl, ap, sym, ◌∙◌, subst}
-use Rattle.std.proofs.Math.Nat.{dvd-mul_left, dvd-mul_right, mul-dvd-mul_left, mul-div_cancel', le_of_dvd, one-dvd, pos_of_dvd_of_pos, dvd_of_mul-dvd-mul_left}
+use Rattle.std.proofs.Math.Nat.{dvd-mul_left, dvd-mul_right, mul-dvd-mul_left, mul-div_cancel', le_of_dvd, one-dvd, pos_of_dvd_of_pos,
+    dvd_of_mul-dvd-mul_left}
 use Rattle.std.proofs.lemmas.List.{take_more, map-append, take-append-drop}
 use Rattle.std.proofs.lemmas.Nat.Gcd.{dvd_trans, dvd_antisymm, dvd-zero}
 use Rattle.frac128.specs.Gcd.{gcd}
@@ -54,7 +55,8 @@ lcm-least a b m p d e = by (m / a) (mul-div_cancel' a d)
 pub lcm-positive : (a b : ℕ) → 0 < a → 0 < b → 0 < lcm a b
 lcm-positive (suc a) (suc b) p q =
     let all : 0 < suc a * suc b = omega arith in
-    pos_of_dvd_of_pos (lcm-least (suc a) (suc b) (suc a * suc b) (omega arith) (dvd-mul_right (suc a) (suc b)) (dvd-mul_left (suc b) (suc a))) all
+    pos_of_dvd_of_pos (lcm-least (suc a) (suc b) (suc a * suc b) (omega arith) (dvd-mul_right (suc a) (suc b))
+        (dvd-mul_left (suc b) (suc a))) all
 lcm-positive zero b p q = absurd (omega arith)
 lcm-positive (suc a) zero p q = absurd (omega arith)
 
@@ -86,17 +88,20 @@ denominator-positive (p ∷ ps) = lcm-positive (suc p.less) (common_denominator 
 pub denominator-divides : (ps : List Rational) (k : ℕ) → k < length ps → suc (number_at ps k).less ∣ common_denominator ps
 denominator-divides [] k l = absurd (omega arith)
 denominator-divides (p ∷ ps) zero l = lcm-first (suc p.less) (common_denominator ps)
-denominator-divides (p ∷ ps) (suc k) l = dvd_trans (suc (number_at ps k).less) (denominator-divides ps k (omega arith)) (lcm-second (suc p.less) (common_denominator ps))
+denominator-divides (p ∷ ps) (suc k) l = dvd_trans (suc (number_at ps k).less) (denominator-divides ps k (omega arith))
+    (lcm-second (suc p.less) (common_denominator ps))
 
 -- it divides each number that all denominators divide
 pub denominator-least : (ps : List Rational) (m : ℕ) → ((k : ℕ) → k < length ps → suc (number_at ps k).less ∣ m) → common_denominator ps ∣ m
 denominator-least [] m h = one-dvd m
-denominator-least (p ∷ ps) m h = lcm-least (suc p.less) (common_denominator ps) m (denominator-positive ps) (h 0 (omega arith)) (denominator-least ps m (λ k l. h (suc k) (omega arith)))
+denominator-least (p ∷ ps) m h = lcm-least (suc p.less) (common_denominator ps) m (denominator-positive ps) (h 0 (omega arith))
+    (denominator-least ps m (λ k l. h (suc k) (omega arith)))
 
 -- of one number more
 pub denominator-more : (ps : List Rational) (x : Rational) → common_denominator (ps ++ x ∷ []) ≡ lcm (suc x.less) (common_denominator ps)
 denominator-more [] x = refl
-denominator-more (p ∷ ps) x = ap (lcm (suc p.less)) (denominator-more ps x) ∙ lcm-swap (suc p.less) (suc x.less) (common_denominator ps) (omega arith) (omega arith) (denominator-positive ps)
+denominator-more (p ∷ ps) x = ap (lcm (suc p.less)) (denominator-more ps x)
+    ∙ lcm-swap (suc p.less) (suc x.less) (common_denominator ps) (omega arith) (omega arith) (denominator-positive ps)
 
 -- the first numbers have no greater one
 pub denominator-grows : (ps qs : List Rational) → common_denominator ps ≤ common_denominator (ps ++ qs)
@@ -104,17 +109,22 @@ denominator-grows ps qs = le_of_dvd (denominator-positive (ps ++ qs)) (divides p
   where
     divides : (ps : List Rational) → common_denominator ps ∣ common_denominator (ps ++ qs)
     divides [] = one-dvd (common_denominator qs)
-    divides (p ∷ ps) = lcm-least (suc p.less) (common_denominator ps) (lcm (suc p.less) (common_denominator (ps ++ qs))) (denominator-positive ps)
+    divides (p ∷ ps) = lcm-least (suc p.less) (common_denominator ps) (lcm (suc p.less) (common_denominator (ps ++ qs)))
+        (denominator-positive ps)
         (lcm-first (suc p.less) (common_denominator (ps ++ qs)))
         (dvd_trans (common_denominator ps) (divides ps) (lcm-second (suc p.less) (common_denominator (ps ++ qs))))
 
 -- ---- a list of fractions, one more at a time
-pub denominator-next : (xs : List Fraction) (i : ℕ) (x : Fraction) (d q : ℕ) → i < length xs → x ≡ slice_index_or xs i x → d ≡ suc (value_of x).less → q ≡ common_denominator (values (take i xs)) → lcm d q ≡ common_denominator (values (take (i + 1) xs))
+pub denominator-next : (xs : List Fraction) (i : ℕ) (x : Fraction) (d q : ℕ) → i < length xs → x ≡ slice_index_or xs i x →
+    d ≡ suc (value_of x).less → q ≡ common_denominator (values (take i xs)) → lcm d q ≡ common_denominator (values (take (i + 1) xs))
 denominator-next xs i x d q l is e f =
-    let here : values (take (i + 1) xs) ≡ values (take i xs) ++ value_of x ∷ [] = ap values (take_more xs i x l) ∙ map-append value_of (take i xs) (slice_index_or xs i x ∷ []) ∙ ap (λ y. values (take i xs) ++ value_of y ∷ []) (sym is) in
-    ap (λ z. lcm z q) e ∙ ap (lcm (suc (value_of x).less)) f ∙ sym (ap common_denominator here ∙ denominator-more (values (take i xs)) (value_of x))
+    let here : values (take (i + 1) xs) ≡ values (take i xs) ++ value_of x ∷ [] = ap values (take_more xs i x l)
+            ∙ map-append value_of (take i xs) (slice_index_or xs i x ∷ []) ∙ ap (λ y. values (take i xs) ++ value_of y ∷ []) (sym is) in
+    ap (λ z. lcm z q) e ∙ ap (lcm (suc (value_of x).less)) f ∙ sym (ap common_denominator here
+        ∙ denominator-more (values (take i xs)) (value_of x))
 
 pub denominator-prefix : (xs : List Fraction) (i : ℕ) → common_denominator (values (take i xs)) ≤ common_denominator (values xs)
 denominator-prefix xs i =
-    subst (λ ys. common_denominator (values (take i xs)) ≤ common_denominator ys) (sym (map-append value_of (take i xs) (drop i xs)) ∙ ap values (take-append-drop i xs))
+    subst (λ ys. common_denominator (values (take i xs)) ≤ common_denominator ys) (sym (map-append value_of (take i xs) (drop i xs))
+        ∙ ap values (take-append-drop i xs))
     (denominator-grows (values (take i xs)) (values (drop i xs)))

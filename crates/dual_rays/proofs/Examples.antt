@@ -11,16 +11,19 @@ abbrev fraction : ℤ → ℤ → Fraction
 fraction n d = record { num = n; den = d }
 
 -- the prices 1/2, 0 and -2/3
-three_prices : certificate_of_prices (fraction (pos 1) (pos 2) ∷ fraction (pos 0) (pos 1) ∷ fraction (negsuc 1) (pos 3) ∷ []) ≡ Some (record { q = pos 6; y = (0, pos 3) ∷ (2, negsuc 3) ∷ [] })
+three_prices : certificate_of_prices (fraction (pos 1) (pos 2) ∷ fraction (pos 0) (pos 1) ∷ fraction (negsuc 1) (pos 3) ∷ [])
+    ≡ Some (record { q = pos 6; y = (0, pos 3) ∷ (2, negsuc 3) ∷ [] })
 unfolding rational over gcd lcm
 three_prices = refl
 
 -- the rays (2/3, -4/3) and (0, 6, 9)
-thirds : certificate_of_ray (fraction (pos 2) (pos 3) ∷ fraction (negsuc 3) (pos 3) ∷ []) ≡ Some (record { q = pos 0; y = (0, pos 1) ∷ (1, negsuc 1) ∷ [] })
+thirds : certificate_of_ray (fraction (pos 2) (pos 3) ∷ fraction (negsuc 3) (pos 3) ∷ [])
+    ≡ Some (record { q = pos 0; y = (0, pos 1) ∷ (1, negsuc 1) ∷ [] })
 unfolding rational over gcd lcm
 thirds = refl
 
-nines : certificate_of_ray (fraction (pos 0) (pos 1) ∷ fraction (pos 6) (pos 1) ∷ fraction (pos 9) (pos 1) ∷ []) ≡ Some (record { q = pos 0; y = (1, pos 2) ∷ (2, pos 3) ∷ [] })
+nines : certificate_of_ray (fraction (pos 0) (pos 1) ∷ fraction (pos 6) (pos 1) ∷ fraction (pos 9) (pos 1) ∷ [])
+    ≡ Some (record { q = pos 0; y = (1, pos 2) ∷ (2, pos 3) ∷ [] })
 unfolding rational over gcd lcm
 nines = refl
 

@@ -1,5 +1,6 @@
 -- The rows that a certificate keeps: in order, none with 0, and read by row they are what was given.
-use Rattle.std.specs.Prelude.{◌≡◌, ◌≢◌, ℕ, zero, suc, ◌+◌, ◌^◌, ◌<◌, ◌≤◌, ◌==◌, not, Bool, true, false, cond, List, [], ◌∷◌, length, filter, ℤ, pos, unsigned_abs}
+use Rattle.std.specs.Prelude.{◌≡◌, ◌≢◌, ℕ, zero, suc, ◌+◌, ◌^◌, ◌<◌, ◌≤◌, ◌==◌, not, Bool, true, false, cond, List, [], ◌∷◌, length,
+    filter, ℤ, pos, unsigned_abs}
 use Rattle.std.specs.List.{enumerate_from, list_any}
 use Rattle.std.proofs.Common.{arith, refl, ap, sym, ◌∙◌}
 use Rattle.std.proofs.lemmas.Int.{ints}
@@ -48,11 +49,13 @@ from_cons n rows z ps l present' f = record {
 kept_from : (n rows : ℕ) (zs : List ℤ) → n + length zs ≤ rows → AreFrom n rows (kept n zs)
 kept_from n rows [] l = record {
   least = λ i m. absurd (omega arith);
-  ordered = record { rising = λ i k h m. absurd (omega arith); within = λ i m. absurd (omega arith); present = λ i m. absurd (omega arith) };
+  ordered = record { rising = λ i k h m. absurd (omega arith); within = λ i m. absurd (omega arith);
+      present = λ i m. absurd (omega arith) };
 }
 kept_from n rows (z ∷ zs) l = by (unsigned_abs z == 0) refl (kept_from (n + 1) rows zs (omega arith))
   where
-    by : (t : Bool) → (unsigned_abs z == 0) ≡ t → AreFrom (n + 1) rows (kept (n + 1) zs) → AreFrom n rows (cond (not t) ((n, z) ∷ kept (n + 1) zs) (kept (n + 1) zs))
+    by : (t : Bool) → (unsigned_abs z == 0) ≡ t → AreFrom (n + 1) rows (kept (n + 1) zs) →
+        AreFrom n rows (cond (not t) ((n, z) ∷ kept (n + 1) zs) (kept (n + 1) zs))
     by true e f = from_more n rows (kept (n + 1) zs) f
     by false e f = from_cons n rows z (kept (n + 1) zs) (omega arith) (nonzero_is z e) f
 
@@ -62,13 +65,15 @@ present-ordered zs = (kept_from 0 (length zs) zs (omega arith)).ordered
 -- ---- sizes
 kept_small : (n : ℕ) (zs : List ℤ) → list_any (above (2 ^ 36)) zs ≡ false → AreSmall (2 ^ 36) (kept n zs)
 kept_small n [] e = λ i l. absurd (omega arith)
-kept_small n (z ∷ zs) e = let parts = neither_true (above (2 ^ 36) z) (list_any (above (2 ^ 36)) zs) e in by (unsigned_abs z == 0) (ltb-false (2 ^ 36) (unsigned_abs z) parts.0) (kept_small (n + 1) zs parts.1)
+kept_small n (z ∷ zs) e = let parts = neither_true (above (2 ^ 36) z) (list_any (above (2 ^ 36)) zs) e in
+    by (unsigned_abs z == 0) (ltb-false (2 ^ 36) (unsigned_abs z) parts.0) (kept_small (n + 1) zs parts.1)
   where
     cons : unsigned_abs z ≤ 2 ^ 36 → AreSmall (2 ^ 36) (kept (n + 1) zs) → AreSmall (2 ^ 36) ((n, z) ∷ kept (n + 1) zs)
     cons s f zero l = s
     cons s f (suc i) l = f i (omega arith)
 
-    by : (t : Bool) → unsigned_abs z ≤ 2 ^ 36 → AreSmall (2 ^ 36) (kept (n + 1) zs) → AreSmall (2 ^ 36) (cond (not t) ((n, z) ∷ kept (n + 1) zs) (kept (n + 1) zs))
+    by : (t : Bool) → unsigned_abs z ≤ 2 ^ 36 → AreSmall (2 ^ 36) (kept (n + 1) zs) →
+        AreSmall (2 ^ 36) (cond (not t) ((n, z) ∷ kept (n + 1) zs) (kept (n + 1) zs))
     by true s f = f
     by false s f = cons s f
 
@@ -90,7 +95,8 @@ kept_at n zero j (z ∷ zs) e l = let is : j ≡ n = omega arith in ap (coeffici
     by false f = let same = coefficient_same (n, z) (kept (n + 1) zs) in let rest = kept_before n zs in omega (arith, ints)
 kept_at n (suc k) j (z ∷ zs) e l = by (unsigned_abs z == 0) (kept_at (n + 1) k j zs (omega arith) (omega arith))
   where
-    by : (t : Bool) → coefficient (kept (n + 1) zs) j ≡ at zs k → coefficient (cond (not t) ((n, z) ∷ kept (n + 1) zs) (kept (n + 1) zs)) j ≡ at zs k
+    by : (t : Bool) → coefficient (kept (n + 1) zs) j ≡ at zs k → coefficient (cond (not t) ((n, z) ∷ kept (n + 1) zs) (kept (n + 1) zs)) j
+        ≡ at zs k
     by true f = f
     by false f = coefficient_other (n, z) (kept (n + 1) zs) j (λ (s : j ≡ n). absurd (omega arith)) ∙ f
 

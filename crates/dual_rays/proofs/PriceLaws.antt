@@ -1,5 +1,6 @@
 -- What the certificate of prices is.
-use Rattle.std.specs.Prelude.{◌≡◌, ℕ, zero, suc, ◌*◌, ◌/◌, ◌^◌, ◌<◌, ◌≤◌, nat_lt, Bool, true, false, if◌then◌else◌, List, [], ◌∷◌, length, map, None, Some, option_map, ℤ, pos, negsuc, ◌*ℤ◌, ◌≤ℤ◌, ◌<ℤ◌, unsigned_abs}
+use Rattle.std.specs.Prelude.{◌≡◌, ℕ, zero, suc, ◌*◌, ◌/◌, ◌^◌, ◌<◌, ◌≤◌, nat_lt, Bool, true, false, if◌then◌else◌, List, [], ◌∷◌, length,
+    map, None, Some, option_map, ℤ, pos, negsuc, ◌*ℤ◌, ◌≤ℤ◌, ◌<ℤ◌, unsigned_abs}
 use Rattle.std.specs.Int.{◌∣◌}
 use Rattle.std.specs.List.{list_any}
 use Rattle.std.proofs.Common.{arith, refl, ap, sym, ◌∙◌, subst}
@@ -37,7 +38,8 @@ pub record IsMade (q : ℕ) (zs : List ℤ) (c : Cert) : Type 0 where
 pub certificate-made : (q : ℕ) (zs : List ℤ) (c : Cert) → certificate_of q zs ≡ Some c → IsMade q zs c
 certificate-made q zs c e = by (nat_lt (2 ^ 36) q) (list_any (above (2 ^ 36)) zs) refl refl e
   where
-    by : (s t : Bool) → nat_lt (2 ^ 36) q ≡ s → list_any (above (2 ^ 36)) zs ≡ t → (if s then None else option_map (λ y. record { q = pos q; y = y }) (if t then None else Some (present zs))) ≡ Some c → IsMade q zs c
+    by : (s t : Bool) → nat_lt (2 ^ 36) q ≡ s → list_any (above (2 ^ 36)) zs ≡ t →
+        (if s then None else option_map (λ y. record { q = pos q; y = y }) (if t then None else Some (present zs))) ≡ Some c → IsMade q zs c
     by true t f g h = absurd cc
     by false true f g h = absurd cc
     by false false f g h =
@@ -69,26 +71,29 @@ multiple-value q p d =
     let e = pos (q / suc p.less) in
     let K = both 0 p.less in
     let is : pos q ≡ S p.less *ℤ e = ap pos (sym (mul-div_cancel' (suc p.less) d)) in
-    same (p.top *ℤ e) 0 (pos q *ℤ p.top) K
-    (combine whole (p.top ∷ e ∷ pos q ∷ S p.less ∷ S K ∷ [])
+    same (p.numerator *ℤ e) 0 (pos q *ℤ p.numerator) K
+    (combine whole (p.numerator ∷ e ∷ pos q ∷ S p.less ∷ S K ∷ [])
     ((var 0 ⊗ var 1, var 4, num (pos 1) ⊗ var 3) ∷ (minus (var 0), var 2, var 3 ⊗ var 1) ∷ [])
     ((var 0 ⊗ var 1) ⊗ var 4) ((var 2 ⊗ var 0) ⊗ num (pos 1)) refl
     (both-is 0 p.less, (is, tt)))
-    ∙ sym (mul-over (pos q) 0 p.top p.less) ∙ ap (mul (over (pos q) 0)) (over_parts p)
+    ∙ sym (mul-over (pos q) 0 p.numerator p.less) ∙ ap (mul (over (pos q) 0)) (over_parts p)
 
 -- the number k of a list
 pub value-at : (xs : List Fraction) (k : ℕ) → k < length xs → number_at (values xs) k ≡ numbers_of xs k
 value-at xs k l = get_or-map value_of xs k (record { num = pos 0; den = pos 1 }) (of (pos 0)) l
 
 pub denominator-at : (xs : List Fraction) (k : ℕ) → k < length xs → suc (numbers_of xs k).less ∣ common_denominator (values xs)
-denominator-at xs k l = subst (λ (p : Rational). suc p.less ∣ common_denominator (values xs)) (value-at xs k l) (denominator-divides (values xs) k (subst (λ n. k < n) (sym (length-map xs value_of)) l))
+denominator-at xs k l = subst (λ (p : Rational). suc p.less ∣ common_denominator (values xs)) (value-at xs k l)
+    (denominator-divides (values xs) k (subst (λ n. k < n) (sym (length-map xs value_of)) l))
 
 -- what makes a number whole is a multiple of its denominator
 pub whole-divides : (n : ℕ) (p : Rational) → 0 < n → IsWhole (mul (of (pos n)) p) → suc p.less ∣ n
 whole-divides n p positive (z, e) =
     let cross = whole_multiple_cross z p (pos n) (sym e) in
-    let sizes : unsigned_abs z * suc p.less ≡ unsigned_abs p.top * n = sym (unsigned_abs-mul z (pos (suc p.less))) ∙ ap unsigned_abs cross ∙ unsigned_abs-mul p.top (pos n) in
-    euclid (suc p.less) (unsigned_abs p.top) n positive p.lowest (subst (λ m. suc p.less ∣ m) sizes (dvd-mul_left (suc p.less) (unsigned_abs z)))
+    let sizes : unsigned_abs z * suc p.less ≡ unsigned_abs p.numerator * n = sym (unsigned_abs-mul z (pos (suc p.less)))
+            ∙ ap unsigned_abs cross ∙ unsigned_abs-mul p.numerator (pos n) in
+    euclid (suc p.less) (unsigned_abs p.numerator) n positive p.lowest (subst (λ m. suc p.less ∣ m) sizes
+        (dvd-mul_left (suc p.less) (unsigned_abs z)))
 
 -- what makes all numbers whole is a multiple of their least common denominator
 pub makes-whole : (xs : List Fraction) (n : ℕ) → 0 < n → MakesWhole xs (pos n) → common_denominator (values xs) ∣ n

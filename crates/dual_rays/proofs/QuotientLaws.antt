@@ -1,5 +1,6 @@
 -- Quotients of fractions that are wide, as those of their rational numbers.
-use Rattle.std.specs.Prelude.{◌≡◌, ◌≢◌, suc, ◌^◌, ◌≤◌, Bool, true, false, if◌then◌else◌, Option, Some, None, Err, ℤ, pos, ◌*ℤ◌, ◌<ℤ◌, int_div, unsigned_abs}
+use Rattle.std.specs.Prelude.{◌≡◌, ◌≢◌, suc, ◌^◌, ◌≤◌, Bool, true, false, if◌then◌else◌, Option, Some, None, Err, ℤ, pos, ◌*ℤ◌, ◌<ℤ◌,
+    int_div, unsigned_abs}
 use Rattle.std.proofs.Common.{refl, ap, sym, ◌∙◌, subst, inl, inr}
 use borrow.Author.Tests.{ltb-false}
 use Rattle.frac128.specs.declared.fraction.Wide.{Wide}
@@ -19,7 +20,8 @@ within-none z e = by (in_range z) refl e
     by true f g = absurd cc
     by false f g = ltb-false (unsigned_abs z) (2 ^ 127) f
 
-wide-lowest : (n d : ℤ) (one : (rational n d).top ≡ n) (two : unsigned_abs d ≡ suc (rational n d).less) (w : Wide) → fraction_where (within n) (within d) ≡ Err w → IsWide (rational n d)
+wide-lowest : (n d : ℤ) (one : (rational n d).numerator ≡ n) (two : unsigned_abs d ≡ suc (rational n d).less) (w : Wide) →
+    fraction_where (within n) (within d) ≡ Err w → IsWide (rational n d)
 wide-lowest n d one two w e = by (within n) (within d) refl refl e
   where
     by : (s t : Option ℤ) → within n ≡ s → within d ≡ t → fraction_where s t ≡ Err w → IsWide (rational n d)
@@ -27,7 +29,8 @@ wide-lowest n d one two w e = by (within n) (within d) refl refl e
     by (Some m) None f g h = inr (subst (λ z. 2 ^ 127 ≤ z) two (within-none d g))
     by None t f g h = inl (subst (λ z. 2 ^ 127 ≤ unsigned_abs z) (sym one) (within-none n f))
 
-wide-product : (x y : Fraction) (w : Wide) → IsFraction x.num x.den → IsFraction y.num y.den → product_of x y ≡ Err w → IsWide (mul (value_of x) (value_of y))
+wide-product : (x y : Fraction) (w : Wide) → IsFraction x.num x.den → IsFraction y.num y.den → product_of x y ≡ Err w →
+    IsWide (mul (value_of x) (value_of y))
 unfolding product_of
 wide-product x y w p q e =
     let g = shared x.num y.den in
@@ -39,5 +42,7 @@ wide-product x y w p q e =
     let is = product_is x.num x.den y.num y.den n d p.positive q.positive positive (product-equal x.num x.den y.num y.den p q) in
     subst IsWide is (wide-lowest n d parts.0 (sym (ap unsigned_abs parts.1) ∙ size_of_S (rational n d).less) w e)
 
-pub wide-quotient : (x y : Fraction) (w : Wide) → IsFraction x.num x.den → IsFraction y.num y.den → y.num ≢ pos 0 → quotient_of x y ≡ Err w → IsWide (quotient (value_of x) (value_of y))
-wide-quotient x y w p q n e = subst (λ z. IsWide (mul (value_of x) z)) (reciprocal-value y q n) (wide-product x (reciprocal_of y) w p (reciprocal-proper y.num y.den q n) e)
+pub wide-quotient : (x y : Fraction) (w : Wide) → IsFraction x.num x.den → IsFraction y.num y.den → y.num ≢ pos 0 → quotient_of x y ≡ Err w
+    → IsWide (quotient (value_of x) (value_of y))
+wide-quotient x y w p q n e = subst (λ z. IsWide (mul (value_of x) z)) (reciprocal-value y q n)
+    (wide-product x (reciprocal_of y) w p (reciprocal-proper y.num y.den q n) e)

@@ -1,5 +1,6 @@
 -- How the certificate of a ray is found from the ray over the size of its first number that is not 0.
-use Rattle.std.specs.Prelude.{◌≡◌, ℕ, zero, suc, ◌+◌, ◌*◌, ◌/◌, ◌^◌, ◌<◌, ◌≤◌, nat_lt, Bool, true, false, if◌then◌else◌, List, [], ◌∷◌, length, map, filter, Option, None, Some, option_map, ℤ, pos, ◌*ℤ◌, int_div, unsigned_abs}
+use Rattle.std.specs.Prelude.{◌≡◌, ℕ, zero, suc, ◌+◌, ◌*◌, ◌/◌, ◌^◌, ◌<◌, ◌≤◌, nat_lt, Bool, true, false, if◌then◌else◌, List, [], ◌∷◌,
+    length, map, filter, Option, None, Some, option_map, ℤ, pos, ◌*ℤ◌, int_div, unsigned_abs}
 use Rattle.std.specs.Int.{◌∣◌}
 use Rattle.std.specs.List.{enumerate_from, list_any}
 use Rattle.std.proofs.Common.{arith, refl, ap, sym, ◌∙◌, subst, inl, inr}
@@ -21,9 +22,11 @@ use Rattle.dual_rays.proofs.FirstLaws.{IsFirst, first-is, first-none}
 use Rattle.dual_rays.proofs.UnitLaws.{primitive-unit, unit-multiple, positive_right}
 
 -- ---- nothing but zeros
-all_zeros : (g : ℕ) (f : Rational → ℤ) (ps : List Rational) → ((k : ℕ) → k < length ps → f (number_at ps k) ≡ pos 0) → map (λ z. int_div z (pos g)) (map f ps) ≡ map (λ p. pos 0) ps
+all_zeros : (g : ℕ) (f : Rational → ℤ) (ps : List Rational) → ((k : ℕ) → k < length ps → f (number_at ps k) ≡ pos 0) →
+    map (λ z. int_div z (pos g)) (map f ps) ≡ map (λ p. pos 0) ps
 all_zeros g f [] h = refl
-all_zeros g f (p ∷ ps) h = ap (λ z. z ∷ map (λ z. int_div z (pos g)) (map f ps)) (ap (λ z. int_div z (pos g)) (h 0 (omega arith)) ∙ none g) ∙ ap (λ zs. pos 0 ∷ zs) (all_zeros g f ps (λ k l. h (suc k) (omega arith)))
+all_zeros g f (p ∷ ps) h = ap (λ z. z ∷ map (λ z. int_div z (pos g)) (map f ps)) (ap (λ z. int_div z (pos g)) (h 0 (omega arith)) ∙ none g)
+    ∙ ap (λ zs. pos 0 ∷ zs) (all_zeros g f ps (λ k l. h (suc k) (omega arith)))
   where
     none : (g : ℕ) → int_div (pos 0) (pos g) ≡ pos 0
     none g = ap pos (zero-div g)
@@ -48,7 +51,9 @@ certificate_of_zeros ps =
 pub zero-ray : (xs : List Fraction) → first_size (values xs) ≡ None → Some (record { q = pos 0; y = [] }) ≡ certificate_of_ray xs
 zero-ray xs e =
     let ps = values xs in
-    let zeros = all_zeros (common_divisor (multiples ps)) (multiple (common_denominator ps)) ps (λ k l. let z = first-none ps k e l in let none : pos 0 *ℤ pos (common_denominator ps / suc (number_at ps k).less) ≡ pos 0 = omega (arith, ints) in ap (λ t. t *ℤ pos (common_denominator ps / suc (number_at ps k).less)) z ∙ none) in
+    let zeros = all_zeros (common_divisor (multiples ps)) (multiple (common_denominator ps)) ps (λ k l. let z = first-none ps k e l in
+            let none : pos 0 *ℤ pos (common_denominator ps / suc (number_at ps k).less) ≡ pos 0 = omega (arith, ints) in
+            ap (λ t. t *ℤ pos (common_denominator ps / suc (number_at ps k).less)) z ∙ none) in
     sym (ap (certificate_of 0) zeros ∙ certificate_of_zeros ps)
 
 -- ---- certificates without their divisor
@@ -56,17 +61,21 @@ abbrev pub without_divisor : Option Cert → Option Cert
 without_divisor o = option_map (λ c. record { q = pos 0; y = c.y }) o
 
 above_none : (q : ℕ) (zs : List ℤ) → list_any (above (2 ^ 36)) zs ≡ true → certificate_of q zs ≡ None
-above_none q zs e = ap (λ t. if nat_lt (2 ^ 36) q then None else option_map (certificate q) (if t then None else Some (present zs))) e ∙ by (nat_lt (2 ^ 36) q)
+above_none q zs e = ap (λ t. if nat_lt (2 ^ 36) q then None else option_map (certificate q) (if t then None else Some (present zs))) e
+    ∙ by (nat_lt (2 ^ 36) q)
   where
     by : (t : Bool) → (if t then None else option_map (certificate q) None) ≡ None
     by true = refl
     by false = refl
 
 -- a divisor that is a multiplier's size makes no difference
-same_divisor : (q : ℕ) (zs : List ℤ) (i : ℕ) → i < length zs → unsigned_abs (at zs i) ≡ q → without_divisor (certificate_of q zs) ≡ certificate_of 0 zs
+same_divisor : (q : ℕ) (zs : List ℤ) (i : ℕ) → i < length zs → unsigned_abs (at zs i) ≡ q →
+    without_divisor (certificate_of q zs) ≡ certificate_of 0 zs
 same_divisor q zs i l e = by (list_any (above (2 ^ 36)) zs) refl (nat_lt (2 ^ 36) q) refl
   where
-    by : (s : Bool) → list_any (above (2 ^ 36)) zs ≡ s → (t : Bool) → nat_lt (2 ^ 36) q ≡ t → without_divisor (if t then None else option_map (certificate q) (if s then None else Some (present zs))) ≡ (if nat_lt (2 ^ 36) 0 then None else option_map (certificate 0) (if s then None else Some (present zs)))
+    by : (s : Bool) → list_any (above (2 ^ 36)) zs ≡ s → (t : Bool) → nat_lt (2 ^ 36) q ≡ t →
+        without_divisor (if t then None else option_map (certificate q) (if s then None else Some (present zs)))
+        ≡ (if nat_lt (2 ^ 36) 0 then None else option_map (certificate 0) (if s then None else Some (present zs)))
     by true f true g = refl
     by true f false g = refl
     by false f false g = refl
@@ -99,7 +108,8 @@ module _ (xs : List Fraction) (s : Rational) (e : first_size (values xs) ≡ Som
   same_multiples = primitive-unit ps is_first.place is_first.within is_first.nonzero ∙ ap multiples quotients_same
 
   unit_size : unsigned_abs (at (multiples rs) is_first.place) ≡ q
-  unit_size = subst (λ zs. unsigned_abs (at (multiples zs) is_first.place) ≡ common_denominator zs) quotients_same (unit-multiple ps is_first.place is_first.within is_first.nonzero)
+  unit_size = subst (λ zs. unsigned_abs (at (multiples zs) is_first.place) ≡ common_denominator zs) quotients_same
+      (unit-multiple ps is_first.place is_first.within is_first.nonzero)
 
   inside : (k : ℕ) → k < length ps → k < length (multiples rs)
   inside k l = subst (λ j. k < j) (sym (length-map rs (multiple q) ∙ length-map ps (λ p. quotient p s))) l
@@ -124,10 +134,12 @@ module _ (xs : List Fraction) (s : Rational) (e : first_size (values xs) ≡ Som
       let b = suc (quotient (number_at ps k) s).less in
       positive_right b (q / b) q (mul-div_cancel' b (divides k l)) (denominator-positive rs)
 
-  multiple_size : (k : ℕ) → k < length ps → unsigned_abs (at (multiples rs) k) ≡ unsigned_abs (quotient (number_at ps k) s).top * (q / suc (quotient (number_at ps k) s).less)
+  multiple_size : (k : ℕ) → k < length ps → unsigned_abs (at (multiples rs) k)
+      ≡ unsigned_abs (quotient (number_at ps k) s).numerator * (q / suc (quotient (number_at ps k) s).less)
   multiple_size k l =
       let r = quotient (number_at ps k) s in
-      ap unsigned_abs (get_or-map (multiple q) rs k (of (pos 0)) (pos 0) (in_list k l) ∙ ap (multiple q) (number_is k l)) ∙ unsigned_abs-mul r.top (pos (q / suc r.less))
+      ap unsigned_abs (get_or-map (multiple q) rs k (of (pos 0)) (pos 0) (in_list k l) ∙ ap (multiple q) (number_is k l))
+          ∙ unsigned_abs-mul r.numerator (pos (q / suc r.less))
 
   -- a quotient that is wide makes a multiplier that passes the limit
   pub wide-ray : AreQuotients ps s None → None ≡ certificate_of_ray xs
@@ -135,6 +147,9 @@ module _ (xs : List Fraction) (s : Rational) (e : first_size (values xs) ≡ Som
     where
       by : IsWide (quotient (number_at ps k) s) → list_any (above (2 ^ 36)) (multiples rs) ≡ true
       by (inl w) = list_any_at (above (2 ^ 36)) (multiples rs) k (pos 0) (inside k l)
-          (lt-ltb (2 ^ 36) (unsigned_abs (at (multiples rs) k)) (let size = multiple_size k l in let grows = grows_by (unsigned_abs (quotient (number_at ps k) s).top) (q / suc (quotient (number_at ps k) s).less) (times_positive k l) in omega arith))
+          (lt-ltb (2 ^ 36) (unsigned_abs (at (multiples rs) k)) (let size = multiple_size k l in
+              let grows = grows_by (unsigned_abs (quotient (number_at ps k) s).numerator) (q / suc (quotient (number_at ps k) s).less)
+              (times_positive k l) in omega arith))
       by (inr w) = list_any_at (above (2 ^ 36)) (multiples rs) is_first.place (pos 0) (inside is_first.place is_first.within)
-          (lt-ltb (2 ^ 36) (unsigned_abs (at (multiples rs) is_first.place)) (let size = unit_size in let small = le_of_dvd (denominator-positive rs) (divides k l) in omega arith))
+          (lt-ltb (2 ^ 36) (unsigned_abs (at (multiples rs) is_first.place)) (let size = unit_size in
+              let small = le_of_dvd (denominator-positive rs) (divides k l) in omega arith))

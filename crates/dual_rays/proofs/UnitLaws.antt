@@ -1,5 +1,6 @@
 -- A ray over the size of one of its numbers: the multiples by the least common denominator have no common divisor.
-use Rattle.std.specs.Prelude.{◌≡◌, ◌≢◌, ℕ, zero, suc, ◌*◌, ◌/◌, ◌<◌, ◌≤◌, List, [], ◌∷◌, length, map, ℤ, pos, negsuc, neg_ℤ, ◌*ℤ◌, ◌<ℤ◌, ◌≤ℤ◌, unsigned_abs}
+use Rattle.std.specs.Prelude.{◌≡◌, ◌≢◌, ℕ, zero, suc, ◌*◌, ◌/◌, ◌<◌, ◌≤◌, List, [], ◌∷◌, length, map, ℤ, pos, negsuc, neg_ℤ, ◌*ℤ◌, ◌<ℤ◌,
+    ◌≤ℤ◌, unsigned_abs}
 use Rattle.std.specs.Int.{◌∣◌}
 use Rattle.std.proofs.Common.{arith, refl, ap, sym, ◌∙◌, subst}
 use Rattle.std.proofs.lemmas.Int.{ints, unsigned_abs-mul}
@@ -27,38 +28,42 @@ unfolding of S
 of-injective x y e = let c = crosswise x 0 y 0 e in omega (arith, ints)
 
 -- ---- absolute values
-turned : (p : Rational) → p.top <ℤ pos 0 → p ≡ neg (absolute p)
+turned : (p : Rational) → p.numerator <ℤ pos 0 → p ≡ neg (absolute p)
 turned p s = ring2 rationals (λ a b. a) (λ a b. minus (minus a)) refl p p ∙ ap neg (sym (absolute-down p s))
 
 -- the size of a number that is not 0 has an inverse
-size-inverse : (p : Rational) → p.top ≢ pos 0 → mul (absolute p) (inverse (absolute p)) ≡ of (pos 1)
-size-inverse p n = inverse-is (absolute p) (by (sign_of p.top))
+size-inverse : (p : Rational) → p.numerator ≢ pos 0 → mul (absolute p) (inverse (absolute p)) ≡ of (pos 1)
+size-inverse p n = inverse-is (absolute p) (by (sign_of p.numerator))
   where
-    by : Sign p.top → absolute p ≢ of (pos 0)
+    by : Sign p.numerator → absolute p ≢ of (pos 0)
     by (up s) = λ e. nonzero p n (sym (absolute-up p (omega (arith, ints))) ∙ e)
     by (none s) = absurd (n s)
     by (down s) = λ e. nonzero p n (turned p s ∙ ap neg e ∙ identity rationals [] (minus (num (pos 0))) (num (pos 0)) refl)
 
-one_top : ((of (pos 1)).top ≡ pos 1) × ((of (pos 1)).less ≡ 0)
+one_top : ((of (pos 1)).numerator ≡ pos 1) × ((of (pos 1)).less ≡ 0)
 unfolding of over gcd
 one_top = (refl, refl)
 
-minus_one_top : ((of (negsuc 0)).top ≡ negsuc 0) × ((of (negsuc 0)).less ≡ 0)
+minus_one_top : ((of (negsuc 0)).numerator ≡ negsuc 0) × ((of (negsuc 0)).less ≡ 0)
 unfolding of over gcd
 minus_one_top = (refl, refl)
 
 -- a number over its own size is 1 or -1
-unit : (p : Rational) → p.top ≢ pos 0 → (unsigned_abs (quotient p (absolute p)).top ≡ 1) × ((quotient p (absolute p)).less ≡ 0)
-unit p n = by (sign_of p.top)
+unit : (p : Rational) → p.numerator ≢ pos 0 → (unsigned_abs (quotient p (absolute p)).numerator ≡ 1) × ((quotient p (absolute p)).less ≡ 0)
+unit p n = by (sign_of p.numerator)
   where
-    by : Sign p.top → (unsigned_abs (quotient p (absolute p)).top ≡ 1) × ((quotient p (absolute p)).less ≡ 0)
+    by : Sign p.numerator → (unsigned_abs (quotient p (absolute p)).numerator ≡ 1) × ((quotient p (absolute p)).less ≡ 0)
     by (none s) = absurd (n s)
     by (up s) =
-        let is : quotient p (absolute p) ≡ of (pos 1) = ap (λ z. mul z (inverse (absolute p))) (sym (absolute-up p (omega (arith, ints)))) ∙ size-inverse p n in
-        (ap (λ (z : Rational). unsigned_abs z.top) is ∙ ap unsigned_abs one_top.0, ap (λ (z : Rational). z.less) is ∙ one_top.1)
+        let is : quotient p (absolute p) ≡ of (pos 1) = ap (λ z. mul z (inverse (absolute p))) (sym (absolute-up p (omega (arith, ints))))
+                ∙ size-inverse p n in
+        (ap (λ (z : Rational). unsigned_abs z.numerator) is ∙ ap unsigned_abs one_top.0, ap (λ (z : Rational). z.less) is ∙ one_top.1)
     by (down s) =
-        let is : quotient p (absolute p) ≡ of (negsuc 0) = ap (λ z. mul z (inverse (absolute p))) (turned p s) ∙ ring2 rationals (λ a b. minus a ⊗ b) (λ a b. minus (a ⊗ b)) refl (absolute p) (inverse (absolute p)) ∙ ap neg (size-inverse p n) ∙ sym (of_neg (pos 1)) in
-        (ap (λ (z : Rational). unsigned_abs z.top) is ∙ ap unsigned_abs minus_one_top.0, ap (λ (z : Rational). z.less) is ∙ minus_one_top.1)
+        let is : quotient p (absolute p) ≡ of (negsuc 0) = ap (λ z. mul z (inverse (absolute p))) (turned p s)
+                ∙ ring2 rationals (λ a b. minus a ⊗ b) (λ a b. minus (a ⊗ b)) refl (absolute p) (inverse (absolute p))
+                ∙ ap neg (size-inverse p n) ∙ sym (of_neg (pos 1)) in
+        (ap (λ (z : Rational). unsigned_abs z.numerator) is ∙ ap unsigned_abs minus_one_top.0, ap (λ (z : Rational). z.less) is
+            ∙ minus_one_top.1)
 
 up_size : (t : ℤ) (e : ℕ) → pos 0 ≤ℤ t → pos (unsigned_abs (t *ℤ pos e)) ≡ t *ℤ pos e
 up_size (pos n) e h = refl
@@ -70,23 +75,29 @@ down_size (negsuc n) e h = omega (arith, ints)
 
 -- the size of a multiple is the multiple of the size
 size-multiple : (q : ℕ) (p : Rational) → suc p.less ∣ q → of (pos (unsigned_abs (multiple q p))) ≡ mul (of (pos q)) (absolute p)
-size-multiple q p d = by (sign_of p.top)
+size-multiple q p d = by (sign_of p.numerator)
   where
-    by : Sign p.top → of (pos (unsigned_abs (p.top *ℤ pos (q / suc p.less)))) ≡ mul (of (pos q)) (absolute p)
-    by (up s) = ap of (up_size p.top (q / suc p.less) (omega (arith, ints))) ∙ multiple-value q p d ∙ ap (mul (of (pos q))) (sym (absolute-up p (omega (arith, ints))))
-    by (none s) = ap of (up_size p.top (q / suc p.less) (omega (arith, ints))) ∙ multiple-value q p d ∙ ap (mul (of (pos q))) (sym (absolute-up p (omega (arith, ints))))
-    by (down s) = ap of (down_size p.top (q / suc p.less) s) ∙ of_neg (multiple q p) ∙ ap neg (multiple-value q p d) ∙ ring2 rationals (λ a b. minus (a ⊗ b)) (λ a b. a ⊗ minus b) refl (of (pos q)) p ∙ ap (mul (of (pos q))) (sym (absolute-down p s))
+    by : Sign p.numerator → of (pos (unsigned_abs (p.numerator *ℤ pos (q / suc p.less)))) ≡ mul (of (pos q)) (absolute p)
+    by (up s) = ap of (up_size p.numerator (q / suc p.less) (omega (arith, ints))) ∙ multiple-value q p d
+        ∙ ap (mul (of (pos q))) (sym (absolute-up p (omega (arith, ints))))
+    by (none s) = ap of (up_size p.numerator (q / suc p.less) (omega (arith, ints))) ∙ multiple-value q p d
+        ∙ ap (mul (of (pos q))) (sym (absolute-up p (omega (arith, ints))))
+    by (down s) = ap of (down_size p.numerator (q / suc p.less) s) ∙ of_neg (multiple q p) ∙ ap neg (multiple-value q p d)
+        ∙ ring2 rationals (λ a b. minus (a ⊗ b)) (λ a b. a ⊗ minus b) refl (of (pos q)) p ∙ ap (mul (of (pos q))) (sym (absolute-down p s))
 
 -- ---- proportion
-map_same : (f f' : ℤ → ℤ) (g g' : Rational → ℤ) (h : Rational → Rational) (ps : List Rational) → ((k : ℕ) → k < length ps → f (g (h (number_at ps k))) ≡ f' (g' (number_at ps k))) → map f (map g (map h ps)) ≡ map f' (map g' ps)
+map_same : (f f' : ℤ → ℤ) (g g' : Rational → ℤ) (h : Rational → Rational) (ps : List Rational) →
+    ((k : ℕ) → k < length ps → f (g (h (number_at ps k))) ≡ f' (g' (number_at ps k))) → map f (map g (map h ps)) ≡ map f' (map g' ps)
 map_same f f' g g' h [] e = refl
-map_same f f' g g' h (p ∷ ps) e = ap (λ z. z ∷ map f (map g (map h ps))) (e 0 (omega arith)) ∙ ap (λ zs. f' (g' p) ∷ zs) (map_same f f' g g' h ps (λ k l. e (suc k) (omega arith)))
+map_same f f' g g' h (p ∷ ps) e = ap (λ z. z ∷ map f (map g (map h ps))) (e 0 (omega arith))
+    ∙ ap (λ zs. f' (g' p) ∷ zs) (map_same f f' g g' h ps (λ k l. e (suc k) (omega arith)))
 
 -- what divides two numbers with a common factor, and is prime to what is left of them, divides the factor
 common_factor : (d t b e : ℕ) → gcd t b ≡ 1 → 0 < e → d ∣ t * e → d ∣ b * e → d ∣ e
 common_factor d t b e one positive first second =
     let all : gcd (e * t) (e * b) ≡ e = gcd-mul e t b positive ∙ ap (λ n. e * n) one ∙ omega arith in
-    subst (λ n. d ∣ n) all ((gcd-is (e * t) (e * b)).2 d (subst (λ n. d ∣ n) (mul_comm t e) first) (subst (λ n. d ∣ n) (mul_comm b e) second))
+    subst (λ n. d ∣ n) all ((gcd-is (e * t) (e * b)).2 d (subst (λ n. d ∣ n) (mul_comm t e) first)
+        (subst (λ n. d ∣ n) (mul_comm b e) second))
 
 quotient_one : (d q m : ℕ) → 0 < q → d * m ≡ q → q ≤ m → d ≡ 1
 quotient_one zero q m p e l = absurd (omega arith)
@@ -107,7 +118,7 @@ size_positive (pos zero) n = absurd (n refl)
 size_positive (pos (suc m)) n = omega (arith, ints)
 size_positive (negsuc m) n = omega (arith, ints)
 
-module _ (ps : List Rational) (i : ℕ) (l : i < length ps) (n : (number_at ps i).top ≢ pos 0) where
+module _ (ps : List Rational) (i : ℕ) (l : i < length ps) (n : (number_at ps i).numerator ≢ pos 0) where
   abbrev s : Rational
   s = absolute (number_at ps i)
 
@@ -132,7 +143,8 @@ module _ (ps : List Rational) (i : ℕ) (l : i < length ps) (n : (number_at ps i
   w_is : of (pos w) ≡ mul (of (pos (common_denominator ps))) s
   w_is = size-multiple (common_denominator ps) (number_at ps i) (denominator-divides ps i l)
 
-  in_proportion : (k : ℕ) → k < length ps → pos w *ℤ multiple q (quotient (number_at ps k) s) ≡ pos q *ℤ multiple (common_denominator ps) (number_at ps k)
+  in_proportion : (k : ℕ) → k < length ps → pos w *ℤ multiple q (quotient (number_at ps k) s)
+      ≡ pos q *ℤ multiple (common_denominator ps) (number_at ps k)
   in_proportion k m =
       let p = number_at ps k in
       let Q = common_denominator ps in
@@ -151,7 +163,8 @@ module _ (ps : List Rational) (i : ℕ) (l : i < length ps) (n : (number_at ps i
       let r = quotient (number_at ps i) s in
       let one = unit (number_at ps i) n in
       ap unsigned_abs (get_or-map (multiple q) rs i (of (pos 0)) (pos 0) (inside i l) ∙ ap (multiple q) (number_is i l))
-      ∙ unsigned_abs-mul r.top (pos (q / suc r.less)) ∙ ap (λ z. z * (q / suc r.less)) one.0 ∙ ap (λ z. 1 * (q / suc z)) one.1 ∙ ap (λ z. 1 * z) (div-one q) ∙ omega arith
+      ∙ unsigned_abs-mul r.numerator (pos (q / suc r.less)) ∙ ap (λ z. z * (q / suc r.less)) one.0 ∙ ap (λ z. 1 * (q / suc z)) one.1
+          ∙ ap (λ z. 1 * z) (div-one q) ∙ omega arith
 
   abbrev d : ℕ
   d = common_divisor (multiples rs)
@@ -171,10 +184,13 @@ module _ (ps : List Rational) (i : ℕ) (l : i < length ps) (n : (number_at ps i
       let b = suc p.less in
       let e = q / b in
       let product : b * e ≡ q = mul-div_cancel' b (denominator-divides rs k m) in
-      let size : unsigned_abs (at (multiples rs) k) ≡ unsigned_abs p.top * e = ap unsigned_abs (get_or-map (multiple q) rs k (of (pos 0)) (pos 0) m) ∙ unsigned_abs-mul p.top (pos e) in
-      let first : d ∣ unsigned_abs p.top * e = subst (λ z. d ∣ z) size (divisor-divides (multiples rs) k (within k m)) in
-      let factor : d ∣ e = common_factor d (unsigned_abs p.top) b e p.lowest (positive_right b e q product (denominator-positive rs)) first (subst (λ z. d ∣ z) (sym product) d_divides) in
-      let products : d * b ∣ d * (q / d) = subst (λ z. z ∣ d * (q / d)) (mul_comm b d) (subst (λ z. b * d ∣ z) (product ∙ sym q_is) (mul-dvd-mul_left d b factor)) in
+      let size : unsigned_abs (at (multiples rs) k) ≡ unsigned_abs p.numerator * e =
+              ap unsigned_abs (get_or-map (multiple q) rs k (of (pos 0)) (pos 0) m) ∙ unsigned_abs-mul p.numerator (pos e) in
+      let first : d ∣ unsigned_abs p.numerator * e = subst (λ z. d ∣ z) size (divisor-divides (multiples rs) k (within k m)) in
+      let factor : d ∣ e = common_factor d (unsigned_abs p.numerator) b e p.lowest (positive_right b e q product (denominator-positive rs))
+              first (subst (λ z. d ∣ z) (sym product) d_divides) in
+      let products : d * b ∣ d * (q / d) = subst (λ z. z ∣ d * (q / d)) (mul_comm b d) (subst (λ z. b * d ∣ z) (product
+              ∙ sym q_is) (mul-dvd-mul_left d b factor)) in
       dvd_of_mul-dvd-mul_left b (pos_of_dvd_of_pos d_divides (denominator-positive rs)) products
 
   lowest : d ≡ 1
@@ -186,10 +202,13 @@ module _ (ps : List Rational) (i : ℕ) (l : i < length ps) (n : (number_at ps i
       let p = number_at ps i in
       let Q = common_denominator ps in
       let e = Q / suc p.less in
-      let right : 0 < e = positive_right (suc p.less) e Q (mul-div_cancel' (suc p.less) (denominator-divides ps i l)) (denominator-positive ps) in
-      subst (λ z. 0 < z) (sym (unsigned_abs-mul p.top (pos e))) (positive_both (unsigned_abs p.top) e (size_positive p.top n) right)
+      let right : 0 < e = positive_right (suc p.less) e Q (mul-div_cancel' (suc p.less) (denominator-divides ps i l))
+              (denominator-positive ps) in
+      subst (λ z. 0 < z) (sym (unsigned_abs-mul p.numerator (pos e))) (positive_both (unsigned_abs p.numerator) e
+          (size_positive p.numerator n) right)
 
   -- the least whole multiple of a ray is that of its numbers over the size of one of them
   pub primitive-unit : primitive (multiples ps) ≡ multiples rs
   primitive-unit = primitive-same w q (multiples ps) (multiples rs) w_positive (denominator-positive rs)
-      (map_same (λ z. pos w *ℤ z) (λ z. pos q *ℤ z) (multiple q) (multiple (common_denominator ps)) (λ p. quotient p s) ps in_proportion) lowest
+      (map_same (λ z. pos w *ℤ z) (λ z. pos q *ℤ z) (multiple q) (multiple (common_denominator ps)) (λ p. quotient p s) ps in_proportion)
+          lowest

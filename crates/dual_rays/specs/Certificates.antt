@@ -1,5 +1,6 @@
 -- The certificates of prices and of rays: which they are, and that they are none where a number passes the limit of certificates.
-use Rattle.std.specs.Prelude.{ℕ, ◌^◌, ◌==◌, nat_lt, Bool, not, if◌then◌else◌, List, map, filter, Option, None, Some, option_map, ℤ, pos, unsigned_abs}
+use Rattle.std.specs.Prelude.{ℕ, ◌^◌, ◌==◌, nat_lt, Bool, not, if◌then◌else◌, List, map, filter, Option, None, Some, option_map, ℤ, pos,
+    unsigned_abs}
 use Rattle.std.specs.List.{enumerate_from, list_any}
 use Rattle.ip_defs.specs.Limits.{above}
 use Rattle.ip_defs.specs.declared.certificates.Cert.{Cert}

@@ -37,16 +37,18 @@ IsPresent xs = (k : ℕ) × (k < length xs) × (numbers_of xs k ≢ of (pos 0))
 pub record IsOfRay (xs : List Fraction) (c : Cert) : Type 0 where
   pub certificate : IsCert (length xs) c
   pub zero : c.q ≡ pos 0
-  pub multipliers : (a : Rational) × (pos 0 <ℤ a.top) × AreMultiples c (length xs) a (numbers_of xs)
+  pub multipliers : (a : Rational) × (pos 0 <ℤ a.numerator) × AreMultiples c (length xs) a (numbers_of xs)
   pub lowest : (n : ℕ) → IsPresent xs → ((k : ℕ) → k < length xs → n ∣ unsigned_abs (coefficient c.y k)) → n ≡ 1
 
 -- where no column of a box is empty, a certificate bounds by the dual value of the prices, rounded up
 abbrev pub BoundsByPrices : List Fraction → Cert → Type 0
-BoundsByPrices xs c = (m : Parts) (b : List (ℤ × ℤ)) (g : Rational) → length m.rows ≡ length xs → length b ≡ length m.columns → IsOpen b → dual m b (of (pos 1)) (numbers_of xs) ≡ Some g → leaf_bound m b c ≡ At (rounded_up g)
+BoundsByPrices xs c = (m : Parts) (b : List (ℤ × ℤ)) (g : Rational) → length m.rows ≡ length xs → length b ≡ length m.columns → IsOpen b →
+    dual m b (of (pos 1)) (numbers_of xs) ≡ Some g → leaf_bound m b c ≡ At (rounded_up g)
 
 -- a certificate leaves no point where the dual value of the ray is positive
 abbrev pub BoundsByRay : List Fraction → Cert → Type 0
-BoundsByRay xs c = (m : Parts) (b : List (ℤ × ℤ)) (g : Rational) → length m.rows ≡ length xs → length b ≡ length m.columns → dual m b (of (pos 0)) (numbers_of xs) ≡ Some g → pos 0 <ℤ g.top → leaf_bound m b c ≡ Infinite
+BoundsByRay xs c = (m : Parts) (b : List (ℤ × ℤ)) (g : Rational) → length m.rows ≡ length xs → length b ≡ length m.columns →
+    dual m b (of (pos 0)) (numbers_of xs) ≡ Some g → pos 0 <ℤ g.numerator → leaf_bound m b c ≡ Infinite
 
 -- no certificate within the limits has multipliers that are its positive q times the prices
 abbrev pub HasNoCertificate : List Fraction → Type 0
@@ -54,4 +56,4 @@ HasNoCertificate xs = (c : Cert) → IsCert (length xs) c → pos 0 <ℤ c.q →
 
 -- no certificate within the limits has multipliers that are a positive multiple of the ray
 abbrev pub HasNoRay : List Fraction → Type 0
-HasNoRay xs = (c : Cert) (a : Rational) → IsCert (length xs) c → pos 0 <ℤ a.top → ¬ AreMultiples c (length xs) a (numbers_of xs)
+HasNoRay xs = (c : Cert) (a : Rational) → IsCert (length xs) c → pos 0 <ℤ a.numerator → ¬ AreMultiples c (length xs) a (numbers_of xs)

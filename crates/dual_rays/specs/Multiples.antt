@@ -14,7 +14,7 @@ common_denominator (p ∷ ps) = lcm (suc p.less) (common_denominator ps)
 
 -- q times a number, for a multiple q of its denominator
 abbrev pub multiple : ℕ → Rational → ℤ
-multiple q p = p.top *ℤ pos (q / suc p.less)
+multiple q p = p.numerator *ℤ pos (q / suc p.less)
 
 -- the numbers times their least common denominator
 abbrev pub multiples : List Rational → List ℤ

@@ -17,7 +17,8 @@ low-zero n zero h = omega arith
 low-zero n (suc k) h =
     let here : n / 2 ^ k % 2 ≡ 0 = h k (omega arith) in
     let below : n % 2 ^ k ≡ 0 = low-zero n k (λ i l. h i (omega arith)) in
-    ap (λ z. n % 2 ^ z) (omega arith) ∙ mod-pow-add n 1 k ∙ ap (λ z. z * 2 ^ k + n % 2 ^ k) here ∙ ap (λ z. 0 * 2 ^ k + z) below ∙ omega arith
+    ap (λ z. n % 2 ^ z) (omega arith) ∙ mod-pow-add n 1 k ∙ ap (λ z. z * 2 ^ k + n % 2 ^ k) here ∙ ap (λ z. 0 * 2 ^ k + z) below
+        ∙ omega arith
 
 -- the twos that are shifted out are all
 pub odd-times : (w : Width) (n : ℕ) → 0 < n → n < 2 ^ bits w → (n / 2 ^ trailing_zeros w n) * 2 ^ trailing_zeros w n ≡ n
@@ -59,7 +60,8 @@ min-odd x y p q = ⊎_elim
     (λ l. let is : min x y ≡ y = omega arith in ap (λ z. z % 2) is ∙ q) (cases_lt x y)
 
 -- one step keeps the greatest common divisor of odd numbers
-pub gcd-step : (w : Width) (x y : ℕ) → x ≢ y → x < 2 ^ bits w → y < 2 ^ bits w → x % 2 ≡ 1 → y % 2 ≡ 1 → gcd (abs_diff x y / 2 ^ trailing_zeros w (abs_diff x y)) (min x y) ≡ gcd x y
+pub gcd-step : (w : Width) (x y : ℕ) → x ≢ y → x < 2 ^ bits w → y < 2 ^ bits w → x % 2 ≡ 1 → y % 2 ≡ 1 →
+    gcd (abs_diff x y / 2 ^ trailing_zeros w (abs_diff x y)) (min x y) ≡ gcd x y
 gcd-step w x y h a b p q =
     let gap = abs_diff x y in
     let k = trailing_zeros w gap in
@@ -83,7 +85,8 @@ common-twos i j m n l odd =
 pub gcd-twos : (i j m n : ℕ) → m % 2 ≡ 1 → n % 2 ≡ 1 → gcd (m * 2 ^ i) (n * 2 ^ j) ≡ gcd m n * 2 ^ min i j
 gcd-twos i j m n p q = ⊎_elim
     (λ l. let is : i ≡ min i j = omega arith in common-twos i j m n (omega arith) p ∙ ap (λ z. gcd m n * 2 ^ z) is)
-    (λ l. let is : j ≡ min i j = omega arith in gcd_comm (m * 2 ^ i) (n * 2 ^ j) ∙ common-twos j i n m (omega arith) q ∙ ap (λ z. z * 2 ^ j) (gcd_comm n m) ∙ ap (λ z. gcd m n * 2 ^ z) is) (cases_lt i j)
+    (λ l. let is : j ≡ min i j = omega arith in gcd_comm (m * 2 ^ i) (n * 2 ^ j) ∙ common-twos j i n m (omega arith) q
+        ∙ ap (λ z. z * 2 ^ j) (gcd_comm n m) ∙ ap (λ z. gcd m n * 2 ^ z) is) (cases_lt i j)
 
 -- of two numbers: that of their odd parts, times the twos of both
 pub shifted-twos : (w : Width) (a b : ℕ) → 0 < a → 0 < b → a < 2 ^ bits w → b < 2 ^ bits w →
@@ -91,4 +94,5 @@ pub shifted-twos : (w : Width) (a b : ℕ) → 0 < a → 0 < b → a < 2 ^ bits 
 shifted-twos w a b p q l m =
     let i = trailing_zeros w a in
     let j = trailing_zeros w b in
-    sym (gcd-twos i j (a / 2 ^ i) (b / 2 ^ j) (odd-part w a p l) (odd-part w b q m)) ∙ ap (λ z. gcd z (b / 2 ^ j * 2 ^ j)) (odd-times w a p l) ∙ ap (gcd a) (odd-times w b q m)
+    sym (gcd-twos i j (a / 2 ^ i) (b / 2 ^ j) (odd-part w a p l) (odd-part w b q m))
+        ∙ ap (λ z. gcd z (b / 2 ^ j * 2 ^ j)) (odd-times w a p l) ∙ ap (gcd a) (odd-times w b q m)

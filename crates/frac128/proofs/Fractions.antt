@@ -7,7 +7,8 @@ use Rattle.frac128.specs.Gcd.{gcd}
 use Rattle.ring_laws.proofs.Rings.{whole}
 use Rattle.ring_laws.proofs.Normal.{num, var, ◌⊕◌, ◌⊖◌, ◌⊗◌, minus, combine}
 unfoldable pub use Rattle.frac128.specs.Rationals.{rational}
-use Rattle.frac128.proofs.Rationals.{S, bottom, over, over-is, same, unique, both, both-is, made, add, sub, mul, add-over, sub-over, mul-over, cancel}
+use Rattle.frac128.proofs.Rationals.{S, denominator, over, over-is, same, unique, both, both-is, made, add, sub, mul, add-over, sub-over,
+    mul-over, cancel}
 
 -- a positive denominator from its less by one
 pub S-of : (d : ℤ) → pos 0 <ℤ d → S (unsigned_abs d - 1) ≡ d
@@ -32,7 +33,8 @@ module _ (a b c d n e : ℤ) (p : pos 0 <ℤ b) (q : pos 0 <ℤ d) (r : pos 0 <�
   sum_is h = sym (add-over a x c y ∙ same (a *ℤ S y +ℤ c *ℤ S x) (both x y) n z
       (combine whole (a ∷ b ∷ c ∷ d ∷ n ∷ e ∷ S x ∷ S y ∷ S z ∷ S (both x y) ∷ [])
       ((num (pos 0) ⊖ num (pos 1), var 4 ⊗ (var 1 ⊗ var 3), (var 0 ⊗ var 3 ⊕ var 2 ⊗ var 1) ⊗ var 5)
-      ∷ (var 0 ⊗ var 7 ⊕ var 2 ⊗ var 6, var 8, var 5) ∷ (var 0 ⊗ var 5 ⊖ var 4 ⊗ var 6, var 7, var 3) ∷ (var 2 ⊗ var 5 ⊖ var 4 ⊗ var 3, var 6, var 1) ∷ (minus (var 4), var 9, var 6 ⊗ var 7) ∷ [])
+      ∷ (var 0 ⊗ var 7 ⊕ var 2 ⊗ var 6, var 8, var 5) ∷ (var 0 ⊗ var 5 ⊖ var 4 ⊗ var 6, var 7, var 3) ∷ (var 2 ⊗ var 5 ⊖ var 4 ⊗ var 3,
+          var 6, var 1) ∷ (minus (var 4), var 9, var 6 ⊗ var 7) ∷ [])
       ((var 0 ⊗ var 7 ⊕ var 2 ⊗ var 6) ⊗ var 8) (var 4 ⊗ var 9) refl
       (h, (S-of e r, (S-of d q, (S-of b p, (both-is x y, tt)))))))
 
@@ -42,7 +44,8 @@ module _ (a b c d n e : ℤ) (p : pos 0 <ℤ b) (q : pos 0 <ℤ d) (r : pos 0 <�
   product_is h = sym (mul-over a x c y ∙ same (a *ℤ c) (both x y) n z
       (combine whole (a ∷ b ∷ c ∷ d ∷ n ∷ e ∷ S x ∷ S y ∷ S z ∷ S (both x y) ∷ [])
       ((num (pos 0) ⊖ num (pos 1), var 4 ⊗ (var 1 ⊗ var 3), (var 0 ⊗ var 2) ⊗ var 5)
-      ∷ (var 0 ⊗ var 2, var 8, var 5) ∷ (minus (var 4 ⊗ var 6), var 7, var 3) ∷ (minus (var 4 ⊗ var 3), var 6, var 1) ∷ (minus (var 4), var 9, var 6 ⊗ var 7) ∷ [])
+      ∷ (var 0 ⊗ var 2, var 8, var 5) ∷ (minus (var 4 ⊗ var 6), var 7, var 3) ∷ (minus (var 4 ⊗ var 3), var 6, var 1) ∷ (minus (var 4),
+          var 9, var 6 ⊗ var 7) ∷ [])
       ((var 0 ⊗ var 2) ⊗ var 8) (var 4 ⊗ var 9) refl
       (h, (S-of e r, (S-of d q, (S-of b p, (both-is x y, tt)))))))
 
@@ -52,19 +55,21 @@ module _ (a b c d n e : ℤ) (p : pos 0 <ℤ b) (q : pos 0 <ℤ d) (r : pos 0 <�
   difference_is h = sym (sub-over a x c y ∙ same (a *ℤ S y -ℤ c *ℤ S x) (both x y) n z
       (combine whole (a ∷ b ∷ c ∷ d ∷ n ∷ e ∷ S x ∷ S y ∷ S z ∷ S (both x y) ∷ [])
       ((num (pos 0) ⊖ num (pos 1), var 4 ⊗ (var 1 ⊗ var 3), (var 0 ⊗ var 3 ⊖ var 2 ⊗ var 1) ⊗ var 5)
-      ∷ (var 0 ⊗ var 7 ⊖ var 2 ⊗ var 6, var 8, var 5) ∷ (var 0 ⊗ var 5 ⊖ var 4 ⊗ var 6, var 7, var 3) ∷ (minus (var 2 ⊗ var 5) ⊖ var 4 ⊗ var 3, var 6, var 1) ∷ (minus (var 4), var 9, var 6 ⊗ var 7) ∷ [])
+      ∷ (var 0 ⊗ var 7 ⊖ var 2 ⊗ var 6, var 8, var 5) ∷ (var 0 ⊗ var 5 ⊖ var 4 ⊗ var 6, var 7,
+          var 3) ∷ (minus (var 2 ⊗ var 5) ⊖ var 4 ⊗ var 3, var 6, var 1) ∷ (minus (var 4), var 9, var 6 ⊗ var 7) ∷ [])
       ((var 0 ⊗ var 7 ⊖ var 2 ⊗ var 6) ⊗ var 8) (var 4 ⊗ var 9) refl
       (h, (S-of e r, (S-of d q, (S-of b p, (both-is x y, tt)))))))
 
 -- a fraction in lowest terms is its rational number's parts
-pub lowest-is : (n d : ℤ) → pos 0 <ℤ d → gcd (unsigned_abs n) (unsigned_abs d) ≡ 1 → ((rational n d).top ≡ n) × (bottom (rational n d) ≡ d)
+pub lowest-is : (n d : ℤ) → pos 0 <ℤ d → gcd (unsigned_abs n) (unsigned_abs d) ≡ 1 → ((rational n d).numerator ≡ n)
+    × (denominator (rational n d) ≡ d)
 unfolding rational
 lowest-is n d p one =
     let c = unsigned_abs d - 1 in
     let e : suc c ≡ unsigned_abs d = by d p in
     let lowest : gcd (unsigned_abs n) (suc c) ≡ 1 = ap (gcd (unsigned_abs n)) e ∙ one in
     let is : over n c ≡ made n c lowest = unique (over n c) (made n c lowest) (over-is n c) in
-    (ap (λ z. z.top) is, ap bottom is ∙ S-of d p)
+    (ap (λ z. z.numerator) is, ap denominator is ∙ S-of d p)
   where
     by : (d : ℤ) → pos 0 <ℤ d → suc (unsigned_abs d - 1) ≡ unsigned_abs d
     by (pos zero) p = absurd (omega (arith, ints))
@@ -92,10 +97,11 @@ pub crosswise : (a : ℤ) (c : ℕ) (b : ℤ) (d : ℕ) → over a c ≡ over b 
 crosswise a c b d e =
     let r = over a c in
     let s = over b d in
-    let tops : r.top ≡ s.top = ap (λ z. z.top) e in
-    let bottoms : bottom r ≡ bottom s = ap bottom e in
+    let tops : r.numerator ≡ s.numerator = ap (λ z. z.numerator) e in
+    let bottoms : denominator r ≡ denominator s = ap denominator e in
     cancel r.less (a *ℤ S d) (b *ℤ S c)
-    (combine whole (r.top ∷ bottom r ∷ s.top ∷ bottom s ∷ a ∷ S c ∷ b ∷ S d ∷ [])
-    ((minus (var 7), var 0 ⊗ var 5, var 4 ⊗ var 1) ∷ (var 5, var 2 ⊗ var 7, var 6 ⊗ var 3) ∷ (var 5 ⊗ var 7, var 0, var 2) ∷ (minus (var 6 ⊗ var 5), var 1, var 3) ∷ [])
+    (combine whole (r.numerator ∷ denominator r ∷ s.numerator ∷ denominator s ∷ a ∷ S c ∷ b ∷ S d ∷ [])
+    ((minus (var 7), var 0 ⊗ var 5, var 4 ⊗ var 1) ∷ (var 5, var 2 ⊗ var 7, var 6 ⊗ var 3) ∷ (var 5 ⊗ var 7, var 0,
+        var 2) ∷ (minus (var 6 ⊗ var 5), var 1, var 3) ∷ [])
     (var 1 ⊗ (var 4 ⊗ var 7)) (var 1 ⊗ (var 6 ⊗ var 5)) refl
     (over-is a c, (over-is b d, (tops, (bottoms, tt)))))

@@ -1,5 +1,6 @@
 -- What a sum of fractions can have in common with its denominator divides the common part of the denominators.
-use Rattle.std.specs.Prelude.{◌≡◌, ℕ, suc, ◌*◌, ◌/◌, ◌%◌, ◌<◌, ◌≤◌, ◌^◌, Bool, true, false, if◌then◌else◌, Some, None, Ok, ℤ, pos, negsuc, neg_ℤ, ◌+ℤ◌, ◌-ℤ◌, ◌*ℤ◌, ◌<ℤ◌, int_div, int_rem, unsigned_abs}
+use Rattle.std.specs.Prelude.{◌≡◌, ℕ, suc, ◌*◌, ◌/◌, ◌%◌, ◌<◌, ◌≤◌, ◌^◌, Bool, true, false, if◌then◌else◌, Some, None, Ok, ℤ, pos, negsuc,
+    neg_ℤ, ◌+ℤ◌, ◌-ℤ◌, ◌*ℤ◌, ◌<ℤ◌, int_div, int_rem, unsigned_abs}
 use Rattle.std.specs.Int.{◌∣◌}
 use Rattle.std.proofs.Common.{arith, refl, ap, sym, ◌∙◌, subst}
 use borrow.Author.Tests.{lt-ltb}
@@ -22,20 +23,26 @@ dvd-summand k p q h g =
     let one = divided-is k q g in
     let apart = mul_sub (pos k) (int_div (p +ℤ q) (pos k)) (int_div q (pos k)) in
     let is : p ≡ pos k *ℤ (int_div (p +ℤ q) (pos k) -ℤ int_div q (pos k)) = omega (arith, ints) in
-    let size : unsigned_abs p ≡ k * unsigned_abs (int_div (p +ℤ q) (pos k) -ℤ int_div q (pos k)) = ap unsigned_abs is ∙ unsigned_abs-mul (pos k) (int_div (p +ℤ q) (pos k) -ℤ int_div q (pos k)) in
+    let size : unsigned_abs p ≡ k * unsigned_abs (int_div (p +ℤ q) (pos k) -ℤ int_div q (pos k)) = ap unsigned_abs is
+            ∙ unsigned_abs-mul (pos k) (int_div (p +ℤ q) (pos k) -ℤ int_div q (pos k)) in
     subst (λ z. k ∣ z) (sym size) (dvd-mul_right k (unsigned_abs (int_div (p +ℤ q) (pos k) -ℤ int_div q (pos k))))
 
 -- m has no factor in common with a * n + c * m, where it has none with a and n
-coprime-sum : (a c : ℤ) (m n : ℤ) → gcd (unsigned_abs a) (unsigned_abs m) ≡ 1 → gcd (unsigned_abs n) (unsigned_abs m) ≡ 1 → gcd (unsigned_abs (a *ℤ n +ℤ c *ℤ m)) (unsigned_abs m) ≡ 1
+coprime-sum : (a c : ℤ) (m n : ℤ) → gcd (unsigned_abs a) (unsigned_abs m) ≡ 1 → gcd (unsigned_abs n) (unsigned_abs m) ≡ 1 →
+    gcd (unsigned_abs (a *ℤ n +ℤ c *ℤ m)) (unsigned_abs m) ≡ 1
 coprime-sum a c m n first second =
     let S = unsigned_abs (a *ℤ n +ℤ c *ℤ m) in
     let M = unsigned_abs m in
     let k = gcd S M in
     let both = gcd-is S M in
-    let in_second : k ∣ unsigned_abs (c *ℤ m) = subst (λ z. k ∣ z) (sym (unsigned_abs-mul c m)) (dvd-mul_left_of_dvd k both.1 (unsigned_abs c)) in
-    let in_first : k ∣ unsigned_abs a * unsigned_abs n = subst (λ z. k ∣ z) (unsigned_abs-mul a n) (dvd-summand k (a *ℤ n) (c *ℤ m) both.0 in_second) in
-    let with_a : gcd k (unsigned_abs a) ≡ 1 = gcd_comm k (unsigned_abs a) ∙ coprime-divisors (unsigned_abs a) M (unsigned_abs a) k first (dvd_refl (unsigned_abs a)) both.1 in
-    let with_n : gcd k (unsigned_abs n) ≡ 1 = gcd_comm k (unsigned_abs n) ∙ coprime-divisors (unsigned_abs n) M (unsigned_abs n) k second (dvd_refl (unsigned_abs n)) both.1 in
+    let in_second : k ∣ unsigned_abs (c *ℤ m) = subst (λ z. k ∣ z) (sym (unsigned_abs-mul c m))
+            (dvd-mul_left_of_dvd k both.1 (unsigned_abs c)) in
+    let in_first : k ∣ unsigned_abs a * unsigned_abs n = subst (λ z. k ∣ z) (unsigned_abs-mul a n)
+            (dvd-summand k (a *ℤ n) (c *ℤ m) both.0 in_second) in
+    let with_a : gcd k (unsigned_abs a) ≡ 1 = gcd_comm k (unsigned_abs a)
+            ∙ coprime-divisors (unsigned_abs a) M (unsigned_abs a) k first (dvd_refl (unsigned_abs a)) both.1 in
+    let with_n : gcd k (unsigned_abs n) ≡ 1 = gcd_comm k (unsigned_abs n)
+            ∙ coprime-divisors (unsigned_abs n) M (unsigned_abs n) k second (dvd_refl (unsigned_abs n)) both.1 in
     let one = coprime-mul k (unsigned_abs a) (unsigned_abs n) with_a with_n in
     dvd-one.0 (subst (λ z. k ∣ z) one ((gcd-is k (unsigned_abs a * unsigned_abs n)).2 k (dvd_refl k) in_first))
 
@@ -61,7 +68,8 @@ module _ (a b c d : ℤ) (x : IsFraction a b) (y : IsFraction c d) where
   coprime-left : gcd N B ≡ 1
   coprime-left =
       let both = gcd-is (unsigned_abs b) (unsigned_abs d) in
-      let first : gcd (unsigned_abs a) B ≡ 1 = coprime-divisors (unsigned_abs a) (unsigned_abs b) (unsigned_abs a) B x.lowest (dvd_refl (unsigned_abs a)) (quotient-divides f (unsigned_abs b) both.0) in
+      let first : gcd (unsigned_abs a) B ≡ 1 = coprime-divisors (unsigned_abs a) (unsigned_abs b) (unsigned_abs a) B x.lowest
+              (dvd_refl (unsigned_abs a)) (quotient-divides f (unsigned_abs b) both.0) in
       let under = divided-size f b in
       let other = divided-size f d in
       ap (gcd N) (sym under) ∙ coprime-sum a c (int_div b (pos f)) (int_div d (pos f)) (ap (gcd (unsigned_abs a)) under ∙ first)
@@ -70,7 +78,8 @@ module _ (a b c d : ℤ) (x : IsFraction a b) (y : IsFraction c d) where
   coprime-right : gcd N D ≡ 1
   coprime-right =
       let both = gcd-is (unsigned_abs b) (unsigned_abs d) in
-      let first : gcd (unsigned_abs c) D ≡ 1 = coprime-divisors (unsigned_abs c) (unsigned_abs d) (unsigned_abs c) D y.lowest (dvd_refl (unsigned_abs c)) (quotient-divides f (unsigned_abs d) both.1) in
+      let first : gcd (unsigned_abs c) D ≡ 1 = coprime-divisors (unsigned_abs c) (unsigned_abs d) (unsigned_abs c) D y.lowest
+              (dvd_refl (unsigned_abs c)) (quotient-divides f (unsigned_abs d) both.1) in
       let under = divided-size f b in
       let other = divided-size f d in
       let swap : sum_num a b c d x y ≡ c *ℤ int_div b (pos f) +ℤ a *ℤ int_div d (pos f) = omega (arith, ints) in
@@ -82,7 +91,8 @@ module _ (a b c d : ℤ) (x : IsFraction a b) (y : IsFraction c d) where
   pub sum-shared : shared (sum_num a b c d x y) (sum_den a b c d x y) ≡ shared (sum_num a b c d x y) (pos f)
   sum-shared =
       let both = gcd-is (unsigned_abs b) (unsigned_abs d) in
-      let size : unsigned_abs (sum_den a b c d x y) ≡ B * unsigned_abs d = unsigned_abs-mul (int_div b (pos f)) d ∙ ap (λ z. z * unsigned_abs d) (divided-size f b) in
+      let size : unsigned_abs (sum_den a b c d x y) ≡ B * unsigned_abs d = unsigned_abs-mul (int_div b (pos f)) d
+              ∙ ap (λ z. z * unsigned_abs d) (divided-size f b) in
       let whole : unsigned_abs d ≡ D * f = sym (mul-div_cancel' f both.1) ∙ omega arith in
       ap pos (ap (gcd N) (size ∙ ap (λ z. B * z) whole) ∙ gcd-skip N B (D * f) coprime-left ∙ gcd-skip N D f coprime-right)
 
@@ -117,7 +127,8 @@ pub small-sum : (p q : ℤ) → unsigned_abs p < 2 ^ 126 → unsigned_abs q < 2 
 small-sum p q h g = omega (arith, ints)
 
 -- the sum of small fractions is in the range
-pub sum-small : (x y : Fraction) (p : IsFraction x.num x.den) (q : IsFraction y.num y.den) → unsigned_abs x.num < 2 ^ 63 → unsigned_abs x.den < 2 ^ 63 → unsigned_abs y.num < 2 ^ 63 → unsigned_abs y.den < 2 ^ 63
+pub sum-small : (x y : Fraction) (p : IsFraction x.num x.den) (q : IsFraction y.num y.den) → unsigned_abs x.num < 2 ^ 63 →
+    unsigned_abs x.den < 2 ^ 63 → unsigned_abs y.num < 2 ^ 63 → unsigned_abs y.den < 2 ^ 63
     → sum_of x y ≡ Ok (lowest_of (sum_num x.num x.den y.num y.den p q) (sum_den x.num x.den y.num y.den p q))
 unfolding sum_of
 sum-small x y p q xn xd yn yd =
@@ -128,21 +139,25 @@ sum-small x y p q xn xd yn yd =
     rw (
       within-fits (x.num *ℤ int_div y.den (pos f)) (omega arith),
       within-fits (y.num *ℤ int_div x.den (pos f)) (omega arith),
-      within-fits (x.num *ℤ int_div y.den (pos f) +ℤ y.num *ℤ int_div x.den (pos f)) (small-sum (x.num *ℤ int_div y.den (pos f)) (y.num *ℤ int_div x.den (pos f)) left right),
+      within-fits (x.num *ℤ int_div y.den (pos f) +ℤ y.num *ℤ int_div x.den (pos f))
+          (small-sum (x.num *ℤ int_div y.den (pos f)) (y.num *ℤ int_div x.den (pos f)) left right),
       within-fits (int_div x.den (pos f) *ℤ y.den) (omega arith),
     ) refl
 
 -- the product of small fractions is in the range
-pub product-small : (x y : Fraction) → unsigned_abs x.num < 2 ^ 63 → unsigned_abs x.den < 2 ^ 63 → unsigned_abs y.num < 2 ^ 63 → unsigned_abs y.den < 2 ^ 63
-    → (n e : ℤ) → n ≡ int_div x.num (shared x.num y.den) *ℤ int_div y.num (shared y.num x.den) → e ≡ int_div x.den (shared y.num x.den) *ℤ int_div y.den (shared x.num y.den)
+pub product-small : (x y : Fraction) → unsigned_abs x.num < 2 ^ 63 → unsigned_abs x.den < 2 ^ 63 → unsigned_abs y.num < 2 ^ 63 →
+    unsigned_abs y.den < 2 ^ 63
+    → (n e : ℤ) → n ≡ int_div x.num (shared x.num y.den) *ℤ int_div y.num (shared y.num x.den) →
+        e ≡ int_div x.den (shared y.num x.den) *ℤ int_div y.den (shared x.num y.den)
     → product_of x y ≡ Ok (record { num = n; den = e })
 unfolding product_of
-product-small x y xn xd yn yd n e top under =
+product-small x y xn xd yn yd n e numerator under =
     let g = gcd (unsigned_abs x.num) (unsigned_abs y.den) in
     let h = gcd (unsigned_abs y.num) (unsigned_abs x.den) in
     let first = small-product (int_div x.num (pos g)) (int_div y.num (pos h)) (small-quotient g x.num xn) (small-quotient h y.num yn) in
     let second = small-product (int_div x.den (pos h)) (int_div y.den (pos g)) (small-quotient h x.den xd) (small-quotient g y.den yd) in
-    rw (within-fits (int_div x.num (pos g) *ℤ int_div y.num (pos h)) (omega arith), within-fits (int_div x.den (pos h) *ℤ int_div y.den (pos g)) (omega arith), sym top, sym under) refl
+    rw (within-fits (int_div x.num (pos g) *ℤ int_div y.num (pos h)) (omega arith),
+        within-fits (int_div x.den (pos h) *ℤ int_div y.den (pos g)) (omega arith), sym numerator, sym under) refl
 
 -- ---- fast paths
 pub quotient-one : (z : ℤ) → int_div z (pos 1) ≡ z
@@ -155,7 +170,9 @@ fraction_with n d = record { num = n; den = d }
 -- what is in lowest terms stays
 pub lowest-already : (n d t u : ℤ) → shared n d ≡ pos 1 → t ≡ n → u ≡ d → lowest_of n d ≡ record { num = t; den = u }
 unfolding lowest_of
-lowest-already n d t u one e f = ap (λ (z : ℤ). fraction_with (int_div n z) (int_div d z)) one ∙ ap (λ (z : ℤ). fraction_with z (int_div d (pos 1))) (quotient-one n ∙ sym e) ∙ ap (λ (z : ℤ). fraction_with t z) (quotient-one d ∙ sym f)
+lowest-already n d t u one e f = ap (λ (z : ℤ). fraction_with (int_div n z) (int_div d z)) one
+    ∙ ap (λ (z : ℤ). fraction_with z (int_div d (pos 1))) (quotient-one n ∙ sym e)
+    ∙ ap (λ (z : ℤ). fraction_with t z) (quotient-one d ∙ sym f)
 
 pub shared-one : (a b : ℤ) → b ≡ pos 1 → shared a b ≡ pos 1
 shared-one a b e = ap (shared a) e ∙ ap pos (dvd-one.0 (gcd-is (unsigned_abs a) 1).1)
@@ -170,13 +187,16 @@ pub shared-rest_of : (n d : ℤ) → pos 0 <ℤ d → shared (int_rem n d) d ≡
 shared-rest_of n (pos m) p = shared-rest n m
 shared-rest_of n (negsuc m) p = absurd (omega (arith, ints))
 
-pub sum-factor : (x y : Fraction) (p : IsFraction x.num x.den) (q : IsFraction y.num y.den) (n e : ℤ) → n ≡ x.num *ℤ int_div y.den (shared x.den y.den) +ℤ y.num *ℤ int_div x.den (shared x.den y.den)
+pub sum-factor : (x y : Fraction) (p : IsFraction x.num x.den) (q : IsFraction y.num y.den) (n e : ℤ) →
+    n ≡ x.num *ℤ int_div y.den (shared x.den y.den) +ℤ y.num *ℤ int_div x.den (shared x.den y.den)
     → e ≡ int_div x.den (shared x.den y.den) *ℤ y.den → shared n (shared x.den y.den) ≡ shared n e
-sum-factor x y p q n e top under = ap (λ z. shared z (shared x.den y.den)) top ∙ sym (sum-shared x.num x.den y.num y.den p q) ∙ ap (λ z. shared z (sum_den x.num x.den y.num y.den p q)) (sym top) ∙ ap (shared n) (sym under)
+sum-factor x y p q n e numerator under = ap (λ z. shared z (shared x.den y.den)) numerator ∙ sym (sum-shared x.num x.den y.num y.den p q)
+    ∙ ap (λ z. shared z (sum_den x.num x.den y.num y.den p q)) (sym numerator) ∙ ap (shared n) (sym under)
 
 -- the same from the steps of a sum
 pub sum-factor_within : (x y : Fraction) (p : IsFraction x.num x.den) (q : IsFraction y.num y.den) (l r n e : ℤ)
-    → within (x.num *ℤ int_div y.den (shared x.den y.den)) ≡ Some l → within (y.num *ℤ int_div x.den (shared x.den y.den)) ≡ Some r → within (l +ℤ r) ≡ Some n → within (int_div x.den (shared x.den y.den) *ℤ y.den) ≡ Some e
+    → within (x.num *ℤ int_div y.den (shared x.den y.den)) ≡ Some l → within (y.num *ℤ int_div x.den (shared x.den y.den)) ≡ Some r →
+        within (l +ℤ r) ≡ Some n → within (int_div x.den (shared x.den y.den) *ℤ y.den) ≡ Some e
     → shared n (shared x.den y.den) ≡ shared n e
 sum-factor_within x y p q l r n e f g h k =
     let left = within-some (x.num *ℤ int_div y.den (shared x.den y.den)) l f in
@@ -187,21 +207,25 @@ sum-factor_within x y p q l r n e f g h k =
 
 -- ---- sums and products of small fractions
 module _ (x y : Fraction) (p : IsFraction x.num x.den) (q : IsFraction y.num y.den) (small : IsSmall x) (small' : IsSmall y) (n e : ℤ) where
-  module _ (top : n ≡ int_div x.num (shared x.num y.den) *ℤ int_div y.num (shared y.num x.den)) (under : e ≡ int_div x.den (shared y.num x.den) *ℤ int_div y.den (shared x.num y.den)) where
+  module _ (numerator : n ≡ int_div x.num (shared x.num y.den) *ℤ int_div y.num (shared y.num x.den)) (under : e
+      ≡ int_div x.den (shared y.num x.den) *ℤ int_div y.den (shared x.num y.den)) where
     pub small-product-fraction : IsFraction n e
     small-product-fraction =
         let g = gcd (unsigned_abs x.num) (unsigned_abs y.den) in
         let h = gcd (unsigned_abs y.num) (unsigned_abs x.den) in
-        let first = small-product (int_div x.num (pos g)) (int_div y.num (pos h)) (small-quotient g x.num small.num) (small-quotient h y.num small'.num) in
-        let second = small-product (int_div x.den (pos h)) (int_div y.den (pos g)) (small-quotient h x.den small.den) (small-quotient g y.den small'.den) in
+        let first = small-product (int_div x.num (pos g)) (int_div y.num (pos h)) (small-quotient g x.num small.num)
+                (small-quotient h y.num small'.num) in
+        let second = small-product (int_div x.den (pos h)) (int_div y.den (pos g)) (small-quotient h x.den small.den)
+                (small-quotient g y.den small'.den) in
         IsFraction-product x.num x.den y.num y.den p q n e
-        (within-fits (int_div x.num (pos g) *ℤ int_div y.num (pos h)) (omega arith) ∙ ap (λ (z : ℤ). Some z) (sym top))
+        (within-fits (int_div x.num (pos g) *ℤ int_div y.num (pos h)) (omega arith) ∙ ap (λ (z : ℤ). Some z) (sym numerator))
         (within-fits (int_div x.den (pos h) *ℤ int_div y.den (pos g)) (omega arith) ∙ ap (λ (z : ℤ). Some z) (sym under))
 
     pub small-product-is : product_of x y ≡ Ok (record { num = n; den = e })
-    small-product-is = product-small x y small.num small.den small'.num small'.den n e top under
+    small-product-is = product-small x y small.num small.den small'.num small'.den n e numerator under
 
-  module _ (top : n ≡ x.num *ℤ int_div y.den (shared x.den y.den) +ℤ y.num *ℤ int_div x.den (shared x.den y.den)) (under : e ≡ int_div x.den (shared x.den y.den) *ℤ y.den) where
+  module _ (numerator : n ≡ x.num *ℤ int_div y.den (shared x.den y.den) +ℤ y.num *ℤ int_div x.den (shared x.den y.den)) (under : e
+      ≡ int_div x.den (shared x.den y.den) *ℤ y.den) where
     pub small-sum-positive : pos 0 <ℤ e
     small-sum-positive = subst (λ z. pos 0 <ℤ z) (sym under) (sum-positive x.num x.den y.num y.den p q)
 
@@ -210,10 +234,12 @@ module _ (x y : Fraction) (p : IsFraction x.num x.den) (q : IsFraction y.num y.d
         let f = gcd (unsigned_abs x.den) (unsigned_abs y.den) in
         let left = small-product x.num (int_div y.den (pos f)) small.num (small-quotient f y.den small'.den) in
         let right = small-product y.num (int_div x.den (pos f)) small'.num (small-quotient f x.den small.den) in
-        subst (λ z. unsigned_abs z < 2 ^ 127) (sym top) (small-sum (x.num *ℤ int_div y.den (pos f)) (y.num *ℤ int_div x.den (pos f)) left right)
+        subst (λ z. unsigned_abs z < 2 ^ 127) (sym numerator) (small-sum (x.num *ℤ int_div y.den (pos f)) (y.num *ℤ int_div x.den (pos f))
+            left right)
 
     pub small-sum-shared : shared n (shared x.den y.den) ≡ shared n e
-    small-sum-shared = sum-factor x y p q n e top under
+    small-sum-shared = sum-factor x y p q n e numerator under
 
     pub small-sum-is : sum_of x y ≡ Ok (lowest_of n e)
-    small-sum-is = sum-small x y p q small.num small.den small'.num small'.den ∙ ap (λ z. Ok (lowest_of z (sum_den x.num x.den y.num y.den p q))) (sym top) ∙ ap (λ z. Ok (lowest_of n z)) (sym under)
+    small-sum-is = sum-small x y p q small.num small.den small'.num small'.den
+        ∙ ap (λ z. Ok (lowest_of z (sum_den x.num x.den y.num y.den p q))) (sym numerator) ∙ ap (λ z. Ok (lowest_of n z)) (sym under)

@@ -10,7 +10,7 @@ use Rattle.frac128.proofs.Fractions.{lowest-is}
 use Rattle.frac128.proofs.FractionLaws.{IsProper, negative-value}
 
 -- ---- parts
-pub value_top : (x : Fraction) → IsProper x → (value_of x).top ≡ x.num
+pub value_top : (x : Fraction) → IsProper x → (value_of x).numerator ≡ x.num
 value_top x p = (lowest-is x.num x.den p.positive p.lowest).0
 
 pub size_of_S : (c : ℕ) → unsigned_abs (S c) ≡ suc c
@@ -26,11 +26,11 @@ unfolding rational of
 whole-value z = refl
 
 -- ---- absolute values
-pub absolute-up : (p : Rational) → pos 0 ≤ℤ p.top → absolute p ≡ p
-absolute-up p h = let up : lt_z p.top (pos 0) ≡ false = grind (arith, ints) in ap (λ t. if t then neg p else p) up
+pub absolute-up : (p : Rational) → pos 0 ≤ℤ p.numerator → absolute p ≡ p
+absolute-up p h = let up : lt_z p.numerator (pos 0) ≡ false = grind (arith, ints) in ap (λ t. if t then neg p else p) up
 
-pub absolute-down : (p : Rational) → p.top <ℤ pos 0 → absolute p ≡ neg p
-absolute-down p h = let down : lt_z p.top (pos 0) ≡ true = grind (arith, ints) in ap (λ t. if t then neg p else p) down
+pub absolute-down : (p : Rational) → p.numerator <ℤ pos 0 → absolute p ≡ neg p
+absolute-down p h = let down : lt_z p.numerator (pos 0) ≡ true = grind (arith, ints) in ap (λ t. if t then neg p else p) down
 
 pub absolute-value : (x : Fraction) → IsProper x → value_of (absolute_of x) ≡ absolute (value_of x)
 absolute-value x p = by (lt_z x.num (pos 0)) ∙ sym (ap (λ t. if lt_z t (pos 0) then neg (value_of x) else value_of x) (value_top x p))

@@ -1,5 +1,6 @@
 -- Sums and products of whole numbers and with 0.
-use Rattle.std.specs.Prelude.{◌≡◌, zero, suc, ◌/◌, ◌<◌, ◌^◌, Some, None, Ok, Err, ℤ, pos, negsuc, neg_ℤ, ◌+ℤ◌, ◌*ℤ◌, ◌<ℤ◌, int_div, unsigned_abs}
+use Rattle.std.specs.Prelude.{◌≡◌, zero, suc, ◌/◌, ◌<◌, ◌^◌, Some, None, Ok, Err, ℤ, pos, negsuc, neg_ℤ, ◌+ℤ◌, ◌*ℤ◌, ◌<ℤ◌, int_div,
+    unsigned_abs}
 use Rattle.std.proofs.Common.{arith, refl, ap, sym, ◌∙◌}
 use Rattle.std.proofs.lemmas.Int.{ints}
 use Rattle.std.proofs.Math.Nat.{div_self, zero-div, dvd-one}
@@ -37,7 +38,8 @@ within-is z n e h = ap within e ∙ within-fits n h
 -- 0 in lowest terms is 0 / 1
 zero-den : (x : Fraction) → IsFraction x.num x.den → x.num ≡ pos 0 → x.den ≡ pos 1
 zero-den x p e =
-    let size : unsigned_abs x.den ≡ 1 = sym (gcd-zero (unsigned_abs x.den) 0 refl) ∙ gcd_comm (unsigned_abs x.den) 0 ∙ ap (λ z. gcd (unsigned_abs z) (unsigned_abs x.den)) (sym e) ∙ p.lowest in
+    let size : unsigned_abs x.den ≡ 1 = sym (gcd-zero (unsigned_abs x.den) 0 refl) ∙ gcd_comm (unsigned_abs x.den) 0
+            ∙ ap (λ z. gcd (unsigned_abs z) (unsigned_abs x.den)) (sym e) ∙ p.lowest in
     let positive = p.positive in
     omega (arith, ints)
 
@@ -45,7 +47,8 @@ zero-den x p e =
 zero-shared : (n d : ℤ) → n ≡ pos 0 → pos 0 <ℤ d → int_div d (shared n d) ≡ pos 1
 zero-shared n (pos zero) e p = absurd (omega (arith, ints))
 zero-shared n (pos (suc k)) e p =
-    let whole : gcd (unsigned_abs n) (suc k) ≡ suc k = ap (λ z. gcd (unsigned_abs z) (suc k)) e ∙ gcd_comm 0 (suc k) ∙ gcd-zero (suc k) 0 refl in
+    let whole : gcd (unsigned_abs n) (suc k) ≡ suc k = ap (λ z. gcd (unsigned_abs z) (suc k)) e ∙ gcd_comm 0 (suc k)
+            ∙ gcd-zero (suc k) 0 refl in
     ap (λ z. pos (suc k / z)) whole ∙ ap pos (div_self (omega arith))
 zero-shared n (negsuc k) e p = absurd (omega (arith, ints))
 
@@ -66,7 +69,8 @@ module _ (x y : Fraction) (p : IsFraction x.num x.den) (q : IsFraction y.num y.d
     under = within-is _ (pos 1) (ap (λ z. z *ℤ y.den) (by-one x.den x.den y.den one') ∙ one-times x.den y.den one ∙ one') (omega arith)
 
     pub whole-sum : (n : ℤ) → within (x.num +ℤ y.num) ≡ Some n → sum_of x y ≡ Ok (record { num = n; den = pos 1 })
-    whole-sum n e = sum-made x y x.num y.num left right n (pos 1) e under ∙ ap (λ (r : Fraction). Ok r) (lowest-already n (pos 1) n (pos 1) (shared-one n (pos 1) refl) refl refl)
+    whole-sum n e = sum-made x y x.num y.num left right n (pos 1) e under
+        ∙ ap (λ (r : Fraction). Ok r) (lowest-already n (pos 1) n (pos 1) (shared-one n (pos 1) refl) refl refl)
 
     pub whole-sum_wide : within (x.num +ℤ y.num) ≡ None → sum_of x y ≡ Err (record {})
     whole-sum_wide e = sum-wide x y x.num y.num left right e
@@ -74,10 +78,14 @@ module _ (x y : Fraction) (p : IsFraction x.num x.den) (q : IsFraction y.num y.d
     pub whole-product : product_of x y ≡ fraction_where (within (x.num *ℤ y.num)) (Some (pos 1))
     unfolding product_of
     whole-product =
-        let top : int_div x.num (shared x.num y.den) *ℤ int_div y.num (shared y.num x.den) ≡ x.num *ℤ y.num = ap (λ z. z *ℤ int_div y.num (shared y.num x.den)) (by-one x.num x.num y.den one') ∙ ap (λ z. x.num *ℤ z) (by-one y.num y.num x.den one) in
-        let bottom : int_div x.den (shared y.num x.den) *ℤ int_div y.den (shared x.num y.den) ≡ pos 1 = ap (λ z. z *ℤ int_div y.den (shared x.num y.den)) (by-one x.den y.num x.den one) ∙ ap (λ z. x.den *ℤ z) (by-one y.den x.num y.den one') ∙ one-times x.den y.den one ∙ one' in
-        ap (λ z. fraction_where (within z) (within (int_div x.den (shared y.num x.den) *ℤ int_div y.den (shared x.num y.den)))) top
-        ∙ ap (λ z. fraction_where (within (x.num *ℤ y.num)) z) (within-is _ (pos 1) bottom (omega arith))
+        let numerator : int_div x.num (shared x.num y.den) *ℤ int_div y.num (shared y.num x.den) ≡ x.num *ℤ y.num =
+                ap (λ z. z *ℤ int_div y.num (shared y.num x.den)) (by-one x.num x.num y.den one')
+                ∙ ap (λ z. x.num *ℤ z) (by-one y.num y.num x.den one) in
+        let denominator : int_div x.den (shared y.num x.den) *ℤ int_div y.den (shared x.num y.den) ≡ pos 1 =
+                ap (λ z. z *ℤ int_div y.den (shared x.num y.den)) (by-one x.den y.num x.den one)
+                ∙ ap (λ z. x.den *ℤ z) (by-one y.den x.num y.den one') ∙ one-times x.den y.den one ∙ one' in
+        ap (λ z. fraction_where (within z) (within (int_div x.den (shared y.num x.den) *ℤ int_div y.den (shared x.num y.den)))) numerator
+        ∙ ap (λ z. fraction_where (within (x.num *ℤ y.num)) z) (within-is _ (pos 1) denominator (omega arith))
 
   -- ---- 0 on the left
   module _ (none : x.num ≡ pos 0) where
@@ -96,10 +104,13 @@ module _ (x y : Fraction) (p : IsFraction x.num x.den) (q : IsFraction y.num y.d
     pub zero-product_left : product_of x y ≡ Ok (record { num = pos 0; den = pos 1 })
     unfolding product_of
     zero-product_left =
-        let top = zero-times (int_div x.num (shared x.num y.den)) (int_div y.num (shared y.num x.den)) (zero-divided x.num (shared x.num y.den) none) in
-        let bottom = ap (λ z. z *ℤ int_div y.den (shared x.num y.den)) (by-one x.den y.num x.den one-x) ∙ ap (λ z. x.den *ℤ z) (zero-shared x.num y.den none q.positive) ∙ times-one x.den (pos 1) refl ∙ one-x in
-        ap (λ z. fraction_where z (within (int_div x.den (shared y.num x.den) *ℤ int_div y.den (shared x.num y.den)))) (within-is _ (pos 0) top (omega arith))
-        ∙ ap (fraction_where (Some (pos 0))) (within-is _ (pos 1) bottom (omega arith))
+        let numerator = zero-times (int_div x.num (shared x.num y.den)) (int_div y.num (shared y.num x.den))
+                (zero-divided x.num (shared x.num y.den) none) in
+        let denominator = ap (λ z. z *ℤ int_div y.den (shared x.num y.den)) (by-one x.den y.num x.den one-x)
+                ∙ ap (λ z. x.den *ℤ z) (zero-shared x.num y.den none q.positive) ∙ times-one x.den (pos 1) refl ∙ one-x in
+        ap (λ z. fraction_where z (within (int_div x.den (shared y.num x.den) *ℤ int_div y.den (shared x.num y.den))))
+            (within-is _ (pos 0) numerator (omega arith))
+        ∙ ap (fraction_where (Some (pos 0))) (within-is _ (pos 1) denominator (omega arith))
 
   -- ---- 0 on the right
   module _ (none : y.num ≡ pos 0) where
@@ -118,10 +129,13 @@ module _ (x y : Fraction) (p : IsFraction x.num x.den) (q : IsFraction y.num y.d
     pub zero-product_right : product_of x y ≡ Ok (record { num = pos 0; den = pos 1 })
     unfolding product_of
     zero-product_right =
-        let top = times-zero (int_div x.num (shared x.num y.den)) (int_div y.num (shared y.num x.den)) (zero-divided y.num (shared y.num x.den) none) in
-        let bottom = ap (λ z. z *ℤ int_div y.den (shared x.num y.den)) (zero-shared y.num x.den none p.positive) ∙ one-times (pos 1) (int_div y.den (shared x.num y.den)) refl ∙ by-one y.den x.num y.den one-y ∙ one-y in
-        ap (λ z. fraction_where z (within (int_div x.den (shared y.num x.den) *ℤ int_div y.den (shared x.num y.den)))) (within-is _ (pos 0) top (omega arith))
-        ∙ ap (fraction_where (Some (pos 0))) (within-is _ (pos 1) bottom (omega arith))
+        let numerator = times-zero (int_div x.num (shared x.num y.den)) (int_div y.num (shared y.num x.den))
+                (zero-divided y.num (shared y.num x.den) none) in
+        let denominator = ap (λ z. z *ℤ int_div y.den (shared x.num y.den)) (zero-shared y.num x.den none p.positive)
+                ∙ one-times (pos 1) (int_div y.den (shared x.num y.den)) refl ∙ by-one y.den x.num y.den one-y ∙ one-y in
+        ap (λ z. fraction_where z (within (int_div x.den (shared y.num x.den) *ℤ int_div y.den (shared x.num y.den))))
+            (within-is _ (pos 0) numerator (omega arith))
+        ∙ ap (fraction_where (Some (pos 0))) (within-is _ (pos 1) denominator (omega arith))
 
 -- a whole number over 1 is in lowest terms
 pub IsFraction-whole : (n d : ℤ) → unsigned_abs n < 2 ^ 127 → d ≡ pos 1 → IsFraction n d

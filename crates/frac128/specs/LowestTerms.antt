@@ -1,10 +1,12 @@
 -- The quotients of two numbers by their greatest common divisor have no common divisor: why fractions can be put in lowest terms.
-use Rattle.std.specs.Prelude.{◌≡◌, ℕ, zero, suc, ◌*◌, ◌/◌, ◌-◌, ◌%◌, ◌<◌, ◌≤◌, ◌==◌, Bool, true, false, cond, ℤ, pos, negsuc, int_div, unsigned_abs}
+use Rattle.std.specs.Prelude.{◌≡◌, ℕ, zero, suc, ◌*◌, ◌/◌, ◌-◌, ◌%◌, ◌<◌, ◌≤◌, ◌==◌, Bool, true, false, cond, ℤ, pos, negsuc, int_div,
+    unsigned_abs}
 use Rattle.std.specs.Int.{◌∣◌, IsGcd}
 use Rattle.std.proofs.Common.{arith, refl, ap, sym, ◌∙◌, subst}
 use Rattle.std.proofs.lemmas.Bool.{eqb-true, eqb-false}
 use Rattle.std.proofs.lemmas.Int.{ints}
-use Rattle.std.proofs.Math.Nat.{mod-lt, dvd-mul_right, mul-dvd-mul_left, dvd_of_mul-dvd-mul_left, mul-div_cancel', mul-div_cancel_left, pos_of_dvd_of_pos}
+use Rattle.std.proofs.Math.Nat.{mod-lt, dvd-mul_right, mul-dvd-mul_left, dvd_of_mul-dvd-mul_left, mul-div_cancel', mul-div_cancel_left,
+    pos_of_dvd_of_pos}
 use Rattle.std.proofs.lemmas.Nat.Gcd.{dvd_antisymm, IsGcd-from_mod, IsGcd-from_zero}
 use Rattle.frac128.specs.Gcd.{gcd, gcd_within}
 
@@ -56,7 +58,8 @@ quotients m n p =
     let x : g * (m / g) ≡ m = mul-div_cancel' g both.0 in
     let y : g * (n / g) ≡ n = mul-div_cancel' g both.1 in
     let X = gcd (m / g) (n / g) in
-    let e : g * X ≡ g * 1 = sym (gcd-mul g (m / g) (n / g) positive) ∙ ap (λ z. gcd z (g * (n / g))) x ∙ ap (λ z. gcd m z) y ∙ omega arith in
+    let e : g * X ≡ g * 1 = sym (gcd-mul g (m / g) (n / g) positive) ∙ ap (λ z. gcd z (g * (n / g))) x ∙ ap (λ z. gcd m z) y
+            ∙ omega arith in
     sym (mul-div_cancel_left X positive) ∙ ap (λ z. z / g) e ∙ mul-div_cancel_left 1 positive
 
 pub positive_quotient : (m n : ℕ) → suc (suc n / gcd m (suc n) - 1) ≡ suc n / gcd m (suc n)
@@ -69,7 +72,9 @@ positive_quotient m n =
     by zero e = absurd (omega arith)
     by (suc q) e = omega arith
 
-pub over-lowest : (a : ℤ) (c : ℕ) → gcd (unsigned_abs (divided a (gcd (unsigned_abs a) (suc c)))) (suc (suc c / gcd (unsigned_abs a) (suc c) - 1)) ≡ 1
+pub over-lowest : (a : ℤ) (c : ℕ) → gcd (unsigned_abs (divided a (gcd (unsigned_abs a) (suc c))))
+    (suc (suc c / gcd (unsigned_abs a) (suc c) - 1)) ≡ 1
 over-lowest a c =
     let g = gcd (unsigned_abs a) (suc c) in
-    ap (λ z. gcd (unsigned_abs (divided a g)) z) (positive_quotient (unsigned_abs a) c) ∙ ap (λ z. gcd z (suc c / g)) (divided-size g a) ∙ quotients (unsigned_abs a) (suc c) (omega arith)
+    ap (λ z. gcd (unsigned_abs (divided a g)) z) (positive_quotient (unsigned_abs a) c) ∙ ap (λ z. gcd z (suc c / g)) (divided-size g a)
+        ∙ quotients (unsigned_abs a) (suc c) (omega arith)

@@ -1,27 +1,28 @@
 -- Rational numbers as fractions in lowest terms, so that two are equal where their parts are, with their operations.
-use Rattle.std.specs.Prelude.{◌≡◌, ◌≢◌, ℕ, zero, suc, ◌+◌, ◌*◌, ◌/◌, ◌-◌, if◌then◌else◌, ℤ, pos, negsuc, neg_ℤ, ◌+ℤ◌, ◌-ℤ◌, ◌*ℤ◌, ◌≤ℤ◌, unsigned_abs}
+use Rattle.std.specs.Prelude.{◌≡◌, ◌≢◌, ℕ, zero, suc, ◌+◌, ◌*◌, ◌/◌, ◌-◌, if◌then◌else◌, ℤ, pos, negsuc, neg_ℤ, ◌+ℤ◌, ◌-ℤ◌, ◌*ℤ◌, ◌≤ℤ◌,
+    unsigned_abs}
 use Rattle.std.specs.Int.Signed.{lt_z}
 use Rattle.ring_laws.specs.Sums.{sum_with}
 use Rattle.frac128.specs.Gcd.{gcd}
 use Rattle.frac128.specs.LowestTerms.{divided, over-lowest}
 
--- the fraction top / (less + 1) in lowest terms
+-- the fraction numerator / (less + 1) in lowest terms
 pub record Rational : Type 0 where
-  pub top : ℤ
+  pub numerator : ℤ
   pub less : ℕ
-  pub lowest : gcd (unsigned_abs top) (suc less) ≡ 1
+  pub lowest : gcd (unsigned_abs numerator) (suc less) ≡ 1
 
 -- the denominator of a less by one; shut, so that a product of denominators stays one in goals
 unfoldable pub S : ℕ → ℤ
 S c = pos (suc c)
 
 -- the denominator
-abbrev pub bottom : Rational → ℤ
-bottom p = S p.less
+abbrev pub denominator : Rational → ℤ
+denominator p = S p.less
 
 -- a fraction from its parts
 abbrev pub made : (a : ℤ) (c : ℕ) → gcd (unsigned_abs a) (suc c) ≡ 1 → Rational
-made a c h = record { top = a; less = c; lowest = h }
+made a c h = record { numerator = a; less = c; lowest = h }
 
 -- the fraction a / (c + 1) in lowest terms
 unfoldable pub over : ℤ → ℕ → Rational
@@ -39,20 +40,20 @@ unfoldable pub of : ℤ → Rational
 of z = over z 0
 
 unfoldable pub add : Rational → Rational → Rational
-add p q = over (p.top *ℤ bottom q +ℤ q.top *ℤ bottom p) (both p.less q.less)
+add p q = over (p.numerator *ℤ denominator q +ℤ q.numerator *ℤ denominator p) (both p.less q.less)
 
 unfoldable pub sub : Rational → Rational → Rational
-sub p q = over (p.top *ℤ bottom q -ℤ q.top *ℤ bottom p) (both p.less q.less)
+sub p q = over (p.numerator *ℤ denominator q -ℤ q.numerator *ℤ denominator p) (both p.less q.less)
 
 unfoldable pub mul : Rational → Rational → Rational
-mul p q = over (p.top *ℤ q.top) (both p.less q.less)
+mul p q = over (p.numerator *ℤ q.numerator) (both p.less q.less)
 
 unfoldable pub neg : Rational → Rational
-neg p = over (neg_ℤ p.top) p.less
+neg p = over (neg_ℤ p.numerator) p.less
 
 -- a number without its sign
 abbrev pub absolute : Rational → Rational
-absolute p = if lt_z p.top (pos 0) then neg p else p
+absolute p = if lt_z p.numerator (pos 0) then neg p else p
 
 -- f 0 + .. + f (n - 1)
 abbrev pub sum : (ℕ → Rational) → ℕ → Rational
@@ -65,7 +66,7 @@ inverse_of (pos (suc n)) c = over (S c) n
 inverse_of (negsuc n) c = over (neg_ℤ (S c)) n
 
 unfoldable pub inverse : Rational → Rational
-inverse p = inverse_of p.top p.less
+inverse p = inverse_of p.numerator p.less
 
 abbrev pub quotient : Rational → Rational → Rational
 quotient p q = mul p (inverse q)
@@ -76,7 +77,7 @@ rational n d = over n (unsigned_abs d - 1)
 
 -- ---- order
 abbrev pub NotNegative : Rational → Type 0
-NotNegative p = pos 0 ≤ℤ p.top
+NotNegative p = pos 0 ≤ℤ p.numerator
 
 abbrev pub AtMost : Rational → Rational → Type 0
 AtMost p q = NotNegative (sub q p)

@@ -43,7 +43,7 @@ impl Frac {
     #[inline]
     pub fn num(self) -> i128
         ensures value { result ≡ self.num }
-        ensures top { result ≡ (value_of self).top }
+        ensures numerator { result ≡ (value_of self).numerator }
         ensures fraction { IsFraction self.num self.den }
     {
         self.num

@@ -1,5 +1,6 @@
 -- Lists: what holds of each element, lists joined, and options without an answer.
-use Rattle.std.specs.Prelude.{◌≡◌, ℕ, zero, suc, ◌+◌, Bool, true, false, cond, List, [], ◌∷◌, ◌++◌, length, filter, find, Option, Some, None, option_map, slice_get}
+use Rattle.std.specs.Prelude.{◌≡◌, ℕ, zero, suc, ◌+◌, Bool, true, false, cond, List, [], ◌∷◌, ◌++◌, length, filter, find, Option, Some,
+    None, option_map, slice_get}
 use Rattle.std.specs.List.{enumerate_from}
 use Rattle.std.specs.Option.{option_or}
 use Rattle.std.proofs.Common.{refl, ap, ◌∙◌, subst, arith}
@@ -53,7 +54,8 @@ pub filter-append : {A : Type 0} (test : A → Bool) (xs ys : List A) → filter
 filter-append test [] ys = refl
 filter-append test (x ∷ xs) ys =
     let rest = filter-append test xs ys in
-    let P : Bool → Type 0 = λ b. cond b (x ∷ filter test (xs ++ ys)) (filter test (xs ++ ys)) ≡ cond b (x ∷ filter test xs) (filter test xs) ++ filter test ys in
+    let P : Bool → Type 0 = λ b. cond b (x ∷ filter test (xs ++ ys)) (filter test (xs ++ ys))
+            ≡ cond b (x ∷ filter test xs) (filter test xs) ++ filter test ys in
     elim (test x) as P [ true ↦ ap (λ l. x ∷ l) rest | false ↦ rest ]
 
 pub find-append : {A : Type 0} (test : A → Bool) (xs ys : List A) → find test (xs ++ ys) ≡ option_or (find test xs) (find test ys)
@@ -63,7 +65,8 @@ find-append test (x ∷ xs) ys =
     let P : Bool → Type 0 = λ b. cond b (Some x) (find test (xs ++ ys)) ≡ option_or (cond b (Some x) (find test xs)) (find test ys) in
     elim (test x) as P [ true ↦ refl | false ↦ rest ]
 
-pub enumerate-append : {A : Type 0} (n : ℕ) (xs ys : List A) → enumerate_from n (xs ++ ys) ≡ enumerate_from n xs ++ enumerate_from (n + length xs) ys
+pub enumerate-append : {A : Type 0} (n : ℕ) (xs ys : List A) → enumerate_from n (xs ++ ys) ≡ enumerate_from n xs
+    ++ enumerate_from (n + length xs) ys
 enumerate-append n [] ys = ap (λ k. enumerate_from k ys) (omega arith)
 enumerate-append n (x ∷ xs) ys =
     ap (λ zs. (n, x) ∷ zs) (enumerate-append (n + 1) xs ys ∙ ap (λ k. enumerate_from (n + 1) xs ++ enumerate_from k ys) (omega arith))

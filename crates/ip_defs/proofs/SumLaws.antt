@@ -30,7 +30,8 @@ pub sum_scale : (k : ℤ) (f : ℕ → ℤ) (n : ℕ) → sum_below (λ j. k *�
 sum_scale = Sums.sum_scale whole
 
 -- the order of two sums may be changed
-pub exchange : {A : Type 0} (F : A → ℕ → ℤ) (ys : List A) (n : ℕ) → sum_below (λ j. sum_over (λ p. F p j) ys) n ≡ sum_over (λ p. sum_below (F p) n) ys
+pub exchange : {A : Type 0} (F : A → ℕ → ℤ) (ys : List A) (n : ℕ) → sum_below (λ j. sum_over (λ p. F p j) ys) n
+    ≡ sum_over (λ p. sum_below (F p) n) ys
 exchange F [] n = sum_zero n
 exchange F (y ∷ ys) n =
     let rest = exchange F ys n in

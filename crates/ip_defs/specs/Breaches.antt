@@ -25,12 +25,15 @@ is_above_side v (Some side) = lt_z side v
 -- the value of a row is outside its sides
 abbrev pub row_breach : List ℤ → ℕ → Option Row → Option Breach
 row_breach x i None = None
-row_breach x i (Some r) = if is_below_side (row_sum r.coefs x) r.low || is_above_side (row_sum r.coefs x) r.high then Some (Broken.Row i) else None
+row_breach x i (Some r) = if is_below_side (row_sum r.coefs x) r.low || is_above_side (row_sum r.coefs x) r.high then Some (Broken.Row i)
+    else None
 
 -- the first broken column, else the first broken row
 abbrev pub first_breach : Parts → List ℤ → Option Breach
-first_breach m x = option_or (first (column_breach (box_of m) x) (length m.columns)) (first (λ i. row_breach x i (slice_get m.rows i)) (length m.rows))
+first_breach m x = option_or (first (column_breach (box_of m) x) (length m.columns))
+    (first (λ i. row_breach x i (slice_get m.rows i)) (length m.rows))
 
 -- there is no breach exactly where the point is feasible
 abbrev pub BreachesAreExact : Type 0
-BreachesAreExact = (m : Parts) (x : List ℤ) → length x ≡ length m.columns → (first_breach m x ≡ None → IsFeasible m x) × (IsFeasible m x → first_breach m x ≡ None)
+BreachesAreExact = (m : Parts) (x : List ℤ) → length x ≡ length m.columns → (first_breach m x ≡ None → IsFeasible m x)
+    × (IsFeasible m x → first_breach m x ≡ None)

@@ -1,5 +1,6 @@
 -- Certificates: what multipliers pay, the dual value of a box, the leaf bound, and weak duality.
-use Rattle.std.specs.Prelude.{◌≡◌, ℕ, zero, suc, ◌+◌, ◌-◌, ◌/◌, Bool, if◌then◌else◌, List, [], ◌∷◌, length, Option, Some, None, slice_get, option_map, option_and_then, ℤ, pos, negsuc, neg_ℤ, ◌+ℤ◌, ◌-ℤ◌, ◌*ℤ◌, ◌≤ℤ◌}
+use Rattle.std.specs.Prelude.{◌≡◌, ℕ, zero, suc, ◌+◌, ◌-◌, ◌/◌, Bool, if◌then◌else◌, List, [], ◌∷◌, length, Option, Some, None, slice_get,
+    option_map, option_and_then, ℤ, pos, negsuc, neg_ℤ, ◌+ℤ◌, ◌-ℤ◌, ◌*ℤ◌, ◌≤ℤ◌}
 use Rattle.std.specs.Int.{int_min}
 use Rattle.std.specs.Int.Signed.{lt_z}
 use Rattle.std.specs.List.{list_any}
@@ -78,4 +79,5 @@ IsAtMost Infinite w = ⊥
 
 -- weak duality over boxes: each feasible point that lies in a box costs at least the leaf bound of any certificate there
 abbrev pub WeakDuality : Type 0
-WeakDuality = (m : Parts) (b : List (ℤ × ℤ)) (c : Cert) (x : List ℤ) → length b ≡ length m.columns → IsFeasible m x → IsIn b x → IsAtMost (leaf_bound m b c) (cost m x)
+WeakDuality = (m : Parts) (b : List (ℤ × ℤ)) (c : Cert) (x : List ℤ) → length b ≡ length m.columns → IsFeasible m x → IsIn b x →
+    IsAtMost (leaf_bound m b c) (cost m x)

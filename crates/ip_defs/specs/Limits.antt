@@ -1,5 +1,6 @@
 -- The shape and the limits of integer programs.
-use Rattle.std.specs.Prelude.{◌≡◌, ◌≢◌, ℕ, ◌^◌, ◌≤◌, ◌<◌, nat_lt, Bool, false, ◌||◌, List, ◌++◌, length, flat_map, Some, slice_get, slice_index_or, sum_by, ℤ, pos, ◌≤ℤ◌}
+use Rattle.std.specs.Prelude.{◌≡◌, ◌≢◌, ℕ, ◌^◌, ◌≤◌, ◌<◌, nat_lt, Bool, false, ◌||◌, List, ◌++◌, length, flat_map, Some, slice_get,
+    slice_index_or, sum_by, ℤ, pos, ◌≤ℤ◌}
 use Rattle.std.specs.Int.RustNames.{unsigned_abs}
 use Rattle.std.specs.List.{enumerate_from, list_any}
 use Rattle.std.specs.Option.{ForSome, option_map_or}
@@ -11,7 +12,8 @@ use Rattle.ip_defs.specs.declared.certificates.Cert.{Cert}
 use Rattle.ip_defs.specs.Program.{low_at, high_at}
 use Rattle.ip_defs.specs.declared.limits.Limit.{Limit}
 use Rattle.ip_defs.specs.declared.limits.What.{What}
-use Rattle.ip_defs.specs.declared.limits.What.TheVariants.{Columns, Rows, Entries, Name, Cost, Lower, Upper, RowName, Coef, Side, Objective, Constant}
+use Rattle.ip_defs.specs.declared.limits.What.TheVariants.{Columns, Rows, Entries, Name, Cost, Lower, Upper, RowName, Coef, Side,
+    Objective, Constant}
 
 -- a number is above a size
 abbrev pub above : ℕ → ℤ → Bool
@@ -24,10 +26,12 @@ abbrev pub is_long : List ℕ → Bool
 is_long name = nat_lt 255 (length name)
 
 abbrev pub column_limits : ℕ × Column → List Limit
-column_limits p = limit_at (is_long p.1.name) Name p.0 ++ limit_at (above (2 ^ 40) p.1.cost) Cost p.0 ++ limit_at (above (2 ^ 24) p.1.lo) Lower p.0 ++ limit_at (above (2 ^ 24) p.1.hi) Upper p.0
+column_limits p = limit_at (is_long p.1.name) Name p.0 ++ limit_at (above (2 ^ 40) p.1.cost) Cost p.0
+    ++ limit_at (above (2 ^ 24) p.1.lo) Lower p.0 ++ limit_at (above (2 ^ 24) p.1.hi) Upper p.0
 
 abbrev pub row_limits : ℕ × Row → List Limit
-row_limits p = limit_at (is_long p.1.name) RowName p.0 ++ limit_at (list_any (λ c. above (2 ^ 40) c.1) p.1.coefs) Coef p.0 ++ limit_at (option_map_or (above (2 ^ 62)) p.1.low false || option_map_or (above (2 ^ 62)) p.1.high false) Side p.0
+row_limits p = limit_at (is_long p.1.name) RowName p.0 ++ limit_at (list_any (λ c. above (2 ^ 40) c.1) p.1.coefs) Coef p.0
+    ++ limit_at (option_map_or (above (2 ^ 62)) p.1.low false || option_map_or (above (2 ^ 62)) p.1.high false) Side p.0
 
 -- the limits that a program passes, in the order in which they are tried
 abbrev pub limits_of : Parts → List Limit

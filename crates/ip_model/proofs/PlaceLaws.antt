@@ -15,14 +15,18 @@ read_at xs ys i x same l is = ap (λ zs. slice_get zs i) (sym same) ∙ slice_ge
 
 -- the sides of a column by its number
 pub side_at : (m : Parts) (j : ℕ) (c : Column) → slice_get m.columns j ≡ Some c → get_or (box_of m) j (pos 0, pos 0) ≡ (c.lo, c.hi)
-side_at m j c found = get_or_from_slice_get (box_of m) j (c.lo, c.hi) (pos 0, pos 0) (slice_get-map (λ (c : Column). (c.lo, c.hi)) m.columns j ∙ ap (λ (o : Option Column). option_map (λ (c : Column). (c.lo, c.hi)) o) found)
+side_at m j c found = get_or_from_slice_get (box_of m) j (c.lo, c.hi) (pos 0, pos 0)
+    (slice_get-map (λ (c : Column). (c.lo, c.hi)) m.columns j
+    ∙ ap (λ (o : Option Column). option_map (λ (c : Column). (c.lo, c.hi)) o) found)
 
 -- the cost of a column by its number
 pub cost_of_column : (m : Parts) (j : ℕ) (c : Column) → slice_get m.columns j ≡ Some c → at (costs_of m) j ≡ c.cost
-cost_of_column m j c found = get_or_from_slice_get (costs_of m) j c.cost (pos 0) (slice_get-map (λ (c : Column). c.cost) m.columns j ∙ ap (λ (o : Option Column). option_map (λ (c : Column). c.cost) o) found)
+cost_of_column m j c found = get_or_from_slice_get (costs_of m) j c.cost (pos 0) (slice_get-map (λ (c : Column). c.cost) m.columns j
+    ∙ ap (λ (o : Option Column). option_map (λ (c : Column). c.cost) o) found)
 
 -- the breach of a column from its sides and the coordinate
-pub column_breach_is : (m : Parts) (x : List ℤ) (j : ℕ) (c : Column) (v : ℤ) → slice_get m.columns j ≡ Some c → v ≡ at x j → column_breach (box_of m) x j ≡ (if lt_z v c.lo || lt_z c.hi v then Some (Broken.Column j) else None)
+pub column_breach_is : (m : Parts) (x : List ℤ) (j : ℕ) (c : Column) (v : ℤ) → slice_get m.columns j ≡ Some c → v ≡ at x j →
+    column_breach (box_of m) x j ≡ (if lt_z v c.lo || lt_z c.hi v then Some (Broken.Column j) else None)
 column_breach_is m x j c v found is =
     ap (λ (s : ℤ × ℤ). if lt_z (at x j) s.0 || lt_z s.1 (at x j) then Some (Broken.Column j) else None) (side_at m j c found)
     ∙ ap (λ (z : ℤ). if lt_z z c.lo || lt_z c.hi z then Some (Broken.Column j) else None) (sym is)

@@ -1,5 +1,6 @@
 -- Coefficients, one more at a time.
-use Rattle.std.specs.Prelude.{◌≡◌, ◌≢◌, ℕ, zero, suc, ◌+◌, ◌<◌, ◌≤◌, ◌==◌, Bool, true, false, cond, List, [], ◌∷◌, ◌++◌, length, take, ℤ, pos, ◌+ℤ◌, unsigned_abs}
+use Rattle.std.specs.Prelude.{◌≡◌, ◌≢◌, ℕ, zero, suc, ◌+◌, ◌<◌, ◌≤◌, ◌==◌, Bool, true, false, cond, List, [], ◌∷◌, ◌++◌, length, take, ℤ,
+    pos, ◌+ℤ◌, unsigned_abs}
 use Rattle.std.proofs.Common.{arith, refl, ap, sym, ◌∙◌, get_or, add-one}
 use Rattle.std.proofs.lemmas.Bool.{eqb-true}
 use Rattle.std.proofs.lemmas.Int.{ints}
@@ -25,7 +26,8 @@ coefficient_none [] j h = refl
 coefficient_none (p ∷ ps) j h = none_step p.0 j _ _ (h 0 (omega arith)) (coefficient_none ps j (λ i l. h (suc i) (omega arith)))
 
 -- the column at a place has no coefficient before it
-pub fresh : (ps : List (ℕ × ℤ)) (i : ℕ) → ((h k : ℕ) → h < k → k < length ps → number_at ps h < number_at ps k) → i < length ps → coefficient (take i ps) (number_at ps i) ≡ pos 0
+pub fresh : (ps : List (ℕ × ℤ)) (i : ℕ) → ((h k : ℕ) → h < k → k < length ps → number_at ps h < number_at ps k) → i < length ps →
+    coefficient (take i ps) (number_at ps i) ≡ pos 0
 fresh ps i rising l = coefficient_none (take i ps) (number_at ps i) (λ k small same.
     let short = length-take-le i ps (omega arith) in
     let before : k < i = omega arith in
@@ -34,30 +36,36 @@ fresh ps i rising l = coefficient_none (take i ps) (number_at ps i) (λ k small 
     omega arith)
 
 -- one more coefficient
-pub coefficient_more : (ps : List (ℕ × ℤ)) (i j : ℕ) → i < length ps → coefficient (take (i + 1) ps) j ≡ coefficient (take i ps) j +ℤ cond (number_at ps i == j) (get_or ps i (0, pos 0)).1 (pos 0)
+pub coefficient_more : (ps : List (ℕ × ℤ)) (i j : ℕ) → i < length ps → coefficient (take (i + 1) ps) j ≡ coefficient (take i ps) j
+    +ℤ cond (number_at ps i == j) (get_or ps i (0, pos 0)).1 (pos 0)
 coefficient_more ps i j l = rw (take_more ps i (0, pos 0) l, coefficient-append) (by (number_at ps i == j))
   where
-    by : (t : Bool) → coefficient (take i ps) j +ℤ cond t ((get_or ps i (0, pos 0)).1 +ℤ pos 0) (pos 0) ≡ coefficient (take i ps) j +ℤ cond t (get_or ps i (0, pos 0)).1 (pos 0)
+    by : (t : Bool) → coefficient (take i ps) j +ℤ cond t ((get_or ps i (0, pos 0)).1 +ℤ pos 0) (pos 0) ≡ coefficient (take i ps) j
+        +ℤ cond t (get_or ps i (0, pos 0)).1 (pos 0)
     by true = omega (arith, ints)
     by false = refl
 
 -- a coefficient of a row in order is no larger than all are
-pub coefficient_small : (n s : ℕ) (ps : List (ℕ × ℤ)) (j i : ℕ) → AreOrdered n ps → AreSmall s ps → i ≤ length ps → unsigned_abs (coefficient (take i ps) j) ≤ s
+pub coefficient_small : (n s : ℕ) (ps : List (ℕ × ℤ)) (j i : ℕ) → AreOrdered n ps → AreSmall s ps → i ≤ length ps →
+    unsigned_abs (coefficient (take i ps) j) ≤ s
 coefficient_small n s ps j zero ordered few l = omega arith
 coefficient_small n s ps j (suc i) ordered few l = by (number_at ps i == j) refl (coefficient_small n s ps j i ordered few (omega arith))
   where
-    by : (t : Bool) → (number_at ps i == j) ≡ t → unsigned_abs (coefficient (take i ps) j) ≤ s → unsigned_abs (coefficient (take (suc i) ps) j) ≤ s
+    by : (t : Bool) → (number_at ps i == j) ≡ t → unsigned_abs (coefficient (take i ps) j) ≤ s →
+        unsigned_abs (coefficient (take (suc i) ps) j) ≤ s
     by true e before =
         let same : number_at ps i ≡ j = eqb-true (number_at ps i) j e in
         let none = fresh ps i ordered.rising (omega arith) in
         let none' : coefficient (take i ps) j ≡ pos 0 = ap (coefficient (take i ps)) (sym same) ∙ none in
         let more = coefficient_more ps i j (omega arith) in
-        let more' : coefficient (take (i + 1) ps) j ≡ coefficient (take i ps) j +ℤ value_at ps i = more ∙ ap (λ t. coefficient (take i ps) j +ℤ cond t (value_at ps i) (pos 0)) e in
+        let more' : coefficient (take (i + 1) ps) j ≡ coefficient (take i ps) j +ℤ value_at ps i = more
+                ∙ ap (λ t. coefficient (take i ps) j +ℤ cond t (value_at ps i) (pos 0)) e in
         let small = few i (omega arith) in
         let total : coefficient (take (i + 1) ps) j ≡ value_at ps i = omega (arith, ints) in
         rw (← add-one) (rw total small)
     by false e before =
         let more = coefficient_more ps i j (omega arith) in
-        let more' : coefficient (take (i + 1) ps) j ≡ coefficient (take i ps) j +ℤ pos 0 = more ∙ ap (λ t. coefficient (take i ps) j +ℤ cond t (value_at ps i) (pos 0)) e in
+        let more' : coefficient (take (i + 1) ps) j ≡ coefficient (take i ps) j +ℤ pos 0 = more
+                ∙ ap (λ t. coefficient (take i ps) j +ℤ cond t (value_at ps i) (pos 0)) e in
         let total : coefficient (take (i + 1) ps) j ≡ coefficient (take i ps) j = omega (arith, ints) in
         rw (← add-one) (rw total before)

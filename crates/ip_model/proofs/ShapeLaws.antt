@@ -12,11 +12,14 @@ abbrev pub AreShapedBelow : ℕ → List Row → ℕ → Type 0
 AreShapedBelow columns rows i = (k : ℕ) → k < i → (r : Row) → slice_get rows k ≡ Some r → IsRowShaped columns r
 
 -- one more row
-pub shaped_more : (columns : ℕ) (rows : List Row) (i : ℕ) (row : Row) → AreShapedBelow columns rows i → slice_get rows i ≡ Some row → IsRowShaped columns row → AreShapedBelow columns rows (i + 1)
-shaped_more columns rows i row before found shaped = below_more (λ k. (r : Row) → slice_get rows k ≡ Some r → IsRowShaped columns r) i before (λ r g. let same : row ≡ r = cc in subst (IsRowShaped columns) same shaped)
+pub shaped_more : (columns : ℕ) (rows : List Row) (i : ℕ) (row : Row) → AreShapedBelow columns rows i → slice_get rows i ≡ Some row →
+    IsRowShaped columns row → AreShapedBelow columns rows (i + 1)
+shaped_more columns rows i row before found shaped = below_more (λ k. (r : Row) → slice_get rows k ≡ Some r →
+    IsRowShaped columns r) i before (λ r g. let same : row ≡ r = cc in subst (IsRowShaped columns) same shaped)
 
 -- all rows
-pub all_shaped : (m : Parts) (columns : List Column) (rows : List Row) (i : ℕ) → columns ≡ m.columns → rows ≡ m.rows → m.cost_decimals ≤ 9 → length rows ≤ i → AreShapedBelow (length columns) rows i → IsWellShaped m
+pub all_shaped : (m : Parts) (columns : List Column) (rows : List Row) (i : ℕ) → columns ≡ m.columns → rows ≡ m.rows → m.cost_decimals ≤ 9
+    → length rows ≤ i → AreShapedBelow (length columns) rows i → IsWellShaped m
 all_shaped m columns rows i these those decimals end shaped = record {
   decimals = decimals;
   rows = λ k r g.

@@ -16,13 +16,18 @@ not_true true h = h refl
 not_true false h = refl
 
 -- one more element of a sum
-pub sum_by_more : {A : Type 0} (f : A → ℕ) (xs : List A) (i : ℕ) (d : A) → i < length xs → sum_by f (take (i + 1) xs) ≡ sum_by f (take i xs) + f (get_or xs i d)
+pub sum_by_more : {A : Type 0} (f : A → ℕ) (xs : List A) (i : ℕ) (d : A) → i < length xs →
+    sum_by f (take (i + 1) xs) ≡ sum_by f (take i xs) + f (get_or xs i d)
 sum_by_more f xs i d l = ap (sum_by f) (take_more xs i d l) ∙ sum_by-append f (take i xs) (get_or xs i d ∷ []) ∙ omega arith
 
 -- one more side that is not empty
-pub none_empty_more : (b : List (ℤ × ℤ)) (i : ℕ) (s : ℤ × ℤ) → i < length b → get_or b i (pos 0, pos 0) ≡ s → list_any is_empty_side (take i b) ≡ false → is_empty_side s ≡ false → list_any is_empty_side (take (i + 1) b) ≡ false
-none_empty_more b i s l is before here = list_any_more is_empty_side b i (pos 0, pos 0) l ∙ ap (λ t. t || is_empty_side (get_or b i (pos 0, pos 0))) before ∙ ap (λ (s : ℤ × ℤ). is_empty_side s) is ∙ here
+pub none_empty_more : (b : List (ℤ × ℤ)) (i : ℕ) (s : ℤ × ℤ) → i < length b → get_or b i (pos 0, pos 0) ≡ s →
+    list_any is_empty_side (take i b) ≡ false → is_empty_side s ≡ false → list_any is_empty_side (take (i + 1) b) ≡ false
+none_empty_more b i s l is before here = list_any_more is_empty_side b i (pos 0, pos 0) l
+    ∙ ap (λ t. t || is_empty_side (get_or b i (pos 0, pos 0))) before ∙ ap (λ (s : ℤ × ℤ). is_empty_side s) is ∙ here
 
 -- a box with an empty side has no width
-pub no_width : (m : Parts) (i : ℕ) (s : ℤ × ℤ) → i < length (box_of m) → get_or (box_of m) i (pos 0, pos 0) ≡ s → is_empty_side s ≡ true → width_sum m ≡ 0
-no_width m i s l is here = ap (λ t. if t then 0 else sum_by width_of (box_of m)) (list_any_at is_empty_side (box_of m) i (pos 0, pos 0) l (ap (λ (s : ℤ × ℤ). is_empty_side s) is ∙ here))
+pub no_width : (m : Parts) (i : ℕ) (s : ℤ × ℤ) → i < length (box_of m) → get_or (box_of m) i (pos 0, pos 0) ≡ s → is_empty_side s ≡ true →
+    width_sum m ≡ 0
+no_width m i s l is here = ap (λ t. if t then 0 else sum_by width_of (box_of m)) (list_any_at is_empty_side (box_of m) i (pos 0,
+    pos 0) l (ap (λ (s : ℤ × ℤ). is_empty_side s) is ∙ here))

@@ -1,5 +1,6 @@
 -- A row's value from its coefficients alone, one at a time.
-use Rattle.std.specs.Prelude.{◌≡◌, ◌≢◌, ℕ, zero, suc, ◌+◌, ◌<◌, ◌≤◌, ◌==◌, Bool, true, false, cond, List, [], ◌∷◌, ◌++◌, length, take, nat_lt, ℤ, pos, ◌+ℤ◌, ◌*ℤ◌, ◌^◌}
+use Rattle.std.specs.Prelude.{◌≡◌, ◌≢◌, ℕ, zero, suc, ◌+◌, ◌<◌, ◌≤◌, ◌==◌, Bool, true, false, cond, List, [], ◌∷◌, ◌++◌, length, take,
+    nat_lt, ℤ, pos, ◌+ℤ◌, ◌*ℤ◌, ◌^◌}
 use Rattle.std.specs.Int.{w64}
 use Rattle.std.specs.Int.RustNames.{unsigned_abs}
 use mir.Val.{SFits}
@@ -19,7 +20,8 @@ sum_over-append f [] ys = omega (arith, ints)
 sum_over-append f (x ∷ xs) ys = let rest = sum_over-append f xs ys in omega (arith, ints)
 
 -- one more element
-pub sum_over_more : {A : Type 0} (f : A → ℤ) (xs : List A) (i : ℕ) (d : A) → i < length xs → sum_over f (take (i + 1) xs) ≡ sum_over f (take i xs) +ℤ f (get_or xs i d)
+pub sum_over_more : {A : Type 0} (f : A → ℤ) (xs : List A) (i : ℕ) (d : A) → i < length xs →
+    sum_over f (take (i + 1) xs) ≡ sum_over f (take i xs) +ℤ f (get_or xs i d)
 sum_over_more f xs i d l =
     let more = ap (sum_over f) (take_more xs i d l) ∙ sum_over-append f (take i xs) (get_or xs i d ∷ []) in
     omega (arith, ints)
@@ -36,13 +38,15 @@ lone_apart a j v x apart = by (a == j) refl
     by false e = omega (arith, ints)
 
 lone_before : (a : ℕ) (v : ℤ) (x : List ℤ) (n : ℕ) → n ≤ a → sum_below (λ j. lone a v j *ℤ at x j) n ≡ pos 0
-lone_before a v x n l = sum_same (λ j. lone a v j *ℤ at x j) (λ j. pos 0) n (λ j h. lone_apart a j v (at x j) (λ e. omega arith)) ∙ sum_zero n
+lone_before a v x n l = sum_same (λ j. lone a v j *ℤ at x j) (λ j. pos 0) n (λ j h. lone_apart a j v (at x j) (λ e. omega arith))
+    ∙ sum_zero n
 
 lone_within : (a : ℕ) (v : ℤ) (x : List ℤ) (n : ℕ) → a < n → sum_below (λ j. lone a v j *ℤ at x j) n ≡ v *ℤ at x a
 lone_within a v x zero l = absurd (omega arith)
 lone_within a v x (suc n) l = by (a == n) refl (λ h. lone_within a v x n h)
   where
-    by : (t : Bool) → (a == n) ≡ t → (a < n → sum_below (λ j. lone a v j *ℤ at x j) n ≡ v *ℤ at x a) → sum_below (λ j. lone a v j *ℤ at x j) n +ℤ cond t v (pos 0) *ℤ at x n ≡ v *ℤ at x a
+    by : (t : Bool) → (a == n) ≡ t → (a < n → sum_below (λ j. lone a v j *ℤ at x j) n ≡ v *ℤ at x a) →
+        sum_below (λ j. lone a v j *ℤ at x j) n +ℤ cond t v (pos 0) *ℤ at x n ≡ v *ℤ at x a
     by true e rest =
         let same : a ≡ n = eqb-true a n e in
         let before = lone_before a v x n (omega arith) in
@@ -77,13 +81,15 @@ row_walk (p ∷ ps) x =
     let rest = row_walk ps x in
     let each : (j : ℕ) → j < length x → coefficient (p ∷ ps) j *ℤ at x j ≡ lone p.0 p.1 j *ℤ at x j +ℤ coefficient ps j *ℤ at x j = λ j l.
     ap (λ z. z *ℤ at x j) (apart_of (p.0 == j) p.1 (coefficient ps j)) ∙ add_mul (lone p.0 p.1 j) (coefficient ps j) (at x j) in
-    let same = sum_same (λ j. coefficient (p ∷ ps) j *ℤ at x j) (λ j. lone p.0 p.1 j *ℤ at x j +ℤ coefficient ps j *ℤ at x j) (length x) each in
+    let same = sum_same (λ j. coefficient (p ∷ ps) j *ℤ at x j) (λ j. lone p.0 p.1 j *ℤ at x j
+            +ℤ coefficient ps j *ℤ at x j) (length x) each in
     let split = sum_add (λ j. lone p.0 p.1 j *ℤ at x j) (λ j. coefficient ps j *ℤ at x j) (length x) in
     let first = lone_sum p.0 p.1 x in
     omega (arith, ints)
 
 -- a place is at most the number there, where numbers rise
-pub place_below : (ps : List (ℕ × ℤ)) (i : ℕ) → ((h k : ℕ) → h < k → k < length ps → number_at ps h < number_at ps k) → i < length ps → i ≤ number_at ps i
+pub place_below : (ps : List (ℕ × ℤ)) (i : ℕ) → ((h k : ℕ) → h < k → k < length ps → number_at ps h < number_at ps k) → i < length ps →
+    i ≤ number_at ps i
 place_below ps zero rising l = omega arith
 place_below ps (suc i) rising l =
     let before = place_below ps i rising (omega arith) in

@@ -6,7 +6,10 @@ use Rattle.ips_io.specs.Places.{edited}
 use Rattle.ips_io.specs.declared.places.Part.{Part}
 
 -- a buffer turned so that a part stands last, cut, lengthened and turned back: other bytes in place of the part
-pub replaced : (buffer bytes : List ℕ) (p : Part) (after : ℕ) (turned cut longer now : List ℕ) → after ≡ length buffer - (p.start + p.length) → p.start + p.length ≤ length buffer → turned ≡ drop (p.start + p.length) buffer ++ take (p.start + p.length) buffer → cut ≡ take (after + p.start) turned → longer ≡ cut ++ bytes → now ≡ drop after longer ++ take after longer → now ≡ edited buffer p bytes
+pub replaced : (buffer bytes : List ℕ) (p : Part) (after : ℕ) (turned cut longer now : List ℕ) →
+    after ≡ length buffer - (p.start + p.length) → p.start + p.length ≤ length buffer → turned ≡ drop (p.start + p.length) buffer
+    ++ take (p.start + p.length) buffer → cut ≡ take (after + p.start) turned → longer ≡ cut ++ bytes → now ≡ drop after longer
+    ++ take after longer → now ≡ edited buffer p bytes
 replaced buffer bytes p after turned cut longer now is within e1 e2 e3 e4 =
     let end = p.start + p.length in
     let rest = drop end buffer in

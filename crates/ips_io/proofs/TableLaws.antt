@@ -1,5 +1,6 @@
 -- Tables of files in a buffer: what a change of the buffer makes of the table.
-use Rattle.std.proofs.Common.{subst, ◌≡◌, ℕ, zero, suc, ◌+◌, ◌<◌, ◌≤◌, Bool, true, false, List, [], ◌∷◌, ◌++◌, take, drop, length, get_or, set, Option, Some, None, option_map, bytes_eq, refl, sym, ap, ◌∙◌, arith, append_assoc, length-append, length-drop}
+use Rattle.std.proofs.Common.{subst, ◌≡◌, ℕ, zero, suc, ◌+◌, ◌<◌, ◌≤◌, Bool, true, false, List, [], ◌∷◌, ◌++◌, take, drop, length, get_or,
+    set, Option, Some, None, option_map, bytes_eq, refl, sym, ap, ◌∙◌, arith, append_assoc, length-append, length-drop}
 use Rattle.std.proofs.lemmas.List.Sums.{sum_by-cons, sum_by-append}
 use Rattle.std.proofs.lemmas.List.{drop-drop, length-take-le, take-append-drop}
 use Rattle.std.proofs.Math.Seq.{take-add, take-append_seam, drop-append_seam, take-length}
@@ -50,7 +51,8 @@ size_of_files (l ∷ ls) b within =
     let two = length-take-le l.content (drop l.name b) (omega arith) in
     let further = length-drop (both l) b in
     let later = size_of_files ls (drop (both l) b) (omega arith) in
-    let first = sum_by-cons (λ f. length f.0 + length f.1) (take l.name b, take l.content (drop l.name b)) (files_of ls (drop (both l) b)) in
+    let first = sum_by-cons (λ f. length f.0 + length f.1) (take l.name b, take l.content (drop l.name b))
+            (files_of ls (drop (both l) b)) in
     omega arith
 
 -- as many files as lengths
@@ -59,20 +61,26 @@ count_of_files [] b = refl
 count_of_files (l ∷ ls) b = ap suc (count_of_files ls (drop (both l) b))
 
 -- the content at a later place
-later_part : (l : Lengths) (b : List ℕ) (o : Option Place) → option_map (λ p. part_of b p.content) (option_map (shifted 1 (both l)) o) ≡ option_map (λ p. part_of (drop (both l) b) p.content) o
+later_part : (l : Lengths) (b : List ℕ) (o : Option Place) → option_map (λ p. part_of b p.content) (option_map (shifted 1 (both l)) o)
+    ≡ option_map (λ p. part_of (drop (both l) b) p.content) o
 later_part l b None = refl
 later_part l b (Some p) = ap (λ xs. Some (take p.content.length xs)) (sym (drop-drop p.content.start (both l) b))
 
 -- the content at the place of a name is the file of that name
-pub file_at_place : (ls : List Lengths) (b name : List ℕ) → option_map (λ p. part_of b p.content) (place_of ls b name) ≡ file_of (files_of ls b) name
+pub file_at_place : (ls : List Lengths) (b name : List ℕ) → option_map (λ p. part_of b p.content) (place_of ls b name)
+    ≡ file_of (files_of ls b) name
 file_at_place [] b name = refl
-file_at_place (l ∷ ls) b name = by (later_part l b (place_of ls (drop (both l) b) name) ∙ file_at_place ls (drop (both l) b) name) (bytes_eq (take l.name b) name) refl where
-  by : option_map (λ p. part_of b p.content) (option_map (shifted 1 (both l)) (place_of ls (drop (both l) b) name)) ≡ file_of (files_of ls (drop (both l) b)) name → (t : Bool) → bytes_eq (take l.name b) name ≡ t → option_map (λ p. part_of b p.content) (place_of (l ∷ ls) b name) ≡ file_of (files_of (l ∷ ls) b) name
+file_at_place (l ∷ ls) b name = by (later_part l b (place_of ls (drop (both l) b) name)
+    ∙ file_at_place ls (drop (both l) b) name) (bytes_eq (take l.name b) name) refl where
+  by : option_map (λ p. part_of b p.content) (option_map (shifted 1 (both l)) (place_of ls (drop (both l) b) name))
+      ≡ file_of (files_of ls (drop (both l) b)) name → (t : Bool) → bytes_eq (take l.name b) name ≡ t →
+      option_map (λ p. part_of b p.content) (place_of (l ∷ ls) b name) ≡ file_of (files_of (l ∷ ls) b) name
   by rest true e = rw e refl
   by rest false e = rw e rest
 
 -- one content is written anew
-pub resized_set : (ls : List Lengths) (i content : ℕ) (d : Lengths) → set ls i (record { name = (get_or ls i d).name; content = content }) ≡ resized ls i content
+pub resized_set : (ls : List Lengths) (i content : ℕ) (d : Lengths) → set ls i (record { name = (get_or ls i d).name; content = content })
+    ≡ resized ls i content
 resized_set [] i content d = refl
 resized_set (l ∷ ls) zero content d = refl
 resized_set (l ∷ ls) (suc i) content d = ap (λ xs. l ∷ xs) (resized_set ls i content d)
@@ -85,7 +93,8 @@ pub record Placed (ls : List Lengths) (b name new : List ℕ) (p : Place) : Type
   pub files : files_of (resized ls p.index (length new)) (edited b p.content new) ≡ with_file (files_of ls b) name new
 
 -- the first file is changed
-placed_first : (l : Lengths) (ls : List Lengths) (b name new : List ℕ) → total (l ∷ ls) ≤ length b → bytes_eq (take l.name b) name ≡ true → Placed (l ∷ ls) b name new (record { index = 0; content = record { start = l.name; length = l.content } })
+placed_first : (l : Lengths) (ls : List Lengths) (b name new : List ℕ) → total (l ∷ ls) ≤ length b → bytes_eq (take l.name b) name ≡ true →
+    Placed (l ∷ ls) b name new (record { index = 0; content = record { start = l.name; length = l.content } })
 placed_first l ls b name new within same =
     let sum = total_cons l ls in
     let now : Lengths = record { name = l.name; content = length new } in
@@ -100,7 +109,8 @@ placed_first l ls b name new within same =
     }
 
 -- a change behind the front of a buffer
-edited_later : (b new : List ℕ) (k : ℕ) (p : Part) → edited b (record { start = k + p.start; length = p.length }) new ≡ take k b ++ edited (drop k b) p new
+edited_later : (b new : List ℕ) (k : ℕ) (p : Part) → edited b (record { start = k + p.start; length = p.length }) new ≡ take k b
+    ++ edited (drop k b) p new
 edited_later b new k p =
     let front = take-add k p.start b in
     let back : drop (k + p.start + p.length) b ≡ drop (p.start + p.length) (drop k b) =
@@ -114,7 +124,8 @@ edited_later b new k p =
     ∙ ap (λ xs. xs ++ rest) (append_assoc first second new) ∙ append_assoc first (second ++ new) rest
 
 -- a later file is changed
-placed_later : (l : Lengths) (ls : List Lengths) (b name new : List ℕ) (p : Place) → total (l ∷ ls) ≤ length b → bytes_eq (take l.name b) name ≡ false → Placed ls (drop (both l) b) name new p → Placed (l ∷ ls) b name new (shifted 1 (both l) p)
+placed_later : (l : Lengths) (ls : List Lengths) (b name new : List ℕ) (p : Place) → total (l ∷ ls) ≤ length b →
+    bytes_eq (take l.name b) name ≡ false → Placed ls (drop (both l) b) name new p → Placed (l ∷ ls) b name new (shifted 1 (both l) p)
 placed_later l ls b name new p within other later =
     let sum = total_cons l ls in
     let one : 1 + p.index ≡ suc p.index = omega arith in
@@ -142,13 +153,16 @@ mapped f None y e = cc
 mapped f (Some x) y e = (x, refl, cc)
 
 -- a change of a content at the place of its name is what the table owes
-pub placed : (ls : List Lengths) (b name new : List ℕ) (p : Place) → total ls ≤ length b → place_of ls b name ≡ Some p → Placed ls b name new p
+pub placed : (ls : List Lengths) (b name new : List ℕ) (p : Place) → total ls ≤ length b → place_of ls b name ≡ Some p →
+    Placed ls b name new p
 placed [] b name new p within is = cc
-placed (l ∷ ls) b name new p within is = by (λ q at. placed ls (drop (both l) b) name new q rest at) (bytes_eq (take l.name b) name) refl where
+placed (l ∷ ls) b name new p within is = by (λ q at. placed ls (drop (both l) b) name new q rest at) (bytes_eq (take l.name b) name) refl
+    where
   rest : total ls ≤ length (drop (both l) b)
   rest = let sum = total_cons l ls in let size = length-drop (both l) b in omega arith
 
-  by : ((q : Place) → place_of ls (drop (both l) b) name ≡ Some q → Placed ls (drop (both l) b) name new q) → (t : Bool) → bytes_eq (take l.name b) name ≡ t → Placed (l ∷ ls) b name new p
+  by : ((q : Place) → place_of ls (drop (both l) b) name ≡ Some q → Placed ls (drop (both l) b) name new q) → (t : Bool) →
+      bytes_eq (take l.name b) name ≡ t → Placed (l ∷ ls) b name new p
   by later true e =
       let here : Place = record { index = 0; content = record { start = l.name; length = l.content } } in
       let found : Some here ≡ Some p = sym (rw e refl) ∙ is in
@@ -178,7 +192,8 @@ pub record Changed (ls : List Lengths) (b name new : List ℕ) (p : Place) : Typ
   pub size : size_of (with_file (files_of ls b) name new) ≡ length (edited b p.content new)
   pub count : length (with_file (files_of ls b) name new) ≡ length ls
 
-pub changed : (ls : List Lengths) (b name new : List ℕ) (p : Place) → total ls ≡ length b → place_of ls b name ≡ Some p → Changed ls b name new p
+pub changed : (ls : List Lengths) (b name new : List ℕ) (p : Place) → total ls ≡ length b → place_of ls b name ≡ Some p →
+    Changed ls b name new p
 changed ls b name new p filled is =
     let at = placed ls b name new p (omega arith) is in
     let ls' = resized ls p.index (length new) in
@@ -203,7 +218,8 @@ changed ls b name new p filled is =
     }
 
 -- a file of a name that the table has not stands last
-files_added : (ls : List Lengths) (b name new : List ℕ) → total ls ≡ length b → place_of ls b name ≡ None → files_of (ls ++ record { name = length name; content = length new } ∷ []) ((b ++ name) ++ new) ≡ with_file (files_of ls b) name new
+files_added : (ls : List Lengths) (b name new : List ℕ) → total ls ≡ length b → place_of ls b name ≡ None →
+    files_of (ls ++ record { name = length name; content = length new } ∷ []) ((b ++ name) ++ new) ≡ with_file (files_of ls b) name new
 files_added [] [] name new filled none = rw (take-append_seam, drop-append_seam, take-length) refl
 files_added [] (x ∷ b) name new filled none = absurd (omega arith)
 files_added (l ∷ ls) b name new filled none = by (files_added ls (drop (both l) b) name new rest) (bytes_eq (take l.name b) name) refl where
@@ -220,7 +236,10 @@ files_added (l ∷ ls) b name new filled none = by (files_added ls (drop (both l
       ap (λ xs. (xs ++ name) ++ new) (sym (take-append-drop (both l) b)) ∙ ap (λ xs. xs ++ new) (append_assoc front back name)
       ∙ append_assoc front (back ++ name) new ∙ ap (λ xs. xs ++ tail) (take-add l.name l.content b)
 
-  by : (place_of ls (drop (both l) b) name ≡ None → files_of (ls ++ record { name = length name; content = length new } ∷ []) tail ≡ with_file (files_of ls (drop (both l) b)) name new) → (t : Bool) → bytes_eq (take l.name b) name ≡ t → files_of ((l ∷ ls) ++ record { name = length name; content = length new } ∷ []) ((b ++ name) ++ new) ≡ with_file (files_of (l ∷ ls) b) name new
+  by : (place_of ls (drop (both l) b) name ≡ None → files_of (ls ++ record { name = length name; content = length new } ∷ []) tail
+      ≡ with_file (files_of ls (drop (both l) b)) name new) → (t : Bool) → bytes_eq (take l.name b) name ≡ t →
+      files_of ((l ∷ ls) ++ record { name = length name; content = length new } ∷ []) ((b ++ name) ++ new)
+      ≡ with_file (files_of (l ∷ ls) b) name new
   by later true e =
       let here : Place = record { index = 0; content = record { start = l.name; length = l.content } } in
       let found : Some here ≡ None = sym (rw e refl) ∙ none in
@@ -231,14 +250,16 @@ files_added (l ∷ ls) b name new filled none = by (files_added ls (drop (both l
       let cut = front_of b l.name l.content tail (omega arith) in
       let first : List ℕ × List ℕ = (take l.name b, take l.content (drop l.name b)) in
       ap (files_of (l ∷ (ls ++ record { name = length name; content = length new } ∷ []))) buffer_is
-      ∙ rw (cut.first, cut.second, cut.third, e) (ap (λ fs. first ∷ fs) (later (unmapped (shifted 1 (both l)) (place_of ls (drop (both l) b) name) gone)))
+      ∙ rw (cut.first, cut.second, cut.third, e) (ap (λ fs. first ∷ fs)
+          (later (unmapped (shifted 1 (both l)) (place_of ls (drop (both l) b) name) gone)))
 
 -- what an added file makes of the lengths, the buffer and the table
 pub record Added (ls : List Lengths) (b name new : List ℕ) : Type 0 where
   pub filled : total (ls ++ record { name = length name; content = length new } ∷ []) ≡ length ((b ++ name) ++ new)
   pub bytes : length ((b ++ name) ++ new) ≡ length b + (length name + length new)
   pub listed : length (ls ++ record { name = length name; content = length new } ∷ []) ≡ length ls + 1
-  pub files : files_of (ls ++ record { name = length name; content = length new } ∷ []) ((b ++ name) ++ new) ≡ with_file (files_of ls b) name new
+  pub files : files_of (ls ++ record { name = length name; content = length new } ∷ []) ((b ++ name) ++ new)
+      ≡ with_file (files_of ls b) name new
   pub size : size_of (with_file (files_of ls b) name new) ≡ length ((b ++ name) ++ new)
   pub count : length (with_file (files_of ls b) name new) ≡ length ls + 1
 
@@ -265,7 +286,8 @@ added ls b name new filled none =
     }
 
 -- the table of what an edit made, where the edit was made
-pub same_files : (t : Bool) (ls edited_ls : List Lengths) (b edited_b : List ℕ) (fs : Files) → OnTrue t (ls ≡ edited_ls) → OnTrue t (b ≡ edited_b) → files_of edited_ls edited_b ≡ fs → OnTrue t (files_of ls b ≡ fs)
+pub same_files : (t : Bool) (ls edited_ls : List Lengths) (b edited_b : List ℕ) (fs : Files) → OnTrue t (ls ≡ edited_ls) →
+    OnTrue t (b ≡ edited_b) → files_of edited_ls edited_b ≡ fs → OnTrue t (files_of ls b ≡ fs)
 same_files true ls edited_ls b edited_b fs is bytes made = rw (is, bytes) made
 same_files false ls edited_ls b edited_b fs is bytes made = tt
 
@@ -276,6 +298,8 @@ pub record IsFilled (ls : List Lengths) (b : List ℕ) (most room : ℕ) : Type 
   pub within : length b ≤ room
 
 -- what holds before an edit holds after it, where it holds of the edit's outcome
-pub filled_after : (t : Bool) (ls edited_ls now_ls : List Lengths) (b edited_b now_b : List ℕ) (most room : ℕ) → IsFilled ls b most room → OnTrue t (now_ls ≡ edited_ls) → OnTrue t (now_b ≡ edited_b) → OnFalse t (now_ls ≡ ls) → OnFalse t (now_b ≡ b) → (IsTrue t → IsFilled edited_ls edited_b most room) → IsFilled now_ls now_b most room
+pub filled_after : (t : Bool) (ls edited_ls now_ls : List Lengths) (b edited_b now_b : List ℕ) (most room : ℕ) → IsFilled ls b most room →
+    OnTrue t (now_ls ≡ edited_ls) → OnTrue t (now_b ≡ edited_b) → OnFalse t (now_ls ≡ ls) → OnFalse t (now_b ≡ b) →
+    (IsTrue t → IsFilled edited_ls edited_b most room) → IsFilled now_ls now_b most room
 filled_after true ls edited_ls now_ls b edited_b now_b most room before is bytes same same_bytes after = rw (is, bytes) (after refl)
 filled_after false ls edited_ls now_ls b edited_b now_b most room before is bytes same same_bytes after = rw (same, same_bytes) before

@@ -21,4 +21,5 @@ Takes before after text = ForSome before (λ old. after ≡ Some (old ++ text))
 
 -- each file but one is as before
 abbrev pub KeepsOthers : Option Files → Option Files → List ℕ → Type 0
-KeepsOthers before after name = ForSome before (λ old. ForSome after (λ new. (other : List ℕ) → bytes_eq other name ≡ false → file_of new other ≡ file_of old other))
+KeepsOthers before after name = ForSome before (λ old. ForSome after (λ new. (other : List ℕ) → bytes_eq other name ≡ false →
+    file_of new other ≡ file_of old other))

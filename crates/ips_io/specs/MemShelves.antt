@@ -20,7 +20,8 @@ pub record ShelfState : Type 0 where
 
 -- with other files
 abbrev pub with_files : ShelfState → Files → ShelfState
-with_files s fs = record { files = fs; left = s.left; most_files = s.most_files; room = s.room; piece = s.piece; calls = s.calls; faults = s.faults; save_faults = s.save_faults }
+with_files s fs = record { files = fs; left = s.left; most_files = s.most_files; room = s.room; piece = s.piece; calls = s.calls;
+    faults = s.faults; save_faults = s.save_faults }
 
 -- what `begin` opens: the file of the name, unless the call is to fail
 abbrev pub opened : ShelfState → List ℕ → Option (List ℕ)
@@ -41,16 +42,20 @@ after_begin s name = record {
 
 -- after a `read` of so many bytes
 abbrev pub after_read : ShelfState → ℕ → ShelfState
-after_read s n = record { files = s.files; left = option_map (drop n) s.left; most_files = s.most_files; room = s.room; piece = s.piece; calls = after_call s.calls; faults = s.faults; save_faults = s.save_faults }
+after_read s n = record { files = s.files; left = option_map (drop n) s.left; most_files = s.most_files; room = s.room; piece = s.piece;
+    calls = after_call s.calls; faults = s.faults; save_faults = s.save_faults }
 
 -- after a `read` that failed
 abbrev pub after_failed_read : ShelfState → ShelfState
-after_failed_read s = record { files = s.files; left = s.left; most_files = s.most_files; room = s.room; piece = s.piece; calls = after_call s.calls; faults = counted s.faults; save_faults = s.save_faults }
+after_failed_read s = record { files = s.files; left = s.left; most_files = s.most_files; room = s.room; piece = s.piece;
+    calls = after_call s.calls; faults = counted s.faults; save_faults = s.save_faults }
 
 -- after a `save` that put the file into the table
 abbrev pub after_save : ShelfState → List ℕ → List ℕ → ShelfState
-after_save s name bytes = record { files = with_file s.files name bytes; left = None; most_files = s.most_files; room = s.room; piece = s.piece; calls = after_call s.calls; faults = s.faults; save_faults = s.save_faults }
+after_save s name bytes = record { files = with_file s.files name bytes; left = None; most_files = s.most_files; room = s.room;
+    piece = s.piece; calls = after_call s.calls; faults = s.faults; save_faults = s.save_faults }
 
 -- after a `save` that failed
 abbrev pub after_failed_save : ShelfState → ShelfState
-after_failed_save s = record { files = s.files; left = None; most_files = s.most_files; room = s.room; piece = s.piece; calls = after_call s.calls; faults = s.faults; save_faults = counted s.save_faults }
+after_failed_save s = record { files = s.files; left = None; most_files = s.most_files; room = s.room; piece = s.piece;
+    calls = after_call s.calls; faults = s.faults; save_faults = counted s.save_faults }

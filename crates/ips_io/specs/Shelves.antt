@@ -5,7 +5,8 @@ use Rattle.ips_io.specs.Files.{Files, file_of}
 
 -- the table, where it is told after the call, is as before, and all of the named file is left
 abbrev pub Begins : Option Files → Option Files → Option (List ℕ) → List ℕ → Type 0
-Begins before after left name = ForSome after (λ t. (before ≡ Some t) × ((bytes : List ℕ) × (file_of t name ≡ Some bytes) × (left ≡ Some bytes)))
+Begins before after left name = ForSome after (λ t. (before ≡ Some t) × ((bytes : List ℕ) × (file_of t name ≡ Some bytes)
+    × (left ≡ Some bytes)))
 
 -- a table that was told and is told no longer had no file of the name
 abbrev pub IsUntold : Option Files → Option Files → List ℕ → Type 0

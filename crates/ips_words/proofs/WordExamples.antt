@@ -7,7 +7,8 @@ pub plain_solve : request_of (codes "solve" ∷ codes "m" ∷ []) ≡ Some (Solv
 unfolding commands
 plain_solve = refl
 
-pub with_limits : request_of (codes "solve" ∷ codes "m" ∷ codes "--pivots" ∷ codes "0" ∷ codes "--nodes" ∷ codes "5" ∷ codes "--depth" ∷ codes "7" ∷ []) ≡ Some (Solve (codes "m") None 5 7 0 0 None)
+pub with_limits : request_of (codes "solve" ∷ codes "m" ∷ codes "--pivots" ∷ codes "0" ∷ codes "--nodes" ∷ codes "5" ∷ codes "--depth" ∷
+    codes "7" ∷ []) ≡ Some (Solve (codes "m") None 5 7 0 0 None)
 unfolding commands
 with_limits = refl
 
@@ -36,7 +37,8 @@ pub no_words : request_of [] ≡ None
 unfolding commands
 no_words = refl
 
-pub with_both : request_of (codes "solve" ∷ codes "m" ∷ codes "--box" ∷ codes "5" ∷ codes "--digits" ∷ codes "2" ∷ []) ≡ Some (Solve (codes "m") None 100000 800 5000 2 (Some (pos 5)))
+pub with_both : request_of (codes "solve" ∷ codes "m" ∷ codes "--box" ∷ codes "5" ∷ codes "--digits" ∷ codes "2" ∷ [])
+    ≡ Some (Solve (codes "m") None 100000 800 5000 2 (Some (pos 5)))
 unfolding commands
 with_both = refl
 
@@ -52,7 +54,8 @@ pub large_box : request_of (codes "solve" ∷ codes "m" ∷ codes "--box" ∷ co
 unfolding commands
 large_box = refl
 
-pub largest_box : request_of (codes "show" ∷ codes "m" ∷ codes "--box" ∷ codes "16777216" ∷ []) ≡ Some (Show (codes "m") 0 (Some (pos 16777216)))
+pub largest_box : request_of (codes "show" ∷ codes "m" ∷ codes "--box" ∷ codes "16777216" ∷ [])
+    ≡ Some (Show (codes "m") 0 (Some (pos 16777216)))
 unfolding commands
 largest_box = refl
 

@@ -8,7 +8,8 @@ use Rattle.ips_io.specs.Shelves.{IsTooLong, IsUntold, IsWhole}
 use Rattle.ipsens_core.specs.Reads.{Reads, Agrees}
 
 -- one file that was read whole
-pub one_read : (before after : Option Files) (name bytes : List ℕ) → Keeps before after → IsUntold before after name → IsWhole after name bytes
+pub one_read : (before after : Option Files) (name bytes : List ℕ) → Keeps before after → IsUntold before after name →
+    IsWhole after name bytes
     → Agrees before after ((name, bytes) ∷ [])
 one_read None None name bytes keeps untold whole = refl
 one_read None (Some u) name bytes keeps untold whole = absurd (cc (keeps u refl))
@@ -32,10 +33,13 @@ pub record HasLongFile (before after : Option Files) (name : List ℕ) (most : �
 longer : (n : ℕ) → n < length {A = ℕ} (replicate (n + 1) 0)
 longer n = let e : length {A = ℕ} (replicate (n + 1) 0) ≡ n + 1 = length-replicate (n + 1) 0 in rw e (omega arith)
 
-pub long_read : (before after : Option Files) (name : List ℕ) (most : ℕ) → Keeps before after → IsUntold before after name → IsTooLong after name most
+pub long_read : (before after : Option Files) (name : List ℕ) (most : ℕ) → Keeps before after → IsUntold before after name →
+    IsTooLong after name most
     → HasLongFile before after name most
 long_read before None name most keeps untold long =
-    record { bytes = replicate (most + 1) 0; long = longer most; agrees = one_read before None name (replicate (most + 1) 0) keeps untold (λ u is. absurd (cc is)) }
+    record { bytes = replicate (most + 1) 0; long = longer most;
+        agrees = one_read before None name (replicate (most + 1) 0) keeps untold (λ u is. absurd (cc is)) }
 long_read before (Some u) name most keeps untold long =
     let p = long u refl in
-    record { bytes = p.0; long = p.2; agrees = one_read before (Some u) name p.0 keeps untold (λ v is. let same : u ≡ v = cc is in rw (sym same) p.1) }
+    record { bytes = p.0; long = p.2; agrees = one_read before (Some u) name p.0 keeps untold (λ v is. let same : u ≡ v = cc is in
+        rw (sym same) p.1) }

@@ -15,6 +15,7 @@ use Rattle.ipsens_core.specs.declared.statuses.Status.TheVariants.{Answered}
 pub shown_written : (m : Parts) (status : Status) (text : List ℕ) → IsShown m (says status text) → IsWritten status
 shown_written m status text = by (is_printable m)
   where
-    by : (t : Bool) → MatchBool t (says status text ≡ says Answered (canonical_text m)) (says status text ≡ refuses_model (codes "unprintable")) → IsWritten status
+    by : (t : Bool) → MatchBool t (says status text ≡ says Answered (canonical_text m)) (says status text
+        ≡ refuses_model (codes "unprintable")) → IsWritten status
     by true e = inl (ap (λ (a : Answer). a.status) e)
     by false e = inr (inl (ap (λ (a : Answer). a.status) e))

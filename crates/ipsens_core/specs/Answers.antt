@@ -19,7 +19,8 @@ says status text = record { status = status; text = text; saved = None }
 -- its bytes and the files after it
 abbrev pub ReadsFile : List ℕ → ℕ → Answer → (List ℕ → Reads → Answer → Type 0) → Reads → Answer → Type 0
 ReadsFile name longest too_long Rest [] a = ⊥
-ReadsFile name longest too_long Rest (r ∷ rs) a = (r.0 ≡ name) × MatchBool (nat_lt longest (length r.1)) ((rs ≡ []) × (a ≡ too_long)) (Rest r.1 rs a)
+ReadsFile name longest too_long Rest (r ∷ rs) a = (r.0 ≡ name) × MatchBool (nat_lt longest (length r.1)) ((rs ≡ [])
+    × (a ≡ too_long)) (Rest r.1 rs a)
 
 -- no further file is read
 abbrev pub ReadsNoMore : (Answer → Type 0) → Reads → Answer → Type 0

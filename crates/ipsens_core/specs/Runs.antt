@@ -11,13 +11,15 @@ use Rattle.ips_words.specs.Requests.{usage_text}
 use Rattle.ips_words.specs.declared.requests.Request.{Request}
 use Rattle.ips_words.specs.declared.requests.Request.TheVariants.{Solve, Check, Ask, Sweep, Recheck, Show, Trial}
 use Rattle.ipsens_core.specs.declared.statuses.Status.{Status}
-use Rattle.ipsens_core.specs.declared.statuses.Status.TheVariants.{Answered, NotProved, Usage, Refused, Budget, Wide, ReadFault, WriteFault, Memory}
+use Rattle.ipsens_core.specs.declared.statuses.Status.TheVariants.{Answered, NotProved, Usage, Refused, Budget, Wide, ReadFault,
+    WriteFault, Memory}
 
 -- ---- the run relation
 
 -- what is owed to a request: a line for each command that is built. No words ask for the others
 abbrev pub AnswersRequest : Request → Reads → Answer → Type 0
-AnswersRequest (Solve model tree nodes depth pivots digits box_side) = AnswersSolve model (record { digits = digits; box_side = box_side }) nodes depth pivots
+AnswersRequest (Solve model tree nodes depth pivots digits box_side) = AnswersSolve model (record { digits = digits;
+    box_side = box_side }) nodes depth pivots
 AnswersRequest (Check model tree digits box_side) = λ rs a. ⊥
 AnswersRequest (Ask model tree questions digits box_side) = λ rs a. ⊥
 AnswersRequest (Sweep model sweep proof nodes depth pivots digits box_side) = λ rs a. ⊥

@@ -23,7 +23,8 @@ pub least_more : (ps : List (ℕ × ℤ)) (i : ℕ) → number_at ps i + 1 ≡ l
 least_more ps i = sym (ap (least_after ps) (add-one i))
 
 -- no number before is as great as the first free row
-below_least : (ps : List (ℕ × ℤ)) (i : ℕ) → ((h k : ℕ) → h < k → k < i → number_at ps h < number_at ps k) → (h : ℕ) → h < i → number_at ps h < least_after ps i
+below_least : (ps : List (ℕ × ℤ)) (i : ℕ) → ((h k : ℕ) → h < k → k < i → number_at ps h < number_at ps k) → (h : ℕ) → h < i →
+    number_at ps h < least_after ps i
 below_least ps zero rising h l = absurd (omega arith)
 below_least ps (suc i) rising h l = by (h == i) refl
   where
@@ -35,7 +36,8 @@ below_least ps (suc i) rising h l = by (h == i) refl
         omega arith
 
 -- one more pair
-pub first_more : (ps : List (ℕ × ℤ)) (rows i : ℕ) → AreFirst ps rows i → IsNext (least_after ps i) (number_at ps i) (value_at ps i) rows → AreFirst ps rows (i + 1)
+pub first_more : (ps : List (ℕ × ℤ)) (rows i : ℕ) → AreFirst ps rows i → IsNext (least_after ps i) (number_at ps i) (value_at ps i) rows →
+    AreFirst ps rows (i + 1)
 first_more ps rows i before next = record {
   rising = λ h k below l. by h k below l (k == i) refl;
   within = below_more (λ k. number_at ps k < rows) i before.within next.within;

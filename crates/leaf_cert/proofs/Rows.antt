@@ -12,7 +12,10 @@ use Rattle.ip_model.proofs.WalkLaws.{place_below}
 use Rattle.ring_laws.proofs.Products.{mul_add}
 
 -- a multiple of a row is added at one more column
-pub row_step : (old d : List ℤ) (ps : List (ℕ × ℤ)) (k : ℕ) (m r : ℤ) → k < length ps → ((j : ℕ) → j < length d → at d j ≡ at old j +ℤ m *ℤ coefficient (take k ps) j) → number_at ps k < length d → r ≡ at d (number_at ps k) +ℤ m *ℤ (get_or ps k (0, pos 0)).1 → (j : ℕ) → j < length d → at (set d (number_at ps k) r) j ≡ at old j +ℤ m *ℤ coefficient (take (k + 1) ps) j
+pub row_step : (old d : List ℤ) (ps : List (ℕ × ℤ)) (k : ℕ) (m r : ℤ) → k < length ps →
+    ((j : ℕ) → j < length d → at d j ≡ at old j +ℤ m *ℤ coefficient (take k ps) j) → number_at ps k < length d →
+    r ≡ at d (number_at ps k) +ℤ m *ℤ (get_or ps k (0, pos 0)).1 → (j : ℕ) → j < length d →
+    at (set d (number_at ps k) r) j ≡ at old j +ℤ m *ℤ coefficient (take (k + 1) ps) j
 row_step old d ps k m r l before inside is j within = by (number_at ps k == j) refl
   where
     col : ℕ
@@ -25,7 +28,8 @@ row_step old d ps k m r l before inside is j within = by (number_at ps k == j) r
     by true e =
         let same : col ≡ j = eqb-true col j e in
         let more = coefficient_more ps k j l in
-        let more' : coefficient (take (k + 1) ps) j ≡ coefficient (take k ps) j +ℤ a = more ∙ ap (λ t. coefficient (take k ps) j +ℤ cond t a (pos 0)) e in
+        let more' : coefficient (take (k + 1) ps) j ≡ coefficient (take k ps) j +ℤ a = more
+                ∙ ap (λ t. coefficient (take k ps) j +ℤ cond t a (pos 0)) e in
         let out = ap (λ z. m *ℤ z) more' ∙ mul_add m (coefficient (take k ps) j) a in
         let was = before j within in
         let at_col : at d col ≡ at d j = ap (at d) same in
@@ -33,7 +37,8 @@ row_step old d ps k m r l before inside is j within = by (number_at ps k == j) r
         omega (arith, ints)
     by false e =
         let more = coefficient_more ps k j l in
-        let more' : coefficient (take (k + 1) ps) j ≡ coefficient (take k ps) j +ℤ pos 0 = more ∙ ap (λ t. coefficient (take k ps) j +ℤ cond t a (pos 0)) e in
+        let more' : coefficient (take (k + 1) ps) j ≡ coefficient (take k ps) j +ℤ pos 0 = more
+                ∙ ap (λ t. coefficient (take k ps) j +ℤ cond t a (pos 0)) e in
         let out = ap (λ z. m *ℤ z) more' ∙ mul_add m (coefficient (take k ps) j) (pos 0) in
         let was = before j within in
         let apart : col ≢ j = eqb-false col j e in
@@ -41,7 +46,8 @@ row_step old d ps k m r l before inside is j within = by (number_at ps k == j) r
         omega (arith, ints)
 
 -- numbers that rise below n are at most n
-pub length_below : {A : Type 0} (ps : List (ℕ × ℤ)) (xs : List A) → ((h k : ℕ) → h < k → k < length ps → number_at ps h < number_at ps k) → ((i : ℕ) → i < length ps → number_at ps i < length xs) → length ps ≤ length xs
+pub length_below : {A : Type 0} (ps : List (ℕ × ℤ)) (xs : List A) → ((h k : ℕ) → h < k → k < length ps → number_at ps h < number_at ps k) →
+    ((i : ℕ) → i < length ps → number_at ps i < length xs) → length ps ≤ length xs
 length_below [] xs rising within = omega arith
 length_below (p ∷ ps) xs rising within =
     let place = place_below (p ∷ ps) (length ps) rising (omega arith) in

@@ -29,7 +29,8 @@ ceiling_scale k (negsuc x) n =
     let less : ℕ = x * suc k + k in
     let e : pos (suc k) *ℤ negsuc x ≡ negsuc less = omega (arith, ints) in
     let is : suc less ≡ suc k * suc x = omega arith in
-    let quotient : suc less / (suc k * suc n) ≡ suc x / suc n = sym (div-div-eq-div-mul (suc less) (suc k) (suc n)) ∙ ap (λ z. z / suc k / suc n) is ∙ ap (λ z. z / suc n) (mul-div_cancel_left (suc x) (omega arith)) in
+    let quotient : suc less / (suc k * suc n) ≡ suc x / suc n = sym (div-div-eq-div-mul (suc less) (suc k) (suc n))
+            ∙ ap (λ z. z / suc k / suc n) is ∙ ap (λ z. z / suc n) (mul-div_cancel_left (suc x) (omega arith)) in
     ap (λ z. ceiling z (suc k * suc n)) e ∙ ap (λ z. neg_ℤ (pos z)) quotient
 
 -- equal fractions are rounded up alike

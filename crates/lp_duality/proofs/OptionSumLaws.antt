@@ -27,18 +27,21 @@ plus_zero (Some x) = ap Some (rationals.add_zero x)
 
 pub sum_of_all_same : (f g : ℕ → Option Rational) (n : ℕ) → ((k : ℕ) → k < n → f k ≡ g k) → sum_of_all f n ≡ sum_of_all g n
 sum_of_all_same f g zero h = refl
-sum_of_all_same f g (suc n) h = ap (λ o. plus o (f n)) (sum_of_all_same f g n (λ k l. h k (omega arith))) ∙ ap (plus (sum_of_all g n)) (h n (omega arith))
+sum_of_all_same f g (suc n) h = ap (λ o. plus o (f n)) (sum_of_all_same f g n (λ k l. h k (omega arith)))
+    ∙ ap (plus (sum_of_all g n)) (h n (omega arith))
 
 pub sum_of_all_zero : (n : ℕ) → sum_of_all (λ k. Some (of (pos 0))) n ≡ Some (of (pos 0))
 sum_of_all_zero zero = refl
 sum_of_all_zero (suc n) = ap (λ o. plus o (Some (of (pos 0)))) (sum_of_all_zero n) ∙ plus_zero (Some (of (pos 0)))
 
 -- one summand more, in a place where there was 0
-pub sum_of_all_one : (f g : ℕ → Option Rational) (i n : ℕ) → i < n → ((k : ℕ) → k < n → k ≢ i → f k ≡ g k) → g i ≡ Some (of (pos 0)) → sum_of_all f n ≡ plus (f i) (sum_of_all g n)
+pub sum_of_all_one : (f g : ℕ → Option Rational) (i n : ℕ) → i < n → ((k : ℕ) → k < n → k ≢ i → f k ≡ g k) → g i ≡ Some (of (pos 0)) →
+    sum_of_all f n ≡ plus (f i) (sum_of_all g n)
 sum_of_all_one f g i zero l h z = absurd (omega arith)
 sum_of_all_one f g i (suc n) l h z = by (i == n) refl (λ m. sum_of_all_one f g i n m (λ k o. h k (omega arith)) z)
   where
-    by : (t : Bool) → (i == n) ≡ t → (i < n → sum_of_all f n ≡ plus (f i) (sum_of_all g n)) → plus (sum_of_all f n) (f n) ≡ plus (f i) (plus (sum_of_all g n) (g n))
+    by : (t : Bool) → (i == n) ≡ t → (i < n → sum_of_all f n ≡ plus (f i) (sum_of_all g n)) →
+        plus (sum_of_all f n) (f n) ≡ plus (f i) (plus (sum_of_all g n) (g n))
     by true e before =
         let is = eqb-true i n e in
         ap (λ o. plus o (f n)) (sum_of_all_same f g n (λ k o. h k (omega arith) (omega arith)))

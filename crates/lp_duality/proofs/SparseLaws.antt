@@ -27,7 +27,8 @@ coefficient_absent (p ∷ ps) k h = by (p.0 == k) refl (coefficient_absent ps k 
 
 -- the number of the first pair is not listed again
 pub coefficient_free : (n : ℕ) (p : ℕ × ℤ) (ps : List (ℕ × ℤ)) → AreOrdered n (p ∷ ps) → coefficient ps p.0 ≡ pos 0
-coefficient_free n p ps o = coefficient_absent ps p.0 (λ i l e. let rises = o.rising 0 (suc i) (omega arith) (omega arith) in absurd (omega arith))
+coefficient_free n p ps o = coefficient_absent ps p.0 (λ i l e. let rises = o.rising 0 (suc i) (omega arith) (omega arith) in
+    absurd (omega arith))
 
 pub coefficient_same : (p : ℕ × ℤ) (ps : List (ℕ × ℤ)) → coefficient (p ∷ ps) p.0 ≡ p.1 +ℤ coefficient ps p.0
 coefficient_same p ps = by (p.0 == p.0) refl
@@ -48,7 +49,8 @@ sum_one : (f g : ℕ → ℤ) (i n : ℕ) → i < n → ((k : ℕ) → k < n →
 sum_one f g i zero l h = absurd (omega arith)
 sum_one f g i (suc n) l h = by (i == n) refl (λ m. sum_one f g i n m (λ k o. h k (omega arith)))
   where
-    by : (t : Bool) → (i == n) ≡ t → (i < n → sum_below f n ≡ (f i -ℤ g i) +ℤ sum_below g n) → sum_below f n +ℤ f n ≡ (f i -ℤ g i) +ℤ (sum_below g n +ℤ g n)
+    by : (t : Bool) → (i == n) ≡ t → (i < n → sum_below f n ≡ (f i -ℤ g i) +ℤ sum_below g n) →
+        sum_below f n +ℤ f n ≡ (f i -ℤ g i) +ℤ (sum_below g n +ℤ g n)
     by true e before =
         let is = eqb-true i n e in
         let rest = sum_same f g n (λ k o. h k (omega arith) (omega arith)) in
@@ -62,10 +64,13 @@ sum_one f g i (suc n) l h = by (i == n) refl (λ m. sum_one f g i n m (λ k o. h
         omega (arith, ints)
 
 -- a sum over all numbers is the sum over what is listed
-pub coefficient_sum : (e : ℕ → ℤ) (n : ℕ) (ps : List (ℕ × ℤ)) → ((i : ℕ) → i < length ps → number_at ps i < n) → sum_below (λ k. coefficient ps k *ℤ e k) n ≡ sum_over (λ p. p.1 *ℤ e p.0) ps
+pub coefficient_sum : (e : ℕ → ℤ) (n : ℕ) (ps : List (ℕ × ℤ)) → ((i : ℕ) → i < length ps → number_at ps i < n) →
+    sum_below (λ k. coefficient ps k *ℤ e k) n ≡ sum_over (λ p. p.1 *ℤ e p.0) ps
 coefficient_sum e n [] h = sum_same (λ k. pos 0 *ℤ e k) (λ k. pos 0) n (λ k l. omega (arith, ints)) ∙ sum_zero n
 coefficient_sum e n (p ∷ ps) h =
     let rest = coefficient_sum e n ps (λ i l. h (suc i) (omega arith)) in
-    let one = sum_one (λ k. coefficient (p ∷ ps) k *ℤ e k) (λ k. coefficient ps k *ℤ e k) p.0 n (h 0 (omega arith)) (λ k l m. ap (λ z. z *ℤ e k) (coefficient_other p ps k m)) in
-    let first : coefficient (p ∷ ps) p.0 *ℤ e p.0 ≡ p.1 *ℤ e p.0 +ℤ coefficient ps p.0 *ℤ e p.0 = ap (λ z. z *ℤ e p.0) (coefficient_same p ps) ∙ add_mul p.1 (coefficient ps p.0) (e p.0) in
+    let one = sum_one (λ k. coefficient (p ∷ ps) k *ℤ e k) (λ k. coefficient ps k *ℤ e k) p.0 n (h 0 (omega arith))
+            (λ k l m. ap (λ z. z *ℤ e k) (coefficient_other p ps k m)) in
+    let first : coefficient (p ∷ ps) p.0 *ℤ e p.0 ≡ p.1 *ℤ e p.0 +ℤ coefficient ps p.0 *ℤ e p.0 =
+            ap (λ z. z *ℤ e p.0) (coefficient_same p ps) ∙ add_mul p.1 (coefficient ps p.0) (e p.0) in
     omega (arith, ints)

@@ -15,4 +15,4 @@ AreMultiples c rows a y = (k : ℕ) → k < rows → multiplier c k ≡ mul a (y
 
 -- the least whole number at least a rational one
 abbrev pub rounded_up : Rational → ℤ
-rounded_up g = ceiling g.top (suc g.less)
+rounded_up g = ceiling g.numerator (suc g.less)

@@ -1,23 +1,25 @@
--- Dual values over the rational numbers: what multipliers of the rows, one for each row, pay and bound. The dual value of a certificate, which
+-- Dual values over the rational numbers: what multipliers of the rows, one for each row, pay and bound. The dual value of a certificate,
+-- which
 -- is over whole numbers, is that of its multipliers.
 use Rattle.std.specs.Prelude.{ℕ, zero, suc, if◌then◌else◌, List, length, Option, Some, option_map, option_and_then, ℤ, pos, ◌*ℤ◌, Bool}
 use Rattle.std.specs.Int.Signed.{lt_z}
 use Rattle.ip_defs.specs.Program.{low_at, high_at}
 use Rattle.ip_defs.specs.Certificates.{entry as coefficient_of}
 use Rattle.ip_defs.specs.declared.programs.Parts.{Parts}
-use Rattle.frac128.specs.Rationals.{Rational, bottom, of, add, sub, mul, sum}
+use Rattle.frac128.specs.Rationals.{Rational, denominator, of, add, sub, mul, sum}
 use Rattle.lp_duality.specs.Relaxations.{row_low, row_high, cost_of}
 
 -- a number is below another one: their cross products say so
 abbrev pub is_below : Rational → Rational → Bool
-is_below p q = lt_z (p.top *ℤ bottom q) (q.top *ℤ bottom p)
+is_below p q = lt_z (p.numerator *ℤ denominator q) (q.numerator *ℤ denominator p)
 
 abbrev pub lesser : Rational → Rational → Rational
 lesser p q = if is_below q p then q else p
 
 -- a multiplier times the side that it pays: the low side for a positive one, the high side for a negative one, and 0 for 0
 abbrev pub paid : Rational → Option ℤ → Option ℤ → Option Rational
-paid y low high = if lt_z (pos 0) y.top then option_map (λ side. mul y (of side)) low else if lt_z y.top (pos 0) then option_map (λ side. mul y (of side)) high else Some (of (pos 0))
+paid y low high = if lt_z (pos 0) y.numerator then option_map (λ side. mul y (of side)) low else if lt_z y.numerator (pos 0)
+    then option_map (λ side. mul y (of side)) high else Some (of (pos 0))
 
 -- f 0 + .. + f (n - 1), where each is there
 abbrev pub sum_of_all : (ℕ → Option Rational) → ℕ → Option Rational
@@ -31,5 +33,6 @@ left_of m q y j = sub (mul q (cost_of m j)) (sum (λ k. mul (y k) (of (coefficie
 -- the dual value of q and multipliers over a box, none where a side that is paid is absent
 abbrev pub dual : Parts → List (ℤ × ℤ) → Rational → (ℕ → Rational) → Option Rational
 dual m b q y =
-    option_map (λ pay. add (add pay (mul q (of m.constant))) (sum (λ j. lesser (mul (left_of m q y j) (of (low_at b j))) (mul (left_of m q y j) (of (high_at b j)))) (length m.columns)))
+    option_map (λ pay. add (add pay (mul q (of m.constant)))
+        (sum (λ j. lesser (mul (left_of m q y j) (of (low_at b j))) (mul (left_of m q y j) (of (high_at b j)))) (length m.columns)))
     (sum_of_all (λ k. paid (y k) (row_low m k) (row_high m k)) (length m.rows))

@@ -14,24 +14,32 @@ use Rattle.lp_duality.specs.CertificateDuals.{multiplier, AreMultiples, rounded_
 
 -- a positive multiple of q and the multipliers has that multiple of the dual value
 abbrev pub DualsAreScaled : Type 0
-DualsAreScaled = (m : Parts) (b : List (ℤ × ℤ)) (a q : Rational) (y : ℕ → Rational) → pos 0 <ℤ a.top → dual m b (mul a q) (λ k. mul a (y k)) ≡ option_map (mul a) (dual m b q y)
+DualsAreScaled = (m : Parts) (b : List (ℤ × ℤ)) (a q : Rational) (y : ℕ → Rational) → pos 0 <ℤ a.numerator →
+    dual m b (mul a q) (λ k. mul a (y k)) ≡ option_map (mul a) (dual m b q y)
 
 -- the dual value of a certificate is that of its multipliers
 abbrev pub CertificatesHaveTheirDuals : Type 0
-CertificatesHaveTheirDuals = (m : Parts) (b : List (ℤ × ℤ)) (c : Cert) → AreOrdered (length m.rows) c.y → length b ≡ length m.columns → dual m b (of c.q) (multiplier c) ≡ option_map of (dual_value m b c.q c.y)
+CertificatesHaveTheirDuals = (m : Parts) (b : List (ℤ × ℤ)) (c : Cert) → AreOrdered (length m.rows) c.y → length b ≡ length m.columns →
+    dual m b (of c.q) (multiplier c) ≡ option_map of (dual_value m b c.q c.y)
 
 -- a certificate whose multipliers are its positive q times y bounds by the dual value of y, rounded up
 abbrev pub PricesBound : Type 0
-PricesBound = (m : Parts) (b : List (ℤ × ℤ)) (c : Cert) (y : ℕ → Rational) (g : Rational) → AreOrdered (length m.rows) c.y → length b ≡ length m.columns → IsOpen b → pos 0 <ℤ c.q → AreMultiples c (length m.rows) (of c.q) y → dual m b (of (pos 1)) y ≡ Some g → leaf_bound m b c ≡ At (rounded_up g)
+PricesBound = (m : Parts) (b : List (ℤ × ℤ)) (c : Cert) (y : ℕ → Rational) (g : Rational) → AreOrdered (length m.rows) c.y →
+    length b ≡ length m.columns → IsOpen b → pos 0 <ℤ c.q → AreMultiples c (length m.rows) (of c.q) y → dual m b (of (pos 1)) y ≡ Some g →
+    leaf_bound m b c ≡ At (rounded_up g)
 
 -- a certificate with q = 0 whose multipliers are a positive multiple of y leaves no point, where the dual value of y is positive
 abbrev pub RaysBound : Type 0
-RaysBound = (m : Parts) (b : List (ℤ × ℤ)) (c : Cert) (a : Rational) (y : ℕ → Rational) (g : Rational) → AreOrdered (length m.rows) c.y → length b ≡ length m.columns → c.q ≡ pos 0 → pos 0 <ℤ a.top → AreMultiples c (length m.rows) a y → dual m b (of (pos 0)) y ≡ Some g → pos 0 <ℤ g.top → leaf_bound m b c ≡ Infinite
+RaysBound = (m : Parts) (b : List (ℤ × ℤ)) (c : Cert) (a : Rational) (y : ℕ → Rational) (g : Rational) → AreOrdered (length m.rows) c.y →
+    length b ≡ length m.columns → c.q ≡ pos 0 → pos 0 <ℤ a.numerator → AreMultiples c (length m.rows) a y →
+    dual m b (of (pos 0)) y ≡ Some g → pos 0 <ℤ g.numerator → leaf_bound m b c ≡ Infinite
 
 -- weak duality over relaxations: a dual value is at most q times the cost of each point of the relaxation
 abbrev pub RelaxedWeakDuality : Type 0
-RelaxedWeakDuality = (m : Parts) (b : List (ℤ × ℤ)) (q : Rational) (y x : ℕ → Rational) (g : Rational) → IsRelaxed m b x → dual m b q y ≡ Some g → AtMost g (mul q (total_cost m x))
+RelaxedWeakDuality = (m : Parts) (b : List (ℤ × ℤ)) (q : Rational) (y x : ℕ → Rational) (g : Rational) → IsRelaxed m b x →
+    dual m b q y ≡ Some g → AtMost g (mul q (total_cost m x))
 
 -- a feasible point in a box is a point of the relaxation there, and costs the same
 abbrev pub FeasiblePointsAreRelaxed : Type 0
-FeasiblePointsAreRelaxed = (m : Parts) (b : List (ℤ × ℤ)) (x : List ℤ) → length b ≡ length m.columns → IsFeasible m x → IsIn b x → IsRelaxed m b (λ j. of (at x j)) × (total_cost m (λ j. of (at x j)) ≡ of (cost m x))
+FeasiblePointsAreRelaxed = (m : Parts) (b : List (ℤ × ℤ)) (x : List ℤ) → length b ≡ length m.columns → IsFeasible m x → IsIn b x →
+    IsRelaxed m b (λ j. of (at x j)) × (total_cost m (λ j. of (at x j)) ≡ of (cost m x))

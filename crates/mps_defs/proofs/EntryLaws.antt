@@ -1,5 +1,6 @@
 -- The entries of a section as more lines come, and which of them are kept.
-use Rattle.std.specs.Prelude.{◌≡◌, Bool, true, false, ◌&&◌, ◌||◌, not, ℕ, List, ◌++◌, map, filter, flat_map, find, Option, None, Some, option_map, bytes_eq, codes}
+use Rattle.std.specs.Prelude.{◌≡◌, Bool, true, false, ◌&&◌, ◌||◌, not, ℕ, List, ◌++◌, map, filter, flat_map, find, Option, None, Some,
+    option_map, bytes_eq, codes}
 use Rattle.std.specs.Option.{option_map_or}
 use Rattle.std.proofs.Common.{ap, sym, ◌∙◌}
 use Rattle.std.proofs.lemmas.Grind.{flat_map-append}
@@ -7,7 +8,8 @@ use Rattle.ip_defs.specs.Lists.{first_of}
 use Rattle.ip_defs.proofs.BoolLaws.{left_true, right_true}
 use Rattle.ip_defs.proofs.TextLaws.{text_same}
 use Rattle.mps_defs.specs.Lists.{is_among}
-use Rattle.mps_defs.specs.Records.{Line, Entry, items_of, row_name, is_free, is_objective, is_dropped_row, is_columns, set_of, entries_of, all_entries, is_kept, is_kept_set}
+use Rattle.mps_defs.specs.Records.{Line, Entry, items_of, row_name, is_free, is_objective, is_dropped_row, is_columns, set_of, entries_of,
+    all_entries, is_kept, is_kept_set}
 use Rattle.mps_defs.proofs.LineLaws.{items_of-append}
 
 pub all_entries-append : (word : List ℕ) (xs ys : List Line) → all_entries word (xs ++ ys) ≡ all_entries word xs ++ all_entries word ys

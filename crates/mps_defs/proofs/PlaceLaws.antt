@@ -1,5 +1,6 @@
 -- The first place where a test passes, and the places of names.
-use Rattle.std.specs.Prelude.{◌≡◌, ℕ, zero, suc, ◌+◌, nat_lt, Bool, true, false, cond, not, ◌||◌, if◌then◌else◌, List, [], ◌∷◌, ◌++◌, length, position, slice_get, Option, None, Some, option_map, bytes_eq}
+use Rattle.std.specs.Prelude.{◌≡◌, ℕ, zero, suc, ◌+◌, nat_lt, Bool, true, false, cond, not, ◌||◌, if◌then◌else◌, List, [], ◌∷◌, ◌++◌,
+    length, position, slice_get, Option, None, Some, option_map, bytes_eq}
 use Rattle.std.specs.List.{list_any, position_or_len}
 use Rattle.std.specs.Option.{option_or, is_some}
 use Rattle.std.proofs.Common.{refl, arith, sym, ◌∙◌, ap}

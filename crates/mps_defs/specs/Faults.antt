@@ -1,6 +1,7 @@
 -- What is wrong with an MPS text, in the order in which refusals are answered: line by line, each line judged from itself and the
 -- lines before it; then the end of the text, the objective, the columns, and the limits of the model.
-use Rattle.std.specs.Prelude.{◌≡◌, ℕ, ◌==◌, nat_lt, nat_le, Bool, false, ◌&&◌, ◌||◌, not, if◌then◌else◌, List, [], ◌∷◌, ◌++◌, length, map, flat_map, position, Option, None, Some, bytes_eq, codes, ℤ, neg_ℤ, Result, Ok, Err}
+use Rattle.std.specs.Prelude.{◌≡◌, ℕ, ◌==◌, nat_lt, nat_le, Bool, false, ◌&&◌, ◌||◌, not, if◌then◌else◌, List, [], ◌∷◌, ◌++◌, length, map,
+    flat_map, position, Option, None, Some, bytes_eq, codes, ℤ, neg_ℤ, Result, Ok, Err}
 use Rattle.std.specs.List.{list_any, list_all}
 use Rattle.std.specs.Option.{option_map_or, is_none}
 use Rattle.std.specs.Str.{is_utf8}
@@ -8,15 +9,19 @@ use Rattle.std.specs.Int.Signed.{lt_z}
 use Rattle.ip_defs.specs.Lists.{when, first_of}
 use Rattle.mps_defs.specs.Lists.{last_of, after_those, with_earlier, is_among}
 use Rattle.mps_defs.specs.Numbers.{is_number, decimals_of}
-use Rattle.mps_defs.specs.Records.{Line, Entry, lines_of, field, items_of, words_of, row_kind, row_name, row_names, objective, is_marker, in_force, column_name, column_names, has_column, entries_of, all_entries, is_kept, takes_number, takes_none, bound_column, bound_text}
-use Rattle.mps_defs.specs.TextModels.{is_negative_number, lower_side, upper_side, lower_entry, upper_entry, is_integer, kind_is, model_from, number_or_zero}
+use Rattle.mps_defs.specs.Records.{Line, Entry, lines_of, field, items_of, words_of, row_kind, row_name, row_names, objective, is_marker,
+    in_force, column_name, column_names, has_column, entries_of, all_entries, is_kept, takes_number, takes_none, bound_column, bound_text}
+use Rattle.mps_defs.specs.TextModels.{is_negative_number, lower_side, upper_side, lower_entry, upper_entry, is_integer, kind_is,
+    model_from, number_or_zero}
 use Rattle.ip_defs.specs.Limits.{limits_of}
 use Rattle.mps_defs.specs.declared.texts.How.{How}
 use Rattle.ip_defs.specs.declared.programs.Parts.{Parts}
 use Rattle.mps_defs.specs.declared.texts.Side.TheVariants.{Lower, Upper}
 use Rattle.mps_defs.specs.declared.texts.MpsError.{MpsError}
 use Rattle.mps_defs.specs.declared.texts.MpsError.TheVariants as Out
-use Rattle.mps_defs.specs.declared.texts.MpsError.TheVariants.{NotUtf8, SectionOrder, UnknownSection, FieldCount, RowKind, TwiceRow, UnknownRow, SplitColumn, TwiceEntry, Number, Marker, BoundKind, UnknownColumn, Continuous, NoBound, NegativeUpper, Limit, NoObjective, NoEnd, Digits}
+use Rattle.mps_defs.specs.declared.texts.MpsError.TheVariants.{NotUtf8, SectionOrder, UnknownSection, FieldCount, RowKind, TwiceRow,
+    UnknownRow, SplitColumn, TwiceEntry, Number, Marker, BoundKind, UnknownColumn, Continuous, NoBound, NegativeUpper, Limit, NoObjective,
+    NoEnd, Digits}
 
 -- section lines
 

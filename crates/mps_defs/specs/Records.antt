@@ -1,5 +1,6 @@
 -- The lines of an MPS text, up to the ENDATA line, and what they write: rows, columns, entries and bounds.
-use Rattle.std.specs.Prelude.{ℕ, ◌-◌, ◌%◌, ◌==◌, nat_le, Bool, true, false, ◌&&◌, ◌||◌, not, if◌then◌else◌, List, [], ◌∷◌, ◌++◌, length, take, drop, map, filter, flat_map, find, Option, option_map, slice_index_or, bytes_eq, codes}
+use Rattle.std.specs.Prelude.{ℕ, ◌-◌, ◌%◌, ◌==◌, nat_le, Bool, true, false, ◌&&◌, ◌||◌, not, if◌then◌else◌, List, [], ◌∷◌, ◌++◌, length,
+    take, drop, map, filter, flat_map, find, Option, option_map, slice_index_or, bytes_eq, codes}
 use Rattle.std.specs.List.{slice_split, enumerate_from}
 use Rattle.std.specs.Option.{option_map_or}
 use Rattle.mps_defs.specs.Lists.{with_earlier, through_first, is_among, last_of}

@@ -1,5 +1,6 @@
 -- The model of a text: each number is looked up in the whole list of what the text writes.
-use Rattle.std.specs.Prelude.{◌≤◌, ◌≤ℤ◌, ℕ, ◌+◌, ◌-◌, ◌^◌, ◌==◌, max, Bool, ◌&&◌, ◌||◌, not, if◌then◌else◌, List, [], ◌∷◌, ◌++◌, map, filter, filter_map, find, fold, Option, None, Some, option_map, unwrap_or, bytes_eq, codes, ℤ, pos, neg_ℤ, ◌+ℤ◌, ◌-ℤ◌, ◌*ℤ◌}
+use Rattle.std.specs.Prelude.{◌≤◌, ◌≤ℤ◌, ℕ, ◌+◌, ◌-◌, ◌^◌, ◌==◌, max, Bool, ◌&&◌, ◌||◌, not, if◌then◌else◌, List, [], ◌∷◌, ◌++◌, map,
+    filter, filter_map, find, fold, Option, None, Some, option_map, unwrap_or, bytes_eq, codes, ℤ, pos, neg_ℤ, ◌+ℤ◌, ◌-ℤ◌, ◌*ℤ◌}
 use Rattle.std.specs.List.{enumerate_from, list_any}
 use Rattle.std.specs.Option.{option_map_or, ForSome}
 use Rattle.std.specs.Int.{int_div_euclid}
@@ -8,7 +9,8 @@ use Rattle.std.specs.Int.Signed.{lt_z}
 use Rattle.mps_defs.specs.Lists.{where_true, last_of, is_among}
 use Rattle.mps_defs.specs.Numbers.{number_of, decimals_of, is_large, signed}
 use Rattle.ip_defs.specs.Certificates.{ceiling}
-use Rattle.mps_defs.specs.Records.{Line, Entry, objective, kept_entries, column_names, first_lines, column_name, in_force, row_lines, row_kind, row_name, is_free, bounds_on, bound_kind, bound_text, takes_number}
+use Rattle.mps_defs.specs.Records.{Line, Entry, objective, kept_entries, column_names, first_lines, column_name, in_force, row_lines,
+    row_kind, row_name, is_free, bounds_on, bound_kind, bound_text, takes_number}
 use Rattle.mps_defs.specs.declared.texts.Number.{Number}
 use Rattle.mps_defs.specs.declared.texts.Number.TheVariants.{Dec, Large}
 use Rattle.mps_defs.specs.declared.texts.How.{How}

@@ -1,5 +1,6 @@
 -- Clamped programs pass the limits that the programs themselves pass, and are the programs where none is passed.
-use Rattle.std.specs.Prelude.{◌≡◌, ℕ, suc, ◌+◌, ◌^◌, ◌≤◌, nat_lt, Bool, true, false, ◌||◌, List, [], ◌∷◌, ◌++◌, length, map, flat_map, sum_by, Option, Some, None, option_map, unsigned_abs, ℤ}
+use Rattle.std.specs.Prelude.{◌≡◌, ℕ, suc, ◌+◌, ◌^◌, ◌≤◌, nat_lt, Bool, true, false, ◌||◌, List, [], ◌∷◌, ◌++◌, length, map, flat_map,
+    sum_by, Option, Some, None, option_map, unsigned_abs, ℤ}
 use Rattle.std.specs.List.{enumerate_from, list_any}
 use Rattle.std.specs.Option.{ForSome, option_map_or}
 use Rattle.std.proofs.Common.{refl, arith, ap, sym, ◌∙◌}
@@ -12,7 +13,8 @@ use Rattle.ip_defs.specs.declared.programs.Column.{Column}
 use Rattle.ip_defs.specs.declared.programs.Row.{Row}
 use Rattle.ip_defs.specs.declared.programs.Parts.{Parts}
 use Rattle.ip_defs.specs.declared.limits.Limit.{Limit}
-use Rattle.ip_defs.specs.declared.limits.What.TheVariants.{Columns, Rows, Entries, Name, Cost, Lower, Upper, RowName, Coef, Side, Objective, Constant}
+use Rattle.ip_defs.specs.declared.limits.What.TheVariants.{Columns, Rows, Entries, Name, Cost, Lower, Upper, RowName, Coef, Side,
+    Objective, Constant}
 use Rattle.mps_reader.specs.Internal.Clamps.{clamped, clamped_column, clamped_coefs, clamped_row, clamped_parts}
 use Rattle.mps_defs.proofs.ListLaws.{map_same}
 use Rattle.std.proofs.lemmas.List.{length-map}

@@ -1,5 +1,6 @@
 -- Lists of a model, one element at a time.
-use Rattle.std.specs.Prelude.{◌≡◌, ℕ, zero, suc, ◌+◌, ◌<◌, ◌==◌, Bool, true, false, cond, not, List, [], ◌∷◌, ◌++◌, length, map, drop, if◌then◌else◌, Some, None, slice_get, unsigned_abs, ℤ, pos, negsuc}
+use Rattle.std.specs.Prelude.{◌≡◌, ℕ, zero, suc, ◌+◌, ◌<◌, ◌==◌, Bool, true, false, cond, not, List, [], ◌∷◌, ◌++◌, length, map, drop,
+    if◌then◌else◌, Some, None, slice_get, unsigned_abs, ℤ, pos, negsuc}
 use Rattle.std.specs.Option.{is_some}
 use Rattle.ip_defs.specs.Lists.{when}
 use Rattle.mps_defs.specs.declared.texts.How.{How}
@@ -13,7 +14,8 @@ use Rattle.std.proofs.Math.Dec.{eqb-suc-zero}
 use Rattle.mps_defs.specs.TextModels.{units}
 use Rattle.mps_defs.specs.declared.texts.Number.{Number}
 use Rattle.mps_reader.specs.Internal.Clamps.{clamped, clamped_coefs, clamped_column, clamped_row}
-use Rattle.mps_reader.specs.Internal.Drafted.{drafted_coefs, drafted_column, drafted_columns, drafted_row, drafted_rows, cost_head, cost_rest, is_free_kind}
+use Rattle.mps_reader.specs.Internal.Drafted.{drafted_coefs, drafted_column, drafted_columns, drafted_row, drafted_rows, cost_head,
+    cost_rest, is_free_kind}
 
 -- a list from a place on
 pub drop_at : {A : Type 0} (xs : List A) (j : ℕ) (d : A) → j < length xs → drop j xs ≡ get_or xs j d ∷ drop (j + 1) xs

@@ -1,12 +1,14 @@
 -- Going through the lines of a text.
-use Rattle.std.specs.Prelude.{◌≡◌, ℕ, Bool, true, false, cond, List, [], ◌∷◌, ◌++◌, length, map, filter, Option, None, Some, option_map, unwrap_or, not, ◌&&◌, ◌||◌, nat_le, bytes_eq, codes, slice_get, slice_index_or, if◌then◌else◌, Result, Ok, Err, refl}
+use Rattle.std.specs.Prelude.{◌≡◌, ℕ, Bool, true, false, cond, List, [], ◌∷◌, ◌++◌, length, map, filter, Option, None, Some, option_map,
+    unwrap_or, not, ◌&&◌, ◌||◌, nat_le, bytes_eq, codes, slice_get, slice_index_or, if◌then◌else◌, Result, Ok, Err, refl}
 use Rattle.std.specs.Option.{option_map_or}
 use Rattle.std.specs.List.{list_any}
 use Rattle.std.proofs.Common.{sym, ◌∙◌, ap, subst, arith, Bor}
 use Rattle.std.proofs.lemmas.Bool.{le-leb, true≢false}
 use Rattle.ip_defs.specs.Lists.{first_of, when}
 use Rattle.mps_defs.specs.Lists.{last_of, is_among}
-use Rattle.mps_defs.specs.Records.{Line, items_of, words_of, first_field, opens, opens_end, last_word, line_of, fields_of, is_star, is_blank, begins_with, item, opening, is_read, without_return}
+use Rattle.mps_defs.specs.Records.{Line, items_of, words_of, first_field, opens, opens_end, last_word, line_of, fields_of, is_star,
+    is_blank, begins_with, item, opening, is_read, without_return}
 use Rattle.mps_defs.specs.Faults.{all_line_faults, line_faults, is_before}
 use Rattle.mps_defs.specs.declared.texts.MpsError.{MpsError}
 use Rattle.mps_defs.specs.declared.texts.MpsError.TheVariants.{SectionOrder}

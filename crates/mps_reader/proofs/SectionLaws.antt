@@ -1,5 +1,6 @@
 -- The order of the sections.
-use Rattle.std.specs.Prelude.{◌≡◌, ℕ, nat_lt, Bool, true, false, cond, List, [], ◌∷◌, ◌++◌, map, Option, None, Some, option_map, not, ◌&&◌, ◌||◌, bytes_eq, codes, refl}
+use Rattle.std.specs.Prelude.{◌≡◌, ℕ, nat_lt, Bool, true, false, cond, List, [], ◌∷◌, ◌++◌, map, Option, None, Some, option_map, not, ◌&&◌,
+    ◌||◌, bytes_eq, codes, refl}
 use Rattle.std.specs.List.{list_all}
 use Rattle.std.specs.Option.{option_map_or, is_none}
 use Rattle.std.proofs.Common.{sym, ◌∙◌, ap, subst, arith}
@@ -11,7 +12,8 @@ use Rattle.mps_defs.specs.Faults.{all_line_faults, line_faults, is_before, may_c
 use Rattle.mps_reader.specs.declared.sections.Section.{Section}
 use Rattle.mps_reader.specs.declared.sections.Section.TheVariants as Sections
 use Rattle.mps_reader.specs.declared.draft.Draft.{Draft}
-use Rattle.mps_reader.specs.Internal.Progress.{section_word, Stands, SectionsStand, RowsStand, EntriesStand, ColumnsStand, BoundsStand, SetsStand}
+use Rattle.mps_reader.specs.Internal.Progress.{section_word, Stands, SectionsStand, RowsStand, EntriesStand, ColumnsStand, BoundsStand,
+    SetsStand}
 use Rattle.mps_reader.proofs.StayLaws.{rows_stand_stay, columns_stand_stay, bounds_stand_stay, sets_stay, entries_stay}
 use Rattle.ip_defs.proofs.BoolLaws.{left_true, right_true, left_false, either_true}
 use Rattle.std.proofs.lemmas.List.{map-append}

@@ -1,5 +1,6 @@
 -- The table of rows after an entry.
-use Rattle.std.specs.Prelude.{◌≡◌, ℕ, zero, suc, ◌==◌, ◌≤◌, nat_lt, Bool, true, false, not, ◌&&◌, List, [], ◌∷◌, ◌++◌, length, map, position, slice_get, slice_set, None, Some, bytes_eq, string_bytes, codes, unwrap_or, Result, refl}
+use Rattle.std.specs.Prelude.{◌≡◌, ℕ, zero, suc, ◌==◌, ◌≤◌, nat_lt, Bool, true, false, not, ◌&&◌, List, [], ◌∷◌, ◌++◌, length, map,
+    position, slice_get, slice_set, None, Some, bytes_eq, string_bytes, codes, unwrap_or, Result, refl}
 use Rattle.std.specs.List.{list_any}
 use Rattle.std.specs.Vec.{with_item}
 use Rattle.std.proofs.Common.{arith, ap, sym, ◌∙◌, subst, ◌-◌, ◌<◌, get_or, take, drop, Bor}
@@ -19,7 +20,8 @@ use Rattle.mps_reader.specs.declared.draft.RowDraft.{RowDraft}
 use Rattle.mps_reader.specs.declared.draft.RowTable.{RowTable}
 use Rattle.mps_reader.specs.declared.entries.Owner.{Owner}
 use Rattle.mps_reader.specs.Internal.Progress.{RowsStand, kind_word}
-use Rattle.mps_reader.specs.Internal.Taking.{IsDone, Owns, IsPut, RowsHave, IsEntryTaken, AreEntriesTaken, owner_word, has_number, counts_on, entry_faults_after}
+use Rattle.mps_reader.specs.Internal.Taking.{IsDone, Owns, IsPut, RowsHave, IsEntryTaken, AreEntriesTaken, owner_word, has_number,
+    counts_on, entry_faults_after}
 use Rattle.mps_reader.proofs.CountLaws.{counts, is_at}
 use Rattle.mps_reader.proofs.EntryLaws.{RowHas, has_same_place, idle_entry, other_row, own_row}
 use Rattle.mps_reader.proofs.TakingLaws.{where_some, IsDone_map}
@@ -145,7 +147,8 @@ known_row ls t row i rows at = known row (row_names ls) i (ap (position (bytes_e
 
 -- its row or its number is wrong
 pub not_read : (ls : List Line) (owner : Owner) (es : List Entry) (t : RowTable) (e : Entry) (x : MpsError) → RowsStand ls t
-    → first_of (when (not (is_among e.row (map string_bytes t.names.keys))) (Out.UnknownRow e.line) ++ when (not (is_number e.text)) (Out.Number e.line))
+    → first_of (when (not (is_among e.row (map string_bytes t.names.keys))) (Out.UnknownRow e.line)
+        ++ when (not (is_number e.text)) (Out.Number e.line))
     ≡ Some x
     → first_of (entry_faults (owner_word owner) ls es e) ≡ Some x
 not_read ls owner es t e x rows first =
@@ -187,7 +190,8 @@ pub counted_entry : (ls : List Line) (owner : Owner) (es : List Entry) (t : RowT
     (λ _. IsPut owner n r new) result
     → IsEntryTaken ls owner es (record { names = t.names; rows = with_item t.rows i new; objective = t.objective }) e result
 counted_entry ls owner es t i r new e n result have owns at there is counts done =
-    IsDone_map _ (entry_faults (owner_word owner) ls es e) (λ _. IsPut owner n r new) (λ _. RowsHave ls owner (es ++ e ∷ []) (record { names = t.names; rows = with_item t.rows i new; objective = t.objective })) result
+    IsDone_map _ (entry_faults (owner_word owner) ls es e) (λ _. IsPut owner n r new) (λ _. RowsHave ls owner (es
+        ++ e ∷ []) (record { names = t.names; rows = with_item t.rows i new; objective = t.objective })) result
     (sym same) written done
   where
     kept : is_kept (owner_word owner) ls e ≡ true

@@ -1,5 +1,6 @@
 -- The lines of a text, taken one by one.
-use Rattle.std.specs.Prelude.{◌≡◌, ℕ, ◌+◌, ◌<◌, ◌≤◌, Bool, true, false, List, [], ◌∷◌, ◌++◌, length, map, filter, Some, option_map, ◌&&◌, take, drop, slice_get, if◌then◌else◌, refl, Result, Ok, Err}
+use Rattle.std.specs.Prelude.{◌≡◌, ℕ, ◌+◌, ◌<◌, ◌≤◌, Bool, true, false, List, [], ◌∷◌, ◌++◌, length, map, filter, Some, option_map, ◌&&◌,
+    take, drop, slice_get, if◌then◌else◌, refl, Result, Ok, Err}
 use Rattle.std.specs.Option.{option_or}
 use Rattle.std.specs.List.{list_any, slice_split, enumerate_from}
 use Rattle.std.proofs.Common.{sym, ◌∙◌, ap, subst, arith, get_or}

@@ -1,5 +1,6 @@
 -- The entries that are written for a row: by rising column number, and each a number of a text.
-use Rattle.std.specs.Prelude.{◌≡◌, ◌≢◌, ℕ, zero, suc, ◌+◌, ◌<◌, ◌≤◌, ◌==◌, Bool, true, false, not, cond, ◌&&◌, List, [], ◌∷◌, length, filter_map, find, slice_get, Option, None, Some, option_map, unwrap_or, IfSome, bytes_eq, unsigned_abs, ℤ, pos}
+use Rattle.std.specs.Prelude.{◌≡◌, ◌≢◌, ℕ, zero, suc, ◌+◌, ◌<◌, ◌≤◌, ◌==◌, Bool, true, false, not, cond, ◌&&◌, List, [], ◌∷◌, length,
+    filter_map, find, slice_get, Option, None, Some, option_map, unwrap_or, IfSome, bytes_eq, unsigned_abs, ℤ, pos}
 use Rattle.std.specs.List.{enumerate_from, cons_option}
 use Rattle.std.specs.Option.{ForSome}
 use Rattle.std.proofs.Common.{refl, arith, ap, sym, ◌∙◌, subst}

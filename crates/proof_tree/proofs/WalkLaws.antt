@@ -92,4 +92,5 @@ above_within n b j cut l small area some =
 
 -- a box is as it was, once its side is put back
 pub put_back : (b b' : List (ℤ × ℤ)) (j : ℕ) (x : ℤ × ℤ) → b' ≡ set b j x → set b' j (get_or b j (pos 0, pos 0)) ≡ b
-put_back b b' j x e = ap (λ l. set l j (get_or b j (pos 0, pos 0))) e ∙ set-set b j x (get_or b j (pos 0, pos 0)) ∙ set-get_or b j (pos 0, pos 0)
+put_back b b' j x e = ap (λ l. set l j (get_or b j (pos 0, pos 0))) e ∙ set-set b j x (get_or b j (pos 0, pos 0))
+    ∙ set-get_or b j (pos 0, pos 0)

@@ -1,5 +1,6 @@
 -- What the absence of a first fault means.
-use Rattle.std.specs.Prelude.{◌≡◌, ℕ, ℤ, zero, suc, ◌+◌, ◌^◌, ◌<◌, ◌≤◌, ◌&&◌, ◌==◌, not, nat_lt, if◌then◌else◌, List, [], ◌∷◌, length, Bool, true, false, Option, Some, None}
+use Rattle.std.specs.Prelude.{◌≡◌, ℕ, ℤ, zero, suc, ◌+◌, ◌^◌, ◌<◌, ◌≤◌, ◌&&◌, ◌==◌, not, nat_lt, if◌then◌else◌, List, [], ◌∷◌, length,
+    Bool, true, false, Option, Some, None}
 use Rattle.std.specs.Int.RustNames.{unsigned_abs}
 use Rattle.std.specs.List.{list_all}
 use Rattle.std.proofs.Common.{refl, arith}
@@ -16,7 +17,8 @@ use Rattle.proof_tree.specs.declared.faults.ShapeWhat.{ShapeWhat}
 use Rattle.proof_tree.specs.declared.faults.ShapeWhat.TheVariants.{ColumnNumber, RowNumber}
 use Rattle.proof_tree.specs.declared.faults.TreeLimit.TheVariants as Exceeded
 use Rattle.proof_tree.specs.LabelledTrees.{leaf, split, leaf_node, split_node, nodes, nodes_from}
-use Rattle.proof_tree.specs.Trees.{plain, PlainTree, Node, FitsColumns, FitsRows, is_cert, own_limit, limit_at, first_from, tree_limit, own_misfit, with_number, misfit_at, tree_misfit}
+use Rattle.proof_tree.specs.Trees.{plain, PlainTree, Node, FitsColumns, FitsRows, is_cert, own_limit, limit_at, first_from, tree_limit,
+    own_misfit, with_number, misfit_at, tree_misfit}
 use Rattle.proof_tree.specs.Verdicts.{HasLength, claim_misfit, length_misfit}
 use Rattle.proof_tree.specs.Within.{AreNumbersWithin, IsTreeWithin, LimitsAreExact, MisfitsAreTrue}
 use Rattle.proof_tree.proofs.CertLaws.{cert_exact}

@@ -1,5 +1,6 @@
 -- Proof trees as plain data: their bound, and their first faults.
-use Rattle.std.specs.Prelude.{ℕ, suc, ◌+◌, ◌^◌, ◌<◌, if◌then◌else◌, ◌&&◌, not, List, [], ◌∷◌, length, map, ℤ, pos, Bool, true, nat_lt, Option, Some, None}
+use Rattle.std.specs.Prelude.{ℕ, suc, ◌+◌, ◌^◌, ◌<◌, if◌then◌else◌, ◌&&◌, not, List, [], ◌∷◌, length, map, ℤ, pos, Bool, true, nat_lt,
+    Option, Some, None}
 use Rattle.std.specs.Int.{int_min}
 use Rattle.std.specs.Int.RustNames.{unsigned_abs}
 use Rattle.std.specs.Int.Signed.{lt_z}

@@ -47,7 +47,25 @@ whole = record {
 }
 
 module _ (R : Ring) where
-  open R use {carrier, of, add as ◌+r◌, sub as ◌-r◌, mul as ◌*r◌, neg, add_assoc, add_comm, add_zero, add_neg, sub_is, mul_assoc, mul_comm, mul_one, mul_add, of_add, of_mul}
+  open R use {
+    carrier,
+    of,
+    add as ◌+r◌,
+    sub as ◌-r◌,
+    mul as ◌*r◌,
+    neg,
+    add_assoc,
+    add_comm,
+    add_zero,
+    add_neg,
+    sub_is,
+    mul_assoc,
+    mul_comm,
+    mul_one,
+    mul_add,
+    of_add,
+    of_mul,
+  }
 
   infixl 60 ◌+r◌
   infixl 60 ◌-r◌
@@ -86,7 +104,8 @@ module _ (R : Ring) where
 
   pub neg_is : (a : carrier) → of (negsuc 0) *r a ≡ neg a
   neg_is a = add_cancel (of (negsuc 0) *r a) (neg a) a
-      (ap (λ z. of (negsuc 0) *r a +r z) (sym (one_mul a)) ∙ sym (add_mul (of (negsuc 0)) (of (pos 1)) a) ∙ ap (λ z. z *r a) (sym (of_add (negsuc 0) (pos 1))) ∙ zero_mul a ∙ sym (add_neg a) ∙ add_comm a (neg a))
+      (ap (λ z. of (negsuc 0) *r a +r z) (sym (one_mul a)) ∙ sym (add_mul (of (negsuc 0)) (of (pos 1)) a)
+      ∙ ap (λ z. z *r a) (sym (of_add (negsuc 0) (pos 1))) ∙ zero_mul a ∙ sym (add_neg a) ∙ add_comm a (neg a))
 
   pub same_of_sub : (a b : carrier) → a -r b ≡ of (pos 0) → a ≡ b
   same_of_sub a b e = add_cancel a b (neg b) (sym (sub_is a b) ∙ e ∙ sym (add_neg b))

@@ -20,11 +20,13 @@ use Rattle.simplex_exact.specs.declared.answers.LpAnswer.TheVariants.{Best, Empt
 use Rattle.simplex_exact.specs.Answers.{IsLpAnswer, IsBest, IsEmpty, AreNumbers}
 use Rattle.simplex_exact.specs.Internal.Reads.{IsRead}
 
-module _ (m : Parts) (b : List (ℤ × ℤ)) (k n : ℕ) (T : Table) (limits : IsWithinLimits m) (size : length b ≡ length m.columns) (uncrossed : IsUncrossed m b) (within : k ≤ n) (reached : after m b k ≡ Ok T) where
+module _ (m : Parts) (b : List (ℤ × ℤ)) (k n : ℕ) (T : Table) (limits : IsWithinLimits m) (size : length b
+    ≡ length m.columns) (uncrossed : IsUncrossed m b) (within : k ≤ n) (reached : after m b k ≡ Ok T) where
   of_node : IsTableOf m b T
   of_node = runs_stand m b k T limits size reached
 
-  best_is : (x y : List Fraction) → next T ≡ FinalPoint → AreNumbers (length m.columns) (point_of T) x → AreNumbers (length m.rows) (slack_prices m T) y → IsBest m b n x y
+  best_is : (x y : List Fraction) → next T ≡ FinalPoint → AreNumbers (length m.columns) (point_of T) x →
+      AreNumbers (length m.rows) (slack_prices m T) y → IsBest m b n x y
   best_is x y final point prices =
       let right = best_as_read m b T of_node uncrossed final (numbers_of x) (numbers_of y) point.numbers prices.numbers in
       record {
@@ -37,7 +39,8 @@ module _ (m : Parts) (b : List (ℤ × ℤ)) (k n : ℕ) (T : Table) (limits : I
         dual = right.1;
       }
 
-  empty_is : (i : ℕ) (up : Bool) (y : List Fraction) → next T ≡ FinalRow i up → AreNumbers (length m.rows) (slack_ray m T i up) y → IsEmpty m b n y
+  empty_is : (i : ℕ) (up : Bool) (y : List Fraction) → next T ≡ FinalRow i up → AreNumbers (length m.rows) (slack_ray m T i up) y →
+      IsEmpty m b n y
   empty_is i up y final ray =
       let right = empty_as_read m b T of_node uncrossed i up final (numbers_of y) ray.numbers in
       record {

@@ -1,5 +1,6 @@
 -- What the loops of a step find.
-use Rattle.std.specs.Prelude.{◌≡◌, ◌≢◌, ℕ, suc, ◌+◌, ◌<◌, ◌==◌, Bool, true, false, if◌then◌else◌, List, [], ◌∷◌, ◌++◌, Option, Some, None, option_map, length, slice_index_or, slice_set, nat_lt, cond, not, Result, Ok, Err, OnErr, ℤ, pos}
+use Rattle.std.specs.Prelude.{◌≡◌, ◌≢◌, ℕ, suc, ◌+◌, ◌<◌, ◌==◌, Bool, true, false, if◌then◌else◌, List, [], ◌∷◌, ◌++◌, Option, Some, None,
+    option_map, length, slice_index_or, slice_set, nat_lt, cond, not, Result, Ok, Err, OnErr, ℤ, pos}
 use Rattle.std.specs.List.{position, prefix_len}
 use Rattle.std.specs.Option.{is_some, option_or}
 use Rattle.std.specs.Int.Signed.{lt_z}
@@ -28,7 +29,8 @@ abbrev pub lowering : Table → ℕ → Option (ℕ × Bool)
 lowering T v = option_map (λ up. (v, up)) (way T (price_number T v) v)
 
 -- an entering variable is one of the tableau's, and not basic
-pub enters : (T : Table) (v : ℕ) (up : Bool) (o : Option (ℕ × Bool)) → o ≡ entering T → o ≡ Some (v, up) → (v < length T.variables) × (rest_at T.rests v ≢ Basic)
+pub enters : (T : Table) (v : ℕ) (up : Bool) (o : Option (ℕ × Bool)) → o ≡ entering T → o ≡ Some (v, up) → (v < length T.variables)
+    × (rest_at T.rests v ≢ Basic)
 enters T v up o e h =
     let go : ℕ × Bool = (v, up) in
     let r = entering_is T go (sym e ∙ h) in
@@ -39,10 +41,12 @@ next_place : (n k : ℕ) → cond (nat_lt (1 + n) (suc k)) (Some (1 + n)) None �
 next_place n k = by (nat_lt n k) refl
   where
     by : (t : Bool) → nat_lt n k ≡ t → cond (nat_lt (1 + n) (suc k)) (Some (1 + n)) None ≡ option_map suc (cond t (Some n) None)
-    by true e = let l = ltb-true n k e in ap (λ t. cond t (Some (1 + n)) None) (lt_true (1 + n) (suc k) (omega arith)) ∙ ap (λ z. Some z) (omega arith)
+    by true e = let l = ltb-true n k e in ap (λ t. cond t (Some (1 + n)) None) (lt_true (1 + n) (suc k) (omega arith))
+        ∙ ap (λ z. Some z) (omega arith)
     by false e = let l = ltb-false n k e in ap (λ t. cond t (Some (1 + n)) None) (lt_false (1 + n) (suc k) (omega arith))
 
-position_cons : {X : Type 0} (p : X → Bool) (x : X) (xs : List X) → position p (x ∷ xs) ≡ (if p x then Some 0 else option_map suc (position p xs))
+position_cons : {X : Type 0} (p : X → Bool) (x : X) (xs : List X) → position p (x ∷ xs)
+    ≡ (if p x then Some 0 else option_map suc (position p xs))
 position_cons p x xs = by (p x) refl
   where
     from : Bool → Option ℕ
@@ -55,53 +59,65 @@ position_cons p x xs = by (p x) refl
     by false e = ap from e ∙ next_place (prefix_len (λ x. not (p x)) xs) (length xs)
 
 -- a row is found at the end where it was not found before
-pub position_push : {X : Type 0} (p : X → Bool) (xs : List X) (y : X) → position p (xs ++ y ∷ []) ≡ option_or (position p xs) (if p y then Some (length xs) else None)
+pub position_push : {X : Type 0} (p : X → Bool) (xs : List X) (y : X) → position p (xs ++ y ∷ [])
+    ≡ option_or (position p xs) (if p y then Some (length xs) else None)
 position_push p [] y = position_cons p y []
 position_push p (x ∷ xs) y =
     position_cons p x (xs ++ y ∷ []) ∙ ap (λ o. if p x then Some 0 else option_map suc o) (position_push p xs y)
     ∙ by (p x) (position p xs) (p y) ∙ ap (λ o. option_or o (if p y then Some (suc (length xs)) else None)) (sym (position_cons p x xs))
   where
-    by : (t : Bool) (o : Option ℕ) (u : Bool) → (if t then Some 0 else option_map suc (option_or o (if u then Some (length xs) else None))) ≡ option_or (if t then Some 0 else option_map suc o) (if u then Some (suc (length xs)) else None)
+    by : (t : Bool) (o : Option ℕ) (u : Bool) → (if t then Some 0 else option_map suc (option_or o (if u then Some (length xs) else None)))
+        ≡ option_or (if t then Some 0 else option_map suc o) (if u then Some (suc (length xs)) else None)
     by true o u = refl
     by false None true = refl
     by false None false = refl
     by false (Some i) u = refl
 
 -- the row of a variable among one more row
-pub place_step : (places new : List (Option ℕ)) (basics : List ℕ) (row v : ℕ) → row < length basics → slice_index_or places v None ≡ position (λ w. w == v) (take row basics)
-    → (get_or basics row 0 ≡ v → slice_index_or new v None ≡ option_or (slice_index_or places v None) (Some row)) → (get_or basics row 0 ≢ v → slice_index_or new v None ≡ slice_index_or places v None)
+pub place_step : (places new : List (Option ℕ)) (basics : List ℕ) (row v : ℕ) → row < length basics →
+    slice_index_or places v None ≡ position (λ w. w == v) (take row basics)
+    → (get_or basics row 0 ≡ v → slice_index_or new v None ≡ option_or (slice_index_or places v None) (Some row)) →
+        (get_or basics row 0 ≢ v → slice_index_or new v None ≡ slice_index_or places v None)
     → slice_index_or new v None ≡ position (λ w. w == v) (take (row + 1) basics)
 place_step places new basics row v l old here elsewhere =
     by (get_or basics row 0 == v) refl
-    ∙ ap (λ n. option_or (position (λ w. w == v) (take row basics)) (if get_or basics row 0 == v then Some n else None)) (sym (length-take-le row basics (omega arith)))
-    ∙ sym (position_push (λ w. w == v) (take row basics) (get_or basics row 0)) ∙ ap (position (λ w. w == v)) (sym (take_more basics row 0 l))
+    ∙ ap (λ n. option_or (position (λ w. w == v) (take row basics)) (if get_or basics row 0 == v then Some n else None))
+        (sym (length-take-le row basics (omega arith)))
+    ∙ sym (position_push (λ w. w == v) (take row basics) (get_or basics row 0))
+        ∙ ap (position (λ w. w == v)) (sym (take_more basics row 0 l))
   where
     kept : (o : Option ℕ) → o ≡ option_or o None
     kept None = refl
     kept (Some x) = refl
 
-    by : (t : Bool) → (get_or basics row 0 == v) ≡ t → slice_index_or new v None ≡ option_or (position (λ w. w == v) (take row basics)) (if t then Some row else None)
+    by : (t : Bool) → (get_or basics row 0 == v) ≡ t → slice_index_or new v None
+        ≡ option_or (position (λ w. w == v) (take row basics)) (if t then Some row else None)
     by true e = here (eqb-true (get_or basics row 0) v e) ∙ ap (λ o. option_or o (Some row)) old
     by false e = elsewhere (eqb-false (get_or basics row 0) v e) ∙ old ∙ kept (position (λ w. w == v) (take row basics))
 
 -- a place is written where there was none
-pub placed_here : (places new : List (Option ℕ)) (b row v : ℕ) → new ≡ slice_set places b (Some row) → b < length places → is_some (slice_index_or places b None) ≡ false → b ≡ v
+pub placed_here : (places new : List (Option ℕ)) (b row v : ℕ) → new ≡ slice_set places b (Some row) → b < length places →
+    is_some (slice_index_or places b None) ≡ false → b ≡ v
     → slice_index_or new v None ≡ option_or (slice_index_or places v None) (Some row)
 placed_here places new b row v is l none e =
-    ap (λ xs. slice_index_or xs v None) is ∙ ap (λ w. slice_index_or (slice_set places b (Some row)) w None) (sym e) ∙ get_or-set_same places b (Some row) None l
+    ap (λ xs. slice_index_or xs v None) is ∙ ap (λ w. slice_index_or (slice_set places b (Some row)) w None) (sym e)
+        ∙ get_or-set_same places b (Some row) None l
     ∙ none_else (slice_index_or places b None) none ∙ ap (λ w. option_or (slice_index_or places w None) (Some row)) e
   where
     none_else : (o : Option ℕ) → is_some o ≡ false → Some row ≡ option_or o (Some row)
     none_else None h = refl
     none_else (Some x) h = absurd cc
 
-pub placed_there : (places new : List (Option ℕ)) (b row v : ℕ) → new ≡ slice_set places b (Some row) → b ≢ v → slice_index_or new v None ≡ slice_index_or places v None
+pub placed_there : (places new : List (Option ℕ)) (b row v : ℕ) → new ≡ slice_set places b (Some row) → b ≢ v →
+    slice_index_or new v None ≡ slice_index_or places v None
 placed_there places new b row v is n = ap (λ xs. slice_index_or xs v None) is ∙ get_or-set_other places b v (Some row) None (λ e. n (sym e))
 
 -- one that stands there is kept
-pub kept_here : (places new : List (Option ℕ)) (b row v : ℕ) → new ≡ places → is_some (slice_index_or places b None) ≡ true → b ≡ v → slice_index_or new v None ≡ option_or (slice_index_or places v None) (Some row)
+pub kept_here : (places new : List (Option ℕ)) (b row v : ℕ) → new ≡ places → is_some (slice_index_or places b None) ≡ true → b ≡ v →
+    slice_index_or new v None ≡ option_or (slice_index_or places v None) (Some row)
 kept_here places new b row v is some e =
-    ap (λ xs. slice_index_or xs v None) is ∙ ap (λ w. slice_index_or places w None) (sym e) ∙ some_else (slice_index_or places b None) some ∙ ap (λ w. option_or (slice_index_or places w None) (Some row)) e
+    ap (λ xs. slice_index_or xs v None) is ∙ ap (λ w. slice_index_or places w None) (sym e) ∙ some_else (slice_index_or places b None) some
+        ∙ ap (λ w. option_or (slice_index_or places w None) (Some row)) e
   where
     some_else : (o : Option ℕ) → is_some o ≡ true → o ≡ option_or o (Some row)
     some_else None h = absurd cc
@@ -109,18 +125,23 @@ kept_here places new b row v is some e =
 
 -- ---- stops
 -- a number 0 meets no side
-no_side : (up : Bool) (p : Rational) → p.top ≡ pos 0 → side_met up p ≡ None
-no_side up p e = ap (λ t. if lt_z t (pos 0) then Some (side_towards up) else if lt_z (pos 0) t then Some (side_towards (not up)) else None) e
+no_side : (up : Bool) (p : Rational) → p.numerator ≡ pos 0 → side_met up p ≡ None
+no_side up p e = ap (λ t. if lt_z t (pos 0) then Some (side_towards up) else if lt_z (pos 0) t then Some (side_towards (not up))
+    else None) e
 
 -- a number that meets a side is not 0
 pub met : (up : Bool) (p : Rational) (side : Rest) → side_met up p ≡ Some side → p ≢ of (pos 0)
-met up p side e h = let no = no_side up p (ap (λ (q : Rational). q.top) h ∙ zero_top) in absurd cc
+met up p side e h = let no = no_side up p (ap (λ (q : Rational). q.numerator) h ∙ zero_top) in absurd cc
 
 -- the ratio at a side that is there, by the row's value
-pub ratio_wide : (T : Table) (x : Fraction) (i v : ℕ) (side : Rest) (there : ℤ) (o : Result Fraction Wide) (w : Wide) → value T i ≡ Ok x → side_at (variable_at T.variables (basic_at T.basics i)) side ≡ Some there
-    → o ≡ and_then (difference_of x (whole there)) (λ way. quotient_of way (entry T.rows i v)) → o ≡ Err w → ratio T i v side ≡ Err (record {})
+pub ratio_wide : (T : Table) (x : Fraction) (i v : ℕ) (side : Rest) (there : ℤ) (o : Result Fraction Wide) (w : Wide) → value T i ≡ Ok x →
+    side_at (variable_at T.variables (basic_at T.basics i)) side ≡ Some there
+    → o ≡ and_then (difference_of x (whole there)) (λ way. quotient_of way (entry T.rows i v)) → o ≡ Err w →
+        ratio T i v side ≡ Err (record {})
 ratio_wide T x i v side there o w value side_is is wide =
-    ap (λ (y : Result Fraction Wide). and_then y (λ x. and_then (difference_of x (whole (side_or_zero (side_at (variable_at T.variables (basic_at T.basics i)) side)))) (λ way. quotient_of way (entry T.rows i v)))) value
+    ap (λ (y : Result Fraction Wide). and_then y (λ x. and_then (difference_of x
+        (whole (side_or_zero (side_at (variable_at T.variables (basic_at T.basics i)) side))))
+        (λ way. quotient_of way (entry T.rows i v)))) value
     ∙ ap (λ s. and_then (difference_of x (whole (side_or_zero s))) (λ way. quotient_of way (entry T.rows i v))) side_is
     ∙ sym is ∙ is_wide o w wide
 

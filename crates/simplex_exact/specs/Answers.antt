@@ -39,7 +39,7 @@ pub record IsEmpty (m : Parts) (b : List (ℤ × ℤ)) (pivots : ℕ) (y : List 
   pub ray : AreNumbers (length m.rows) (slack_ray m tableau row up) y
   pub gain : Rational
   pub dual : dual m b (of (pos 0)) (numbers_of y) ≡ Some gain
-  pub positive : pos 0 <ℤ gain.top
+  pub positive : pos 0 <ℤ gain.numerator
 
 -- what an answer says of a node within so many steps
 abbrev pub IsLpAnswer : Parts → List (ℤ × ℤ) → ℕ → LpAnswer → Type 0

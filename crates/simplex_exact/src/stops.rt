@@ -21,7 +21,7 @@ use tableau::{Frac, Rest, Tableau, Variable, Wide};
 
 /// The side towards which a basic variable moves, by its entry's sign, where a variable goes up or down.
 fn side_met(up: bool, sign: i128) -> Option<Rest>
-    ensures { (p : Rational) → p.top ≡ sign → result ≡ side_met_by up p }
+    ensures { (p : Rational) → p.numerator ≡ sign → result ≡ side_met_by up p }
 {
     if sign < 0 {
         Some(side_towards(up))

@@ -23,7 +23,7 @@ fn can_go(tableau: &Tableau, up: bool, var: u32) -> bool
 /// Which way a variable goes by the sign of a number: up below 0, down above 0.
 fn way(tableau: &Tableau, sign: i128, var: u32) -> Option<bool>
     requires { var < length tableau.now.variables }
-    ensures { (p : Rational) → p.top ≡ sign → result ≡ way_at tableau.now p var }
+    ensures { (p : Rational) → p.numerator ≡ sign → result ≡ way_at tableau.now p var }
 {
     if sign < 0 && can_go(tableau, true, var) {
         Some(true)

@@ -1,5 +1,6 @@
 -- What a final answer of `next` says of the searches before it.
-use Rattle.std.specs.Prelude.{◌≡◌, ◌≢◌, ℕ, ◌<◌, ◌==◌, Bool, true, false, cond, if◌then◌else◌, List, length, Option, Some, None, option_map, option_and_then, ℤ}
+use Rattle.std.specs.Prelude.{◌≡◌, ◌≢◌, ℕ, ◌<◌, ◌==◌, Bool, true, false, cond, if◌then◌else◌, List, length, Option, Some, None, option_map,
+    option_and_then, ℤ}
 use Rattle.std.specs.List.{position}
 use Rattle.std.proofs.Common.{refl, ap, sym, ◌∙◌, subst}
 use Rattle.frac128.specs.Rationals.{Rational, neg, absolute}
@@ -11,7 +12,8 @@ use Rattle.tableau.specs.Nodes.{number, StandsFor, HasItsPoints}
 use Rattle.tableau.specs.Meanings.{value_number, price_number, ratio_number}
 use Rattle.simplex_laws.specs.declared.next.Next.{Next}
 use Rattle.simplex_laws.specs.declared.next.Next.TheVariants.{Pivot, Flip, FinalRow, FinalPoint}
-use Rattle.simplex_laws.specs.Steps.{way, breach, outside, mender, mend, side_met, stop_at, stop, nearest, move_by, move, entering, improve, by_breach, next, is_final}
+use Rattle.simplex_laws.specs.Steps.{way, breach, outside, mender, mend, side_met, stop_at, stop, nearest, move_by, move, entering,
+    improve, by_breach, next, is_final}
 use Rattle.ip_defs.proofs.FirstLaws.{first-none}
 use Rattle.simplex_laws.proofs.ChoiceLaws.{paired, first_is, nearest_is}
 use Rattle.simplex_laws.proofs.StepLaws.{way_is, first_breach}
@@ -28,13 +30,15 @@ module _ (T : Table) (v : ℕ) (up : Bool) where
   stop_at_steps : (i : ℕ) (side : Rest) (x : Rational × Next) → stop_at T v i side ≡ Some x → is_final x.1 ≡ false
   stop_at_steps i side x e = by (side_at (variable_at T.variables (basic_at T.basics i)) side) e
     where
-      by : (o : Option ℤ) → option_map {U = Rational × Next} (λ there. (absolute (ratio_number T i v side), Pivot i v side)) o ≡ Some x → is_final x.1 ≡ false
+      by : (o : Option ℤ) → option_map {U = Rational × Next} (λ there. (absolute (ratio_number T i v side), Pivot i v side)) o ≡ Some x →
+          is_final x.1 ≡ false
       by None h = absurd cc
       by (Some z) h =
           let q : paired (absolute (ratio_number T i v side)) (Pivot i v side) ≡ x = cc in
           subst (λ (y : Rational × Next). is_final y.1 ≡ false) q refl
 
-  stop_in_steps : (i : ℕ) (x : Rational × Next) → option_and_then (stop_at T v i) (side_met up (number T i v)) ≡ Some x → is_final x.1 ≡ false
+  stop_in_steps : (i : ℕ) (x : Rational × Next) → option_and_then (stop_at T v i) (side_met up (number T i v)) ≡ Some x →
+      is_final x.1 ≡ false
   stop_in_steps i x e = by (side_met up (number T i v)) e
     where
       by : (o : Option Rest) → option_and_then (stop_at T v i) o ≡ Some x → is_final x.1 ≡ false
@@ -44,7 +48,9 @@ module _ (T : Table) (v : ℕ) (up : Bool) where
   stop_steps : (w : ℕ) (x : Rational × Next) → stop T v up w ≡ Some x → is_final x.1 ≡ false
   stop_steps w x e = by (w == v) (room (variable_at T.variables v)) (position (λ z. z == w) T.basics) e
     where
-      by : (t : Bool) (far : Option Rational) (at : Option ℕ) → cond t (option_map {U = Rational × Next} (λ far. (far, Flip v)) far) (option_and_then (λ i. option_and_then (stop_at T v i) (side_met up (number T i v))) at) ≡ Some x → is_final x.1 ≡ false
+      by : (t : Bool) (far : Option Rational) (at : Option ℕ) →
+          cond t (option_map {U = Rational × Next} (λ far. (far, Flip v)) far) (option_and_then
+          (λ i. option_and_then (stop_at T v i) (side_met up (number T i v))) at) ≡ Some x → is_final x.1 ≡ false
       by true None at h = absurd cc
       by true (Some far) at h = let q : paired far (Flip v) ≡ x = cc in subst (λ (z : Rational × Next). is_final z.1 ≡ false) q refl
       by false far None h = absurd cc
@@ -63,32 +69,38 @@ module _ (T : Table) (v : ℕ) (up : Bool) where
 
 -- ---- an entering variable
 -- an entering variable is one that can go its way
-pub entering_is : (T : Table) (go : ℕ × Bool) → entering T ≡ Some go → (go.0 < length T.variables) × (way T (price_number T go.0) go.0 ≡ Some go.1)
+pub entering_is : (T : Table) (go : ℕ × Bool) → entering T ≡ Some go → (go.0 < length T.variables)
+    × (way T (price_number T go.0) go.0 ≡ Some go.1)
 entering_is T go e = by (first_is (λ v. option_map (λ up. (v, up)) (way T (price_number T v) v)) (length T.variables) go e)
   where
-    at : (w : ℕ) → w < length T.variables → (o : Option Bool) → way T (price_number T w) w ≡ o → option_map {U = ℕ × Bool} (λ up. (w, up)) o ≡ Some go → (go.0 < length T.variables) × (way T (price_number T go.0) go.0 ≡ Some go.1)
+    at : (w : ℕ) → w < length T.variables → (o : Option Bool) → way T (price_number T w) w ≡ o →
+        option_map {U = ℕ × Bool} (λ up. (w, up)) o ≡ Some go → (go.0 < length T.variables) × (way T (price_number T go.0) go.0 ≡ Some go.1)
     at w k None g h = absurd cc
     at w k (Some up) g h =
         let same : paired w up ≡ go = cc in
         subst (λ (z : ℕ × Bool). (z.0 < length T.variables) × (way T (price_number T z.0) z.0 ≡ Some z.1)) same (k, g)
 
-    by : (w : ℕ) × (w < length T.variables) × (option_map {U = ℕ × Bool} (λ up. (w, up)) (way T (price_number T w) w) ≡ Some go) → (go.0 < length T.variables) × (way T (price_number T go.0) go.0 ≡ Some go.1)
+    by : (w : ℕ) × (w < length T.variables) × (option_map {U = ℕ × Bool} (λ up. (w, up)) (way T (price_number T w) w) ≡ Some go) →
+        (go.0 < length T.variables) × (way T (price_number T go.0) go.0 ≡ Some go.1)
     by r = at r.0 r.1 (way T (price_number T r.0) r.0) refl r.2
 
 -- without an entering variable no price gives a way
 pub entering_none : (T : Table) → entering T ≡ None → (v : ℕ) → v < length T.variables → way T (price_number T v) v ≡ None
-entering_none T e v l = unmapped {B = ℕ × Bool} (λ up. (v, up)) (way T (price_number T v) v) (first-none (λ v. option_map {U = ℕ × Bool} (λ up. (v, up)) (way T (price_number T v) v)) (length T.variables) e v l)
+entering_none T e v l = unmapped {B = ℕ × Bool} (λ up. (v, up)) (way T (price_number T v) v)
+    (first-none (λ v. option_map {U = ℕ × Bool} (λ up. (v, up)) (way T (price_number T v) v)) (length T.variables) e v l)
 
 -- ---- a final row
 -- row i is outside the sides of its basic variable, and no other variable mends it
 pub record IsBroken (T : Table) (i : ℕ) (up : Bool) : Type 0 where
   pub row : i < length T.rows
-  pub outside : outside (value_number T i) (variable_at T.variables (basic_at T.basics i)).low (variable_at T.variables (basic_at T.basics i)).high ≡ Some up
+  pub outside : outside (value_number T i) (variable_at T.variables (basic_at T.basics i)).low
+      (variable_at T.variables (basic_at T.basics i)).high ≡ Some up
   pub ways : (v : ℕ) → v < length T.variables → way T (ray T i up v) v ≡ None
 
 -- without a mender no entry of the row gives a way
 pub mender_none : (T : Table) (i : ℕ) (up : Bool) → mender T i up ≡ None → (v : ℕ) → v < length T.variables → way T (ray T i up v) v ≡ None
-mender_none T i up e v l = unmapped {B = ℕ} (λ go. v) (way T (ray T i up v) v) (first-none (λ v. option_map {U = ℕ} (λ go. v) (way T (ray T i up v) v)) (length T.variables) e v l)
+mender_none T i up e v l = unmapped {B = ℕ} (λ go. v) (way T (ray T i up v) v) (first-none
+    (λ v. option_map {U = ℕ} (λ go. v) (way T (ray T i up v) v)) (length T.variables) e v l)
 
 mended : (x : ℕ × Bool) (i : ℕ) (up : Bool) (o : Option ℕ) → mend x.0 x.1 o ≡ FinalRow i up → (o ≡ None) × (x ≡ (i, up))
 mended x i up None e =
@@ -130,7 +142,8 @@ module _ (m : Parts) (b : List (ℤ × ℤ)) (T : Table) (table : IsTable T) (st
       let x = way_is T (price_number T go.0) go.0 go.1 r.1 in
       something_stops m b T table stands has go.0 go.1 r.0 x.1 (move_is T go.0 go.1 FinalPoint refl h).0
 
-  improved : (o : Option (ℕ × Bool)) → entering T ≡ o → improve T o ≡ FinalPoint → (v : ℕ) → v < length T.variables → way T (price_number T v) v ≡ None
+  improved : (o : Option (ℕ × Bool)) → entering T ≡ o → improve T o ≡ FinalPoint → (v : ℕ) → v < length T.variables →
+      way T (price_number T v) v ≡ None
   improved None e h = entering_none T e
   improved (Some go) e h = absurd (goes go e h)
 

@@ -1,5 +1,6 @@
 -- A tableau that is final by a row: the row's slack entries, or their negations, pay more than 0.
-use Rattle.std.specs.Prelude.{◌≡◌, ◌≢◌, ℕ, ◌+◌, ◌<◌, ◌==◌, Bool, true, false, cond, if◌then◌else◌, List, [], length, Option, Some, None, ℤ, pos, negsuc, ◌<ℤ◌}
+use Rattle.std.specs.Prelude.{◌≡◌, ◌≢◌, ℕ, ◌+◌, ◌<◌, ◌==◌, Bool, true, false, cond, if◌then◌else◌, List, [], length, Option, Some, None, ℤ,
+    pos, negsuc, ◌<ℤ◌}
 use Rattle.std.proofs.Common.{arith, refl, ap, sym, ◌∙◌, subst}
 use Rattle.std.proofs.lemmas.Int.{ints}
 use Rattle.std.proofs.lemmas.Bool.{eqb-true, eqb-false}
@@ -23,7 +24,7 @@ use Rattle.simplex_laws.specs.Steps.{way, above, outside}
 use Rattle.simplex_laws.specs.Finals.{point_of, slack_ray}
 use Rattle.simplex_laws.specs.Laws.{EmptyIsRight, EmptyHasNoPoint}
 use Rattle.simplex_laws.proofs.RestLaws.{sign_fits}
-use Rattle.simplex_laws.proofs.PointLaws.{values, point_nought, pays_at}
+use Rattle.simplex_laws.proofs.PointLaws.{values, point_zero, pays_at}
 use Rattle.simplex_laws.proofs.StopLaws.{if_same, if_other}
 use Rattle.simplex_laws.proofs.AnswerLaws.{ray, final_row_is}
 use Rattle.simplex_laws.proofs.DualLaws.{dual_is}
@@ -32,17 +33,17 @@ use Rattle.simplex_laws.proofs.DualLaws.{dual_is}
 abbrev unit : Bool → Rational
 unit up = if up then of (pos 1) else neg (of (pos 1))
 
-unit_up : pos 0 <ℤ (of (pos 1)).top
+unit_up : pos 0 <ℤ (of (pos 1)).numerator
 unit_up = of_positive (pos 1) (omega (arith, ints))
 
-unit_down : (neg (of (pos 1))).top <ℤ pos 0
-unit_down = subst (λ (p : Rational). p.top <ℤ pos 0) (of_neg (pos 1)) (of_negative (negsuc 0) (omega (arith, ints)))
+unit_down : (neg (of (pos 1))).numerator <ℤ pos 0
+unit_down = subst (λ (p : Rational). p.numerator <ℤ pos 0) (of_neg (pos 1)) (of_negative (negsuc 0) (omega (arith, ints)))
 
 -- the side that is broken is paid, and is better than the value
 pub record IsBetter (x : Rational) (low high : Option ℤ) (up : Bool) : Type 0 where
   pub side : Rational
   pub pays : paid (unit up) low high ≡ Some (mul (unit up) side)
-  pub more : pos 0 <ℤ (mul (unit up) (sub side x)).top
+  pub more : pos 0 <ℤ (mul (unit up) (sub side x)).numerator
 
 above_pays : (x : Rational) (low high : Option ℤ) (up : Bool) → above x high ≡ Some up → IsBetter x low high up
 above_pays x low None up e = absurd cc
@@ -55,7 +56,8 @@ above_pays x low (Some z) up e = by (is_below (of z) x) refl e
         subst (λ (u : Bool). IsBetter x low (Some z) u) q (record {
           side = of z;
           pays = paid_down (neg (of (pos 1))) low (Some z) unit_down;
-          more = subst (λ (p : Rational). pos 0 <ℤ p.top) (ring2 rationals (λ x s. x ⊖ s) (λ x s. minus (num (pos 1)) ⊗ (s ⊖ x)) refl x (of z)) (below_positive (of z) x f);
+          more = subst (λ (p : Rational). pos 0 <ℤ p.numerator) (ring2 rationals (λ x s. x ⊖ s) (λ x s. minus (num (pos 1)) ⊗ (s ⊖ x)) refl
+              x (of z)) (below_positive (of z) x f);
         })
 
 outside_pays : (x : Rational) (low high : Option ℤ) (up : Bool) → outside x low high ≡ Some up → IsBetter x low high up
@@ -69,21 +71,26 @@ outside_pays x (Some z) high up e = by (is_below x (of z)) refl e
         subst (λ (u : Bool). IsBetter x (Some z) high u) q (record {
           side = of z;
           pays = paid_up (of (pos 1)) (Some z) high unit_up;
-          more = subst (λ (p : Rational). pos 0 <ℤ p.top) (ring2 rationals (λ x s. s ⊖ x) (λ x s. num (pos 1) ⊗ (s ⊖ x)) refl x (of z)) (below_positive x (of z) f);
+          more = subst (λ (p : Rational). pos 0 <ℤ p.numerator) (ring2 rationals (λ x s. s ⊖ x) (λ x s. num (pos 1) ⊗ (s ⊖ x)) refl x
+              (of z)) (below_positive x (of z) f);
         })
 
-module _ (m : Parts) (b : List (ℤ × ℤ)) (T : Table) (table : IsTable T) (stands : StandsFor m b T) (i : ℕ) (inside : i < length m.rows) where
+module _ (m : Parts) (b : List (ℤ × ℤ)) (T : Table) (table : IsTable T) (stands : StandsFor m b T) (i : ℕ) (inside : i
+    < length m.rows) where
   -- ---- a row's entries as multipliers
   -- without a cost, what is left of a column is its entry
   ray_left : (up : Bool) (j : ℕ) → j < length m.columns → left_of m (of (pos 0)) (slack_ray m T i up) j ≡ ray T i up j
   ray_left true j l =
       let c = length m.columns in
-      ring2 rationals (λ a s. num (pos 0) ⊗ a ⊖ s) (λ a s. minus s) refl (cost_of m j) (sum rationals (λ k. mul (number T i (c + k)) (of (coefficient_of m.rows k j))) (length m.rows))
+      ring2 rationals (λ a s. num (pos 0) ⊗ a ⊖ s) (λ a s. minus s) refl (cost_of m j)
+          (sum rationals (λ k. mul (number T i (c + k)) (of (coefficient_of m.rows k j))) (length m.rows))
       ∙ sym (stands.combination i j inside l)
   ray_left false j l =
       let c = length m.columns in
       let f : ℕ → Rational = λ k. mul (number T i (c + k)) (of (coefficient_of m.rows k j)) in
-      let turned = sum_same rationals (λ k. mul (neg (number T i (c + k))) (of (coefficient_of m.rows k j))) (λ k. neg (f k)) (length m.rows) (λ k o. ring2 rationals (λ a d. minus a ⊗ d) (λ a d. minus (a ⊗ d)) refl (number T i (c + k)) (of (coefficient_of m.rows k j)))
+      let turned = sum_same rationals (λ k. mul (neg (number T i (c + k))) (of (coefficient_of m.rows k j))) (λ k. neg (f k))
+              (length m.rows) (λ k o. ring2 rationals (λ a d. minus a ⊗ d) (λ a d. minus (a ⊗ d)) refl (number T i (c + k))
+              (of (coefficient_of m.rows k j)))
       ∙ sum_neg rationals f (length m.rows) in
       ap (λ z. sub (mul (of (pos 0)) (cost_of m j)) z) turned
       ∙ ring2 rationals (λ a s. num (pos 0) ⊗ a ⊖ minus s) (λ a s. minus (minus s)) refl (cost_of m j) (sum rationals f (length m.rows))
@@ -94,17 +101,18 @@ module _ (m : Parts) (b : List (ℤ × ℤ)) (T : Table) (table : IsTable T) (st
   ray_own false = ap neg (stands.one i inside)
 
   ray_flat : (up : Bool) (k : ℕ) → k < length m.rows → i ≢ k → ray T i up (basic_at T.basics k) ≡ of (pos 0)
-  ray_flat true k l n = stands.nought i k inside l n
-  ray_flat false k l n = ap neg (stands.nought i k inside l n) ∙ identity rationals [] (minus (num (pos 0))) (num (pos 0)) refl
+  ray_flat true k l n = stands.zeros i k inside l n
+  ray_flat false k l n = ap neg (stands.zeros i k inside l n) ∙ identity rationals [] (minus (num (pos 0))) (num (pos 0)) refl
 
-  ray_nought : (up : Bool) → sum rationals (λ v. mul (ray T i up v) (point_of T v)) (length m.columns + length m.rows) ≡ of (pos 0)
-  ray_nought true = point_nought m b T table stands i inside
-  ray_nought false =
+  ray_zero : (up : Bool) → sum rationals (λ v. mul (ray T i up v) (point_of T v)) (length m.columns + length m.rows) ≡ of (pos 0)
+  ray_zero true = point_zero m b T table stands i inside
+  ray_zero false =
       let all = length m.columns + length m.rows in
       let f : ℕ → Rational = λ v. mul (number T i v) (point_of T v) in
-      sum_same rationals (λ v. mul (neg (number T i v)) (point_of T v)) (λ v. neg (f v)) all (λ v l. ring2 rationals (λ a d. minus a ⊗ d) (λ a d. minus (a ⊗ d)) refl (number T i v) (point_of T v))
+      sum_same rationals (λ v. mul (neg (number T i v)) (point_of T v)) (λ v. neg (f v)) all
+          (λ v l. ring2 rationals (λ a d. minus a ⊗ d) (λ a d. minus (a ⊗ d)) refl (number T i v) (point_of T v))
       ∙ sum_neg rationals f all
-      ∙ ap neg (point_nought m b T table stands i inside) ∙ identity rationals [] (minus (num (pos 0))) (num (pos 0)) refl
+      ∙ ap neg (point_zero m b T table stands i inside) ∙ identity rationals [] (minus (num (pos 0))) (num (pos 0)) refl
 
   -- ---- what they gain
   module _ (up : Bool) (s : Rational) where
@@ -112,20 +120,25 @@ module _ (m : Parts) (b : List (ℤ × ℤ)) (T : Table) (table : IsTable T) (st
     abbrev y : ℕ → Rational
     y v = if v == basic_at T.basics i then s else point_of T v
 
-    ray_pays : paid (unit up) (variable_at T.variables (basic_at T.basics i)).low (variable_at T.variables (basic_at T.basics i)).high ≡ Some (mul (unit up) s) → ((v : ℕ) → v < length m.columns + length m.rows → way T (ray T i up v) v ≡ None)
-        → (v : ℕ) → v < length m.columns + length m.rows → paid (ray T i up v) (variable_at T.variables v).low (variable_at T.variables v).high ≡ Some (mul (ray T i up v) (y v))
+    ray_pays : paid (unit up) (variable_at T.variables (basic_at T.basics i)).low (variable_at T.variables (basic_at T.basics i)).high
+        ≡ Some (mul (unit up) s) → ((v : ℕ) → v < length m.columns + length m.rows → way T (ray T i up v) v ≡ None)
+        → (v : ℕ) → v < length m.columns + length m.rows → paid (ray T i up v) (variable_at T.variables v).low
+            (variable_at T.variables v).high ≡ Some (mul (ray T i up v) (y v))
     ray_pays own ways v l = by (v == basic_at T.basics i) refl
       where
-        by : (t : Bool) → (v == basic_at T.basics i) ≡ t → paid (ray T i up v) (variable_at T.variables v).low (variable_at T.variables v).high ≡ Some (mul (ray T i up v) (cond t s (point_of T v)))
+        by : (t : Bool) → (v == basic_at T.basics i) ≡ t → paid (ray T i up v) (variable_at T.variables v).low
+            (variable_at T.variables v).high ≡ Some (mul (ray T i up v) (cond t s (point_of T v)))
         by true e =
             let w = basic_at T.basics i in
             let x = variable_at T.variables w in
-            subst (λ (z : ℕ). paid (ray T i up z) (variable_at T.variables z).low (variable_at T.variables z).high ≡ Some (mul (ray T i up z) s)) (sym (eqb-true v w e))
+            subst (λ (z : ℕ). paid (ray T i up z) (variable_at T.variables z).low (variable_at T.variables z).high
+                ≡ Some (mul (ray T i up z) s)) (sym (eqb-true v w e))
             (ap (λ p. paid p x.low x.high) (ray_own up) ∙ own ∙ ap (λ p. Some (mul p s)) (sym (ray_own up)))
         by false e =
             let x = variable_at T.variables v in
             pays_at m b T table stands (ray T i up v) v l
-            (λ k o q. ap (ray T i up) (sym q) ∙ ray_flat up k o (λ p. eqb-false v (basic_at T.basics i) e (sym q ∙ ap (basic_at T.basics) (sym p))))
+            (λ k o q. ap (ray T i up) (sym q) ∙ ray_flat up k o (λ p. eqb-false v (basic_at T.basics i) e (sym q
+                ∙ ap (basic_at T.basics) (sym p))))
             (sign_fits (ray T i up v) x.low x.high (rest_at T.rests v) (ways v l))
 
     ray_total : sum rationals (λ v. mul (ray T i up v) (y v)) (length m.columns + length m.rows) ≡ mul (unit up) (sub s (value_number T i))
@@ -135,14 +148,20 @@ module _ (m : Parts) (b : List (ℤ × ℤ)) (T : Table) (table : IsTable T) (st
         let p = ray T i up in
         let x = point_of T in
         let f : ℕ → Rational = λ v. mul (p v) (sub (y v) (x v)) in
-        let apart = sum_same rationals (λ v. mul (p v) (y v)) (λ v. add (mul (p v) (x v)) (f v)) all (λ v l. ring3 rationals (λ a c d. a ⊗ c) (λ a c d. a ⊗ d ⊕ a ⊗ (c ⊖ d)) refl (p v) (y v) (x v))
+        let apart = sum_same rationals (λ v. mul (p v) (y v)) (λ v. add (mul (p v) (x v)) (f v)) all
+                (λ v l. ring3 rationals (λ a c d. a ⊗ c) (λ a c d. a ⊗ d ⊕ a ⊗ (c ⊖ d)) refl (p v) (y v) (x v))
         ∙ sum_add rationals (λ v. mul (p v) (x v)) f all in
-        let single = sum_single rationals f w all (stands.within i inside) (λ v l n. ap (λ z. mul (p v) (sub z (x v))) (if_other v w s (x v) n) ∙ ring2 rationals (λ a c. a ⊗ (c ⊖ c)) (λ a c. num (pos 0)) refl (p v) (x v)) in
-        apart ∙ ap (λ z. add z (sum rationals f all)) (ray_nought up)
-        ∙ ap (add (of (pos 0))) (single ∙ ap (λ z. mul z (sub (y w) (x w))) (ray_own up) ∙ ap (λ z. mul (unit up) (sub z (x w))) (if_same w w s (x w) refl) ∙ ap (λ z. mul (unit up) (sub s z)) (values m b T table stands i inside))
+        let single = sum_single rationals f w all (stands.within i inside) (λ v l n. ap (λ z. mul (p v) (sub z (x v)))
+                (if_other v w s (x v) n) ∙ ring2 rationals (λ a c. a ⊗ (c ⊖ c)) (λ a c. num (pos 0)) refl (p v) (x v)) in
+        apart ∙ ap (λ z. add z (sum rationals f all)) (ray_zero up)
+        ∙ ap (add (of (pos 0))) (single ∙ ap (λ z. mul z (sub (y w) (x w))) (ray_own up)
+            ∙ ap (λ z. mul (unit up) (sub z (x w))) (if_same w w s (x w) refl)
+            ∙ ap (λ z. mul (unit up) (sub s z)) (values m b T table stands i inside))
         ∙ ring2 rationals (λ a c. num (pos 0) ⊕ a) (λ a c. a) refl (mul (unit up) (sub s (value_number T i))) s
 
-    ray_gains : IsUncrossed m b → paid (unit up) (variable_at T.variables (basic_at T.basics i)).low (variable_at T.variables (basic_at T.basics i)).high ≡ Some (mul (unit up) s) → ((v : ℕ) → v < length m.columns + length m.rows → way T (ray T i up v) v ≡ None)
+    ray_gains : IsUncrossed m b → paid (unit up) (variable_at T.variables (basic_at T.basics i)).low
+        (variable_at T.variables (basic_at T.basics i)).high ≡ Some (mul (unit up) s) →
+        ((v : ℕ) → v < length m.columns + length m.rows → way T (ray T i up v) v ≡ None)
         → dual m b (of (pos 0)) (slack_ray m T i up) ≡ Some (mul (unit up) (sub s (value_number T i)))
     ray_gains ok own ways =
         dual_is m b T stands ok (of (pos 0)) (ray T i up) (λ v. mul (ray T i up v) (y v)) (ray_left up) (ray_pays own ways)
@@ -157,15 +176,16 @@ empty_is_right m b T i up table stands ok e =
     let l = broken.row in
     let x = variable_at T.variables (basic_at T.basics i) in
     let better = outside_pays (value_number T i) x.low x.high up broken.outside in
-    (mul (unit up) (sub better.side (value_number T i)), ray_gains m b T table stands i (omega arith) up better.side ok better.pays (λ v k. broken.ways v (omega arith)), better.more)
+    (mul (unit up) (sub better.side (value_number T i)), ray_gains m b T table stands i (omega arith) up better.side ok better.pays
+        (λ v k. broken.ways v (omega arith)), better.more)
 
 -- a positive number is not at most 0
-not_below_zero : (g c : Rational) → pos 0 <ℤ g.top → AtMost g (mul (of (pos 0)) c) → ⊥
+not_below_zero : (g c : Rational) → pos 0 <ℤ g.numerator → AtMost g (mul (of (pos 0)) c) → ⊥
 not_below_zero g c up h =
     let below : AtMost g (of (pos 0)) = subst (AtMost g) (ring2 rationals (λ g c. num (pos 0) ⊗ c) (λ g c. num (pos 0)) refl g c) h in
     let rises : NotNegative g = omega (arith, ints) in
     let above : AtMost (of (pos 0)) g = subst NotNegative (ring2 rationals (λ g c. g) (λ g c. g ⊖ num (pos 0)) refl g c) rises in
-    let none : g.top ≡ pos 0 = ap (λ (p : Rational). p.top) (at_most_antisym g (of (pos 0)) below above) ∙ zero_top in
+    let none : g.numerator ≡ pos 0 = ap (λ (p : Rational). p.numerator) (at_most_antisym g (of (pos 0)) below above) ∙ zero_top in
     omega (arith, ints)
 
 pub empty_has_no_point : EmptyHasNoPoint

@@ -3,11 +3,14 @@ use Rattle.std.specs.Prelude.{◌≡◌, ◌≢◌, ℕ, zero, suc, ◌+◌, ◌
 use Rattle.std.specs.List.{position, prefix_len}
 use Rattle.std.proofs.Common.{arith, refl, ap, sym, ◌∙◌, get_or}
 
-passes : {A : Type 0} (p : A → Bool) (xs : List A) (i : ℕ) (d : A) → i < length xs → p (get_or xs i d) ≡ true → prefix_len (λ x. not (p x)) xs < length xs
+passes : {A : Type 0} (p : A → Bool) (xs : List A) (i : ℕ) (d : A) → i < length xs → p (get_or xs i d) ≡ true →
+    prefix_len (λ x. not (p x)) xs < length xs
 passes p [] i d l e = absurd (omega arith)
 passes p (x ∷ xs) i d l e = by (p x) refl i l e (λ j m f. passes p xs j d m f)
   where
-    by : (t : Bool) → p x ≡ t → (i : ℕ) → i < suc (length xs) → p (get_or (x ∷ xs) i d) ≡ true → ((j : ℕ) → j < length xs → p (get_or xs j d) ≡ true → prefix_len (λ x. not (p x)) xs < length xs) → cond (not t) (1 + prefix_len (λ x. not (p x)) xs) 0 < suc (length xs)
+    by : (t : Bool) → p x ≡ t → (i : ℕ) → i < suc (length xs) → p (get_or (x ∷ xs) i d) ≡ true →
+        ((j : ℕ) → j < length xs → p (get_or xs j d) ≡ true → prefix_len (λ x. not (p x)) xs < length xs) →
+        cond (not t) (1 + prefix_len (λ x. not (p x)) xs) 0 < suc (length xs)
     by true f i l e ih = omega arith
     by false f zero l e ih = let q : false ≡ true = sym f ∙ e in absurd cc
     by false f (suc j) l e ih = let r = ih j (omega arith) e in omega arith

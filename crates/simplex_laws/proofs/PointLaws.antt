@@ -11,12 +11,12 @@ use Rattle.ip_defs.specs.Certificates.{entry as coefficient_of}
 use Rattle.ip_defs.specs.declared.programs.Parts.{Parts}
 use Rattle.lp_duality.specs.Duals.{paid}
 use Rattle.lp_duality.specs.Relaxations.{IsBetween, IsUncrossed}
-use Rattle.lp_duality.proofs.SignLaws.{paid_nought}
+use Rattle.lp_duality.proofs.SignLaws.{paid_zero}
 use Rattle.tableau.specs.declared.rests.Rest.{Rest}
 use Rattle.tableau.specs.declared.rests.Rest.TheVariants.{Basic, Low, High, Zero}
 use Rattle.tableau.specs.Tables.{Table, basic_at, rest_at, variable_at, IsTable}
 use Rattle.tableau.specs.Numbers.{side_or_zero, resting}
-use Rattle.tableau.specs.Nodes.{number, RestsRight, StandsFor, IsNought}
+use Rattle.tableau.specs.Nodes.{number, RestsRight, StandsFor, AreRowsZero}
 use Rattle.tableau.specs.Meanings.{resting_number, value_number}
 use Rattle.tableau.proofs.RowLaws.{same_number}
 use Rattle.tableau.proofs.TableLaws.{system_of}
@@ -36,7 +36,8 @@ module _ (m : Parts) (b : List (ℤ × ℤ)) (T : Table) (table : IsTable T) (st
 
   -- a basic variable has a row
   pub has_place : (i v : ℕ) → i < length m.rows → basic_at T.basics i ≡ v → position (λ w. w == v) T.basics ≢ None
-  has_place i v l e = found (λ w. w == v) T.basics i 0 (let s = stands.rows in let t = table.basics in omega arith) (ap (λ z. z == v) e ∙ same_number v)
+  has_place i v l e = found (λ w. w == v) T.basics i 0 (let s = stands.rows in let t = table.basics in
+      omega arith) (ap (λ z. z == v) e ∙ same_number v)
 
   -- the row of a basic variable is its own
   pub own_place : (i k : ℕ) → i < length m.rows → position (λ w. w == basic_at T.basics i) T.basics ≡ Some k → k ≡ i
@@ -46,7 +47,8 @@ module _ (m : Parts) (b : List (ℤ × ℤ)) (T : Table) (table : IsTable T) (st
   apart : (v : ℕ) → ((k : ℕ) × (k < length m.rows) × (basic_at T.basics k ≡ v)) ⊎ (point_of T v ≡ resting_number T v)
   apart v = by (position (λ w. w == v) T.basics) refl
     where
-      by : (o : Option ℕ) → position (λ w. w == v) T.basics ≡ o → ((k : ℕ) × (k < length m.rows) × (basic_at T.basics k ≡ v)) ⊎ (number_by T v o ≡ resting_number T v)
+      by : (o : Option ℕ) → position (λ w. w == v) T.basics ≡ o → ((k : ℕ) × (k < length m.rows) × (basic_at T.basics k ≡ v))
+          ⊎ (number_by T v o ≡ resting_number T v)
       by None e = inr refl
       by (Some k) e = let p = basic_place v k e in inl (k, p.0, p.1)
 
@@ -58,15 +60,17 @@ module _ (m : Parts) (b : List (ℤ × ℤ)) (T : Table) (table : IsTable T) (st
       by (Some k) e = ap (value_number T) (own_place i k l e)
 
   -- each row of the tableau is 0 at its point
-  pub point_nought : IsNought m T (point_of T)
-  point_nought = basic_point rationals (length m.rows) (length m.columns) (coefficient_of m.rows) (number T) (basic_at T.basics) (system_of m b T stands) (point_of T) (resting_number T)
+  pub point_zero : AreRowsZero m T (point_of T)
+  point_zero = basic_point rationals (length m.rows) (length m.columns) (coefficient_of m.rows) (number T) (basic_at T.basics)
+      (system_of m b T stands) (point_of T) (resting_number T)
       (λ v l. apart v)
       (λ i l. ap (λ r. of (side_or_zero (resting (variable_at T.variables (basic_at T.basics i)) r))) (stands.basic i l))
       (λ i l. values i l ∙ ap (λ n. neg (sum rationals (λ v. mul (number T i v) (resting_number T v)) n)) stands.size)
 
   -- ---- between its sides
   -- a variable that is basic in no row rests elsewhere
-  sits_out : (v : ℕ) → v < length m.columns + length m.rows → ((i : ℕ) → i < length m.rows → basic_at T.basics i ≢ v) → Sits (variable_at T.variables v).low (variable_at T.variables v).high (rest_at T.rests v)
+  sits_out : (v : ℕ) → v < length m.columns + length m.rows → ((i : ℕ) → i < length m.rows → basic_at T.basics i ≢ v) →
+      Sits (variable_at T.variables v).low (variable_at T.variables v).high (rest_at T.rests v)
   sits_out v l free = by (rest_at T.rests v) (stands.rests v l)
     where
       by : (r : Rest) → RestsRight T v r → Sits (variable_at T.variables v).low (variable_at T.variables v).high r
@@ -75,14 +79,18 @@ module _ (m : Parts) (b : List (ℤ × ℤ)) (T : Table) (table : IsTable T) (st
       by High s = s
       by Zero s = s
 
-  no_place : (v : ℕ) → v < length m.columns + length m.rows → position (λ w. w == v) T.basics ≡ None → Sits (variable_at T.variables v).low (variable_at T.variables v).high (rest_at T.rests v)
+  no_place : (v : ℕ) → v < length m.columns + length m.rows → position (λ w. w == v) T.basics ≡ None →
+      Sits (variable_at T.variables v).low (variable_at T.variables v).high (rest_at T.rests v)
   no_place v l e = sits_out v l (λ i k q. has_place i v k q e)
 
   -- where nothing is outside its sides, the point lies between them
-  pub point_between : IsUncrossed m b → ((v : ℕ) → v < length m.columns + length m.rows → breach T v ≡ None) → (v : ℕ) → v < length m.columns + length m.rows → IsBetween (variable_at T.variables v).low (variable_at T.variables v).high (point_of T v)
+  pub point_between : IsUncrossed m b → ((v : ℕ) → v < length m.columns + length m.rows → breach T v ≡ None) → (v : ℕ) →
+      v < length m.columns + length m.rows → IsBetween (variable_at T.variables v).low (variable_at T.variables v).high (point_of T v)
   point_between ok none v l = by (position (λ w. w == v) T.basics) refl (none v l)
     where
-      by : (o : Option ℕ) → position (λ w. w == v) T.basics ≡ o → option_and_then (λ i. option_map {U = ℕ × Bool} (λ up. (i, up)) (outside (value_number T i) (variable_at T.variables v).low (variable_at T.variables v).high)) o ≡ None
+      by : (o : Option ℕ) → position (λ w. w == v) T.basics ≡ o →
+          option_and_then (λ i. option_map {U = ℕ × Bool} (λ up. (i, up)) (outside (value_number T i) (variable_at T.variables v).low
+          (variable_at T.variables v).high)) o ≡ None
           → IsBetween (variable_at T.variables v).low (variable_at T.variables v).high (number_by T v o)
       by None e h =
           let x = variable_at T.variables v in
@@ -93,15 +101,20 @@ module _ (m : Parts) (b : List (ℤ × ℤ)) (T : Table) (table : IsTable T) (st
           outside_none (value_number T i) x.low x.high (unmapped {B = ℕ × Bool} (λ up. (i, up)) (outside (value_number T i) x.low x.high) h)
 
   -- a number of a variable whose sign fits its rest, and that is 0 where the variable is basic, pays what it gives at the point
-  pub pays_at : (p : Rational) (v : ℕ) → v < length m.columns + length m.rows → ((i : ℕ) → i < length m.rows → basic_at T.basics i ≡ v → p ≡ of (pos 0)) → SignFits p (variable_at T.variables v).low (variable_at T.variables v).high (rest_at T.rests v)
+  pub pays_at : (p : Rational) (v : ℕ) → v < length m.columns + length m.rows →
+      ((i : ℕ) → i < length m.rows → basic_at T.basics i ≡ v → p ≡ of (pos 0)) →
+      SignFits p (variable_at T.variables v).low (variable_at T.variables v).high (rest_at T.rests v)
       → paid p (variable_at T.variables v).low (variable_at T.variables v).high ≡ Some (mul p (point_of T v))
   pays_at p v l flat f = by (position (λ w. w == v) T.basics) refl
     where
-      by : (o : Option ℕ) → position (λ w. w == v) T.basics ≡ o → paid p (variable_at T.variables v).low (variable_at T.variables v).high ≡ Some (mul p (number_by T v o))
+      by : (o : Option ℕ) → position (λ w. w == v) T.basics ≡ o → paid p (variable_at T.variables v).low (variable_at T.variables v).high
+          ≡ Some (mul p (number_by T v o))
       by None e =
           let x = variable_at T.variables v in
-          paid_rested p x.low x.high (rest_at T.rests v) (no_place v l e) f ∙ ap (λ z. Some (mul p z)) (sym (rested_is x (rest_at T.rests v)))
+          paid_rested p x.low x.high (rest_at T.rests v) (no_place v l e) f
+              ∙ ap (λ z. Some (mul p z)) (sym (rested_is x (rest_at T.rests v)))
       by (Some i) e =
           let k = basic_place v i e in
           let z = flat i k.0 k.1 in
-          paid_nought p (variable_at T.variables v).low (variable_at T.variables v).high (ap (λ w. w.top) z ∙ zero_top) ∙ ap Some (sym (ap (λ w. mul w (value_number T i)) z ∙ zero_mul rationals (value_number T i)))
+          paid_zero p (variable_at T.variables v).low (variable_at T.variables v).high (ap (λ w. w.numerator) z ∙ zero_top)
+              ∙ ap Some (sym (ap (λ w. mul w (value_number T i)) z ∙ zero_mul rationals (value_number T i)))

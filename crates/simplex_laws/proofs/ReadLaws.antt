@@ -22,10 +22,12 @@ use Rattle.simplex_laws.proofs.EmptyLaws.{empty_is_right}
 -- ---- points with the same columns
 module _ (m : Parts) (x z : ℕ → Rational) (same : (j : ℕ) → j < length m.columns → x j ≡ z j) where
   row_total_same : (k : ℕ) → row_total m z k ≡ row_total m x k
-  row_total_same k = sum_same rationals (λ j. mul (of (coefficient_of m.rows k j)) (z j)) (λ j. mul (of (coefficient_of m.rows k j)) (x j)) (length m.columns) (λ j l. ap (mul (of (coefficient_of m.rows k j))) (sym (same j l)))
+  row_total_same k = sum_same rationals (λ j. mul (of (coefficient_of m.rows k j)) (z j)) (λ j. mul (of (coefficient_of m.rows k j)) (x j))
+      (length m.columns) (λ j l. ap (mul (of (coefficient_of m.rows k j))) (sym (same j l)))
 
   pub total_cost_same : total_cost m z ≡ total_cost m x
-  total_cost_same = ap (add (of m.constant)) (sum_same rationals (λ j. mul (cost_of m j) (z j)) (λ j. mul (cost_of m j) (x j)) (length m.columns) (λ j l. ap (mul (cost_of m j)) (sym (same j l))))
+  total_cost_same = ap (add (of m.constant)) (sum_same rationals (λ j. mul (cost_of m j) (z j)) (λ j. mul (cost_of m j) (x j))
+      (length m.columns) (λ j l. ap (mul (cost_of m j)) (sym (same j l))))
 
   pub relaxed_same : (b : List (ℤ × ℤ)) → IsRelaxed m b z → IsRelaxed m b x
   relaxed_same b r = record {
@@ -37,15 +39,18 @@ module _ (m : Parts) (x z : ℕ → Rational) (same : (j : ℕ) → j < length m
 -- ---- what is read off a final tableau
 module _ (m : Parts) (b : List (ℤ × ℤ)) (T : Table) (of_node : IsTableOf m b T) (ok : IsUncrossed m b) where
   -- a point and prices that are the tableau's
-  pub best_as_read : next T ≡ FinalPoint → (x y : ℕ → Rational) → ((j : ℕ) → j < length m.columns → x j ≡ point_of T j) → ((k : ℕ) → k < length m.rows → y k ≡ slack_prices m T k)
+  pub best_as_read : next T ≡ FinalPoint → (x y : ℕ → Rational) → ((j : ℕ) → j < length m.columns → x j ≡ point_of T j) →
+      ((k : ℕ) → k < length m.rows → y k ≡ slack_prices m T k)
       → IsRelaxed m b x × (dual m b (of (pos 1)) y ≡ Some (total_cost m x))
   best_as_read e x y point prices =
       let r = best_is_right m b T of_node.table of_node.stands of_node.points ok e in
-      (relaxed_same m x (point_of T) point b r.0, dual_same m b (of (pos 1)) y (slack_prices m T) prices ∙ r.1 ∙ ap Some (total_cost_same m x (point_of T) point))
+      (relaxed_same m x (point_of T) point b r.0, dual_same m b (of (pos 1)) y (slack_prices m T) prices ∙ r.1
+          ∙ ap Some (total_cost_same m x (point_of T) point))
 
   -- multipliers that are the tableau's ray
-  pub empty_as_read : (i : ℕ) (up : Bool) → next T ≡ FinalRow i up → (y : ℕ → Rational) → ((k : ℕ) → k < length m.rows → y k ≡ slack_ray m T i up k)
-      → (gain : Rational) × (dual m b (of (pos 0)) y ≡ Some gain) × (pos 0 <ℤ gain.top)
+  pub empty_as_read : (i : ℕ) (up : Bool) → next T ≡ FinalRow i up → (y : ℕ → Rational) →
+      ((k : ℕ) → k < length m.rows → y k ≡ slack_ray m T i up k)
+      → (gain : Rational) × (dual m b (of (pos 0)) y ≡ Some gain) × (pos 0 <ℤ gain.numerator)
   empty_as_read i up e y ray =
       let r = empty_is_right m b T i up of_node.table of_node.stands ok e in
       (r.0, dual_same m b (of (pos 0)) y (slack_ray m T i up) ray ∙ r.1, r.2)

@@ -9,7 +9,8 @@ use Rattle.frac128.proofs.Rationals.{rationals}
 use Rattle.frac128.proofs.Order.{zero_top}
 use Rattle.lp_duality.specs.Duals.{is_below, paid}
 use Rattle.lp_duality.specs.Relaxations.{IsBetween}
-use Rattle.lp_duality.proofs.SignLaws.{top_zero, Sign, up, down, none, sign_of, below_false, of_at_most, at_most_self, paid_up, paid_down, paid_nought}
+use Rattle.lp_duality.proofs.SignLaws.{top_zero, Sign, up, down, none, sign_of, below_false, of_at_most, at_most_self, paid_up, paid_down,
+    paid_zero}
 use Rattle.tableau.specs.declared.rests.Rest.{Rest}
 use Rattle.tableau.specs.declared.rests.Rest.TheVariants.{Basic, Low, High, Zero}
 use Rattle.tableau.specs.declared.variables.Variable.{Variable}
@@ -48,8 +49,8 @@ rested_is x Zero = refl
 -- the sign of a number fits a rest: the number is not below 0 where the variable can rise, nor above 0 where it can fall
 abbrev pub SignFits : Rational → Option ℤ → Option ℤ → Rest → Type 0
 SignFits p low high Basic = Unit {0}
-SignFits p low high Low = is_fixed_between low high ≡ false → pos 0 ≤ℤ p.top
-SignFits p low high High = is_fixed_between low high ≡ false → p.top ≤ℤ pos 0
+SignFits p low high Low = is_fixed_between low high ≡ false → pos 0 ≤ℤ p.numerator
+SignFits p low high High = is_fixed_between low high ≡ false → p.numerator ≤ℤ pos 0
 SignFits p low high Zero = is_fixed_between low high ≡ false → p ≡ of (pos 0)
 
 -- ---- what it pays
@@ -62,36 +63,42 @@ fixed_same low high e = by (lt_z low high) (lt_z high low) refl refl e
     by false false f g k = let x = not_less low high f in let y = not_less high low g in omega (arith, ints)
 
 -- a number whose sign fits the rest pays the side at which the variable rests
-pub paid_rested : (p : Rational) (low high : Option ℤ) (rest : Rest) → Sits low high rest → SignFits p low high rest → paid p low high ≡ Some (mul p (rested low high rest))
+pub paid_rested : (p : Rational) (low high : Option ℤ) (rest : Rest) → Sits low high rest → SignFits p low high rest →
+    paid p low high ≡ Some (mul p (rested low high rest))
 paid_rested p low high Basic s f = absurd s
 paid_rested p None high Low s f = absurd (s refl)
-paid_rested p (Some low) high Low s f = by (sign_of p.top)
+paid_rested p (Some low) high Low s f = by (sign_of p.numerator)
   where
-    fixed : (high : Option ℤ) (t : Bool) → is_fixed_between (Some low) high ≡ t → (is_fixed_between (Some low) high ≡ false → pos 0 ≤ℤ p.top) → p.top <ℤ pos 0 → option_map (λ z. mul p (of z)) high ≡ Some (mul p (of low))
+    fixed : (high : Option ℤ) (t : Bool) → is_fixed_between (Some low) high ≡ t →
+        (is_fixed_between (Some low) high ≡ false → pos 0 ≤ℤ p.numerator) → p.numerator <ℤ pos 0 →
+        option_map (λ z. mul p (of z)) high ≡ Some (mul p (of low))
     fixed high false e f d = absurd (let q = f e in omega (arith, ints))
     fixed None true e f d = absurd cc
     fixed (Some high) true e f d = ap (λ z. Some (mul p (of z))) (sym (fixed_same low high e))
 
-    by : Sign p.top → paid p (Some low) high ≡ Some (mul p (of low))
+    by : Sign p.numerator → paid p (Some low) high ≡ Some (mul p (of low))
     by (up q) = paid_up p (Some low) high q
-    by (none q) = paid_nought p (Some low) high q ∙ ap Some (sym (ap (λ w. mul w (of low)) (top_zero p q) ∙ zero_mul rationals (of low)))
+    by (none q) = paid_zero p (Some low) high q ∙ ap Some (sym (ap (λ w. mul w (of low)) (top_zero p q) ∙ zero_mul rationals (of low)))
     by (down q) = paid_down p (Some low) high q ∙ fixed high (is_fixed_between (Some low) high) refl f q
 paid_rested p low None High s f = absurd (s refl)
-paid_rested p low (Some high) High s f = by (sign_of p.top)
+paid_rested p low (Some high) High s f = by (sign_of p.numerator)
   where
-    fixed : (low : Option ℤ) (t : Bool) → is_fixed_between low (Some high) ≡ t → (is_fixed_between low (Some high) ≡ false → p.top ≤ℤ pos 0) → pos 0 <ℤ p.top → option_map (λ z. mul p (of z)) low ≡ Some (mul p (of high))
+    fixed : (low : Option ℤ) (t : Bool) → is_fixed_between low (Some high) ≡ t →
+        (is_fixed_between low (Some high) ≡ false → p.numerator ≤ℤ pos 0) → pos 0 <ℤ p.numerator →
+        option_map (λ z. mul p (of z)) low ≡ Some (mul p (of high))
     fixed low false e f d = absurd (let q = f e in omega (arith, ints))
     fixed None true e f d = absurd cc
     fixed (Some low) true e f d = ap (λ z. Some (mul p (of z))) (fixed_same low high e)
 
-    by : Sign p.top → paid p low (Some high) ≡ Some (mul p (of high))
+    by : Sign p.numerator → paid p low (Some high) ≡ Some (mul p (of high))
     by (down q) = paid_down p low (Some high) q
-    by (none q) = paid_nought p low (Some high) q ∙ ap Some (sym (ap (λ w. mul w (of high)) (top_zero p q) ∙ zero_mul rationals (of high)))
+    by (none q) = paid_zero p low (Some high) q ∙ ap Some (sym (ap (λ w. mul w (of high)) (top_zero p q) ∙ zero_mul rationals (of high)))
     by (up q) = paid_up p low (Some high) q ∙ fixed low (is_fixed_between low (Some high)) refl f q
 paid_rested p low high Zero s f =
     let free : is_fixed_between low high ≡ false = ap (λ o. is_fixed_between o high) s.0 in
     let z = f free in
-    paid_nought p low high (ap (λ w. w.top) z ∙ zero_top) ∙ ap Some (sym (ap (λ w. mul w (of (pos 0))) z ∙ zero_mul rationals (of (pos 0))))
+    paid_zero p low high (ap (λ w. w.numerator) z ∙ zero_top)
+        ∙ ap Some (sym (ap (λ w. mul w (of (pos 0))) z ∙ zero_mul rationals (of (pos 0))))
 
 -- ---- no way to go
 split_none : (s : Bool) (o : Option Bool) (u : Bool) → cond s (Some u) o ≡ None → (s ≡ false) × (o ≡ None)
@@ -105,19 +112,28 @@ and_false true true false e g h = absurd cc
 and_false true true true e g h = absurd cc
 
 -- where a number gives a variable no way to go, its sign fits the rest
-pub sign_fits : (p : Rational) (low high : Option ℤ) (rest : Rest) → cond (lt_z p.top (pos 0) && (rests_for true rest && not (is_fixed_between low high))) (Some true) (cond (lt_z (pos 0) p.top && (rests_for false rest && not (is_fixed_between low high))) (Some false) None) ≡ None → SignFits p low high rest
+pub sign_fits : (p : Rational) (low high : Option ℤ) (rest : Rest) →
+    cond (lt_z p.numerator (pos 0) && (rests_for true rest && not (is_fixed_between low high))) (Some true)
+    (cond (lt_z (pos 0) p.numerator && (rests_for false rest && not (is_fixed_between low high))) (Some false) None) ≡ None →
+    SignFits p low high rest
 sign_fits p low high rest e =
-    by rest (split_none (lt_z p.top (pos 0) && (rests_for true rest && not (is_fixed_between low high))) (cond (lt_z (pos 0) p.top && (rests_for false rest && not (is_fixed_between low high))) (Some false) None) true e)
+    by rest (split_none (lt_z p.numerator (pos 0) && (rests_for true rest && not (is_fixed_between low high)))
+        (cond (lt_z (pos 0) p.numerator && (rests_for false rest && not (is_fixed_between low high))) (Some false) None) true e)
   where
-    rise : (rest : Rest) → (lt_z p.top (pos 0) && (rests_for true rest && not (is_fixed_between low high))) ≡ false → is_fixed_between low high ≡ false → rests_for true rest ≡ true → pos 0 ≤ℤ p.top
-    rise rest x f t = not_less p.top (pos 0) (and_false (lt_z p.top (pos 0)) (rests_for true rest) (is_fixed_between low high) x f t)
+    rise : (rest : Rest) → (lt_z p.numerator (pos 0) && (rests_for true rest && not (is_fixed_between low high))) ≡ false →
+        is_fixed_between low high ≡ false → rests_for true rest ≡ true → pos 0 ≤ℤ p.numerator
+    rise rest x f t = not_less p.numerator (pos 0) (and_false (lt_z p.numerator (pos 0)) (rests_for true rest) (is_fixed_between low high)
+        x f t)
 
-    fall : (rest : Rest) → cond (lt_z (pos 0) p.top && (rests_for false rest && not (is_fixed_between low high))) (Some false) None ≡ None → is_fixed_between low high ≡ false → rests_for false rest ≡ true → p.top ≤ℤ pos 0
+    fall : (rest : Rest) → cond (lt_z (pos 0) p.numerator && (rests_for false rest && not (is_fixed_between low high))) (Some false) None
+        ≡ None → is_fixed_between low high ≡ false → rests_for false rest ≡ true → p.numerator ≤ℤ pos 0
     fall rest x f t =
-        let y = split_none (lt_z (pos 0) p.top && (rests_for false rest && not (is_fixed_between low high))) None false x in
-        not_less (pos 0) p.top (and_false (lt_z (pos 0) p.top) (rests_for false rest) (is_fixed_between low high) y.0 f t)
+        let y = split_none (lt_z (pos 0) p.numerator && (rests_for false rest && not (is_fixed_between low high))) None false x in
+        not_less (pos 0) p.numerator (and_false (lt_z (pos 0) p.numerator) (rests_for false rest) (is_fixed_between low high) y.0 f t)
 
-    by : (rest : Rest) → ((lt_z p.top (pos 0) && (rests_for true rest && not (is_fixed_between low high))) ≡ false) × (cond (lt_z (pos 0) p.top && (rests_for false rest && not (is_fixed_between low high))) (Some false) None ≡ None) → SignFits p low high rest
+    by : (rest : Rest) → ((lt_z p.numerator (pos 0) && (rests_for true rest && not (is_fixed_between low high))) ≡ false)
+        × (cond (lt_z (pos 0) p.numerator && (rests_for false rest && not (is_fixed_between low high))) (Some false) None ≡ None) →
+        SignFits p low high rest
     by Basic x = tt
     by Low x = λ f. rise Low x.0 f refl
     by High x = λ f. fall High x.1 f refl
@@ -127,13 +143,17 @@ sign_fits p low high rest e =
 some_is : (x y : ℤ) → Some x ≡ Some y → x ≡ y
 some_is x y e = cc
 
-pub rested_between : (low high : Option ℤ) (rest : Rest) → ((x y : ℤ) → low ≡ Some x → high ≡ Some y → x ≤ℤ y) → Sits low high rest → IsBetween low high (rested low high rest)
+pub rested_between : (low high : Option ℤ) (rest : Rest) → ((x y : ℤ) → low ≡ Some x → high ≡ Some y → x ≤ℤ y) → Sits low high rest →
+    IsBetween low high (rested low high rest)
 rested_between low high Basic o s = absurd s
 rested_between None high Low o s = absurd (s refl)
-rested_between (Some x) high Low o s = record { low = λ z e. subst (λ (w : ℤ). AtMost (of w) (of x)) (some_is x z e) (at_most_self (of x)); high = λ z e. of_at_most x z (o x z refl e) }
+rested_between (Some x) high Low o s = record { low = λ z e. subst (λ (w : ℤ). AtMost (of w) (of x)) (some_is x z e) (at_most_self (of x));
+    high = λ z e. of_at_most x z (o x z refl e) }
 rested_between low None High o s = absurd (s refl)
-rested_between low (Some y) High o s = record { low = λ z e. of_at_most z y (o z y e refl); high = λ z e. subst (λ (w : ℤ). AtMost (of y) (of w)) (some_is y z e) (at_most_self (of y)) }
-rested_between low high Zero o s = record { low = λ z e. absurd (let q : None ≡ Some z = sym s.0 ∙ e in cc); high = λ z e. absurd (let q : None ≡ Some z = sym s.1 ∙ e in cc) }
+rested_between low (Some y) High o s = record { low = λ z e. of_at_most z y (o z y e refl);
+    high = λ z e. subst (λ (w : ℤ). AtMost (of y) (of w)) (some_is y z e) (at_most_self (of y)) }
+rested_between low high Zero o s = record { low = λ z e. absurd (let q : None ≡ Some z = sym s.0 ∙ e in cc);
+    high = λ z e. absurd (let q : None ≡ Some z = sym s.1 ∙ e in cc) }
 
 above_none : (x : Rational) (high : Option ℤ) → above x high ≡ None → (z : ℤ) → high ≡ Some z → AtMost x (of z)
 above_none x None e z q = absurd cc
@@ -150,4 +170,5 @@ outside_none x (Some y) high e = by (is_below x (of y)) refl e
   where
     by : (t : Bool) → is_below x (of y) ≡ t → cond t (Some true) (above x high) ≡ None → IsBetween (Some y) high x
     by true f g = absurd cc
-    by false f g = record { low = λ z q. subst (λ (w : ℤ). AtMost (of w) x) (some_is y z q) (below_false x (of y) f); high = above_none x high g }
+    by false f g = record { low = λ z q. subst (λ (w : ℤ). AtMost (of w) x) (some_is y z q) (below_false x (of y) f);
+        high = above_none x high g }

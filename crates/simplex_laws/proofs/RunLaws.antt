@@ -24,7 +24,8 @@ module _ (m : Parts) (b : List (ℤ × ℤ)) (T : Table) (of_node : IsTableOf m 
   after_pivot_table : (r v : ℕ) (leaving : Rest) (U : Table) → CanPivot T r v leaving → after_pivot T r v leaving ≡ Ok U → IsTable U
   after_pivot_table r v leaving U can e = by (new_rows (length T.variables) T.rows r v) refl e
     where
-      by : (o : Result (List (List Fraction)) Wide) → new_rows (length T.variables) T.rows r v ≡ o → and_then o (λ rows. Ok (with_rows T r v leaving rows)) ≡ Ok U → IsTable U
+      by : (o : Result (List (List Fraction)) Wide) → new_rows (length T.variables) T.rows r v ≡ o →
+          and_then o (λ rows. Ok (with_rows T r v leaving rows)) ≡ Ok U → IsTable U
       by (Ok new) f g =
           let is : with_rows T r v leaving new ≡ U = cc in
           subst IsTable is (with_rows-table T r v leaving of_node.table can.row can.variable can.pivot new f)
@@ -33,7 +34,8 @@ module _ (m : Parts) (b : List (ℤ × ℤ)) (T : Table) (of_node : IsTableOf m 
   pub pivot_keeps : (r v : ℕ) (leaving : Rest) (U : Table) → CanPivot T r v leaving → after_pivot T r v leaving ≡ Ok U → IsTableOf m b U
   pivot_keeps r v leaving U can e = record {
     table = after_pivot_table r v leaving U can e;
-    stands = pivot_stands T r v leaving of_node.table can.row can.variable can.pivot (Ok tt) U e tt can.enters can.leaves m b of_node.stands;
+    stands = pivot_stands T r v leaving of_node.table can.row can.variable can.pivot (Ok tt) U e tt can.enters can.leaves m b
+        of_node.stands;
     points = pivot_points T r v leaving of_node.table can.row can.variable can.pivot (Ok tt) U e tt m b of_node.stands of_node.points;
   }
 
@@ -41,7 +43,8 @@ module _ (m : Parts) (b : List (ℤ × ℤ)) (T : Table) (of_node : IsTableOf m 
   flip_keeps v can =
       let t = of_node.table in
       record {
-        table = record { rows = t.rows; basics = t.basics; rests = length-set T.rests v (other_side (rest_at T.rests v)) ∙ t.rests; within = t.within };
+        table = record { rows = t.rows; basics = t.basics; rests = length-set T.rests v (other_side (rest_at T.rests v)) ∙ t.rests;
+            within = t.within };
         stands = flip_stands T v can.rests can.low can.high can.variable t.rests m b of_node.stands;
         points = flip_points T v can.rests can.low can.high m of_node.points;
       }
@@ -61,15 +64,18 @@ pub after_next : (m : Parts) (b : List (ℤ × ℤ)) (n : ℕ) (T : Table) → a
 unfolding after
 after_next m b n T e = ap (λ (o : Result Table Wide). and_then o (λ T. step T (next T))) e
 
-pub after_one_more : (m : Parts) (b : List (ℤ × ℤ)) (n : ℕ) (T U : Table) (s : Next) → after m b n ≡ Ok T → next T ≡ s → step T s ≡ Ok U → after m b (n + 1) ≡ Ok U
+pub after_one_more : (m : Parts) (b : List (ℤ × ℤ)) (n : ℕ) (T U : Table) (s : Next) → after m b n ≡ Ok T → next T ≡ s → step T s ≡ Ok U →
+    after m b (n + 1) ≡ Ok U
 after_one_more m b n T U s e f g = let q : n + 1 ≡ suc n = omega arith in ap (after m b) q ∙ after_next m b n T e ∙ ap (step T) f ∙ g
 
 -- where there is a tableau after a step, there was one before it
-pub after_before : (m : Parts) (b : List (ℤ × ℤ)) (n : ℕ) (U : Table) → after m b (suc n) ≡ Ok U → (T : Table) × (after m b n ≡ Ok T) × (step T (next T) ≡ Ok U)
+pub after_before : (m : Parts) (b : List (ℤ × ℤ)) (n : ℕ) (U : Table) → after m b (suc n) ≡ Ok U → (T : Table) × (after m b n ≡ Ok T)
+    × (step T (next T) ≡ Ok U)
 unfolding after
 after_before m b n U e = by (after m b n) refl e
   where
-    by : (o : Result Table Wide) → after m b n ≡ o → and_then o (λ T. step T (next T)) ≡ Ok U → (T : Table) × (after m b n ≡ Ok T) × (step T (next T) ≡ Ok U)
+    by : (o : Result Table Wide) → after m b n ≡ o → and_then o (λ T. step T (next T)) ≡ Ok U → (T : Table) × (after m b n ≡ Ok T)
+        × (step T (next T) ≡ Ok U)
     by (Ok T) f g = (T, f, g)
     by (Err w) f g = absurd cc
 
@@ -83,7 +89,8 @@ pub runs_stand : RunsStand
 unfolding after
 runs_stand m b zero T limits size e =
     let is : start_of m b ≡ T = cc in
-    subst (IsTableOf m b) is (record { table = start-table m b limits size; stands = start-stands m b limits size; points = start-points m b limits size })
+    subst (IsTableOf m b) is (record { table = start-table m b limits size; stands = start-stands m b limits size;
+        points = start-points m b limits size })
 runs_stand m b (suc n) T limits size e = let r = after_before m b n T e in next_keeps m b r.0 (runs_stand m b n r.0 limits size r.1) T r.2
 
 -- a final step changes nothing
@@ -105,12 +112,14 @@ pub runs_have_begun : RunsHaveBegun
 runs_have_begun m b k zero T l e = let q : k ≡ 0 = omega arith in (T, ap (after m b) q ∙ e)
 runs_have_begun m b k (suc n) T l e = by (eq-or-lt_of_le l) (after_before m b n T e) (runs_have_begun m b k n)
   where
-    by : (k ≡ suc n) ⊎ (k < suc n) → (U : Table) × (after m b n ≡ Ok U) × (step U (next U) ≡ Ok T) → ((U : Table) → k ≤ n → after m b n ≡ Ok U → (V : Table) × (after m b k ≡ Ok V)) → (U : Table) × (after m b k ≡ Ok U)
+    by : (k ≡ suc n) ⊎ (k < suc n) → (U : Table) × (after m b n ≡ Ok U) × (step U (next U) ≡ Ok T) →
+        ((U : Table) → k ≤ n → after m b n ≡ Ok U → (V : Table) × (after m b k ≡ Ok V)) → (U : Table) × (after m b k ≡ Ok U)
     by (inl q) r ih = (T, ap (after m b) q ∙ e)
     by (inr q) r ih = ih r.0 (omega arith) r.1
 
 -- a run that is final before is not unfinished later
-pub final_is_not_unfinished : (m : Parts) (b : List (ℤ × ℤ)) (k n : ℕ) (T : Table) → after m b k ≡ Ok T → is_final (next T) ≡ true → k ≤ n → IsNotFinal m b n → ⊥
+pub final_is_not_unfinished : (m : Parts) (b : List (ℤ × ℤ)) (k n : ℕ) (T : Table) → after m b k ≡ Ok T → is_final (next T) ≡ true → k ≤ n
+    → IsNotFinal m b n → ⊥
 final_is_not_unfinished m b k n T e f l u =
     let same : Ok T ≡ Ok u.tableau = sym (finals_stay m b k n T e f l) ∙ u.after in
     let is : T ≡ u.tableau = cc in

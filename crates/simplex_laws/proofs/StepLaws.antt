@@ -1,5 +1,6 @@
 -- The next step of a tableau can be made.
-use Rattle.std.specs.Prelude.{◌≡◌, ◌≢◌, ℕ, ◌-◌, ◌<◌, ◌==◌, ◌&&◌, not, Bool, true, false, cond, if◌then◌else◌, List, length, Option, Some, None, option_map, option_and_then, ℤ, pos, unsigned_abs}
+use Rattle.std.specs.Prelude.{◌≡◌, ◌≢◌, ℕ, ◌-◌, ◌<◌, ◌==◌, ◌&&◌, not, Bool, true, false, cond, if◌then◌else◌, List, length, Option, Some,
+    None, option_map, option_and_then, ℤ, pos, unsigned_abs}
 use Rattle.std.specs.List.{position}
 use Rattle.std.specs.Int.Signed.{lt_z}
 use Rattle.std.proofs.Common.{arith, refl, ap, sym, ◌∙◌, subst}
@@ -24,7 +25,8 @@ use Rattle.tableau.specs.Nodes.{number, RestsRight, StandsFor}
 use Rattle.tableau.specs.Meanings.{value_number, price_number, ratio_number}
 use Rattle.simplex_laws.specs.declared.next.Next.{Next}
 use Rattle.simplex_laws.specs.declared.next.Next.TheVariants.{Pivot, Flip, FinalRow}
-use Rattle.simplex_laws.specs.Steps.{rests_for, can_go, way, above, outside, breach, side_towards, mender, mend, side_met, stop_at, stop, nearest, move_by, move, entering, improve, by_breach, next}
+use Rattle.simplex_laws.specs.Steps.{rests_for, can_go, way, above, outside, breach, side_towards, mender, mend, side_met, stop_at, stop,
+    nearest, move_by, move, entering, improve, by_breach, next}
 use Rattle.simplex_laws.specs.Laws.{CanPivot, CanFlip, CanStep, StepsCanBeMade}
 use Rattle.simplex_laws.proofs.ChoiceLaws.{paired, first_is, nearest_is}
 use Rattle.ip_defs.proofs.BoolLaws.{both_true}
@@ -40,7 +42,8 @@ rises z e h = let q : lt_z (pos 0) (pos 0) ≡ true = ap (λ w. lt_z (pos 0) w) 
 -- a fraction 0 is the number 0
 zero_value : (x : Fraction) → x.num ≡ pos 0 → value_of x ≡ of (pos 0)
 unfolding rational of
-zero_value x e = ap (λ n. rational n x.den) e ∙ same (pos 0) (unsigned_abs x.den - 1) (pos 0) 0 (ring2 whole (λ a b. num (pos 0) ⊗ a) (λ a b. num (pos 0) ⊗ b) refl (S 0) (S (unsigned_abs x.den - 1)))
+zero_value x e = ap (λ n. rational n x.den) e ∙ same (pos 0) (unsigned_abs x.den - 1) (pos 0) 0
+    (ring2 whole (λ a b. num (pos 0) ⊗ a) (λ a b. num (pos 0) ⊗ b) refl (S 0) (S (unsigned_abs x.den - 1)))
 
 pub numerator : (x : Fraction) → value_of x ≢ of (pos 0) → x.num ≢ pos 0
 numerator x n e = n (zero_value x e)
@@ -57,18 +60,19 @@ can_rest T v High n h = h
 can_rest T v Zero n h = h
 
 -- what can go its way is not basic, and its number is not 0
-pub way_is : (T : Table) (p : Rational) (v : ℕ) (up : Bool) → way T p v ≡ Some up → (p.top ≢ pos 0) × (rest_at T.rests v ≢ Basic)
-way_is T p v up e = by (lt_z p.top (pos 0) && can_go T true v) (lt_z (pos 0) p.top && can_go T false v) refl refl e
+pub way_is : (T : Table) (p : Rational) (v : ℕ) (up : Bool) → way T p v ≡ Some up → (p.numerator ≢ pos 0) × (rest_at T.rests v ≢ Basic)
+way_is T p v up e = by (lt_z p.numerator (pos 0) && can_go T true v) (lt_z (pos 0) p.numerator && can_go T false v) refl refl e
   where
-    by : (s t : Bool) → (lt_z p.top (pos 0) && can_go T true v) ≡ s → (lt_z (pos 0) p.top && can_go T false v) ≡ t → cond s (Some true) (cond t (Some false) None) ≡ Some up → (p.top ≢ pos 0) × (rest_at T.rests v ≢ Basic)
+    by : (s t : Bool) → (lt_z p.numerator (pos 0) && can_go T true v) ≡ s → (lt_z (pos 0) p.numerator && can_go T false v) ≡ t →
+        cond s (Some true) (cond t (Some false) None) ≡ Some up → (p.numerator ≢ pos 0) × (rest_at T.rests v ≢ Basic)
     by true t f g h =
-        let x = both_true (lt_z p.top (pos 0)) (can_go T true v) f in
+        let x = both_true (lt_z p.numerator (pos 0)) (can_go T true v) f in
         let y = both_true (rests_for true (rest_at T.rests v)) (not (is_fixed (variable_at T.variables v))) x.1 in
-        (falls p.top x.0, not_basic true (rest_at T.rests v) y.0)
+        (falls p.numerator x.0, not_basic true (rest_at T.rests v) y.0)
     by false true f g h =
-        let x = both_true (lt_z (pos 0) p.top) (can_go T false v) g in
+        let x = both_true (lt_z (pos 0) p.numerator) (can_go T false v) g in
         let y = both_true (rests_for false (rest_at T.rests v)) (not (is_fixed (variable_at T.variables v))) x.1 in
-        (rises p.top x.0, not_basic false (rest_at T.rests v) y.0)
+        (rises p.numerator x.0, not_basic false (rest_at T.rests v) y.0)
     by false false f g h = absurd cc
 
 -- ---- sides
@@ -81,8 +85,10 @@ above_is x (Some z) up e = by (is_below (of z) x) e
     by false g = absurd cc
 
 -- the side that is broken is there
-outside_is : (x : Rational) (variable : Variable) (low : Option ℤ) (up : Bool) → variable.low ≡ low → outside x low variable.high ≡ Some up → CanRest variable (side_towards (not up))
-outside_is x variable None up f e = let a = above_is x variable.high up e in subst (λ (u : Bool). CanRest variable (side_towards (not u))) (sym a.1) a.0
+outside_is : (x : Rational) (variable : Variable) (low : Option ℤ) (up : Bool) → variable.low ≡ low → outside x low variable.high ≡ Some up
+    → CanRest variable (side_towards (not up))
+outside_is x variable None up f e = let a = above_is x variable.high up e in
+    subst (λ (u : Bool). CanRest variable (side_towards (not u))) (sym a.1) a.0
 outside_is x variable (Some z) up f e = by (is_below x (of z)) e
   where
     by : (t : Bool) → cond t (Some true) (above x variable.high) ≡ Some up → CanRest variable (side_towards (not up))
@@ -104,16 +110,18 @@ room_is (Some low) None x e = absurd cc
 room_is (Some low) (Some high) x e = ((λ q. absurd cc), (λ q. absurd cc))
 
 -- a side that is met belongs to a number that is not 0
-met_is : (up : Bool) (t : Rational) (side : Rest) → side_met up t ≡ Some side → t.top ≢ pos 0
-met_is up t side e = by (lt_z t.top (pos 0)) (lt_z (pos 0) t.top) refl refl e
+met_is : (up : Bool) (t : Rational) (side : Rest) → side_met up t ≡ Some side → t.numerator ≢ pos 0
+met_is up t side e = by (lt_z t.numerator (pos 0)) (lt_z (pos 0) t.numerator) refl refl e
   where
-    by : (s u : Bool) → lt_z t.top (pos 0) ≡ s → lt_z (pos 0) t.top ≡ u → cond s (Some (side_towards up)) (cond u (Some (side_towards (not up))) None) ≡ Some side → t.top ≢ pos 0
-    by true u f g h = falls t.top f
-    by false true f g h = rises t.top g
+    by : (s u : Bool) → lt_z t.numerator (pos 0) ≡ s → lt_z (pos 0) t.numerator ≡ u →
+        cond s (Some (side_towards up)) (cond u (Some (side_towards (not up))) None) ≡ Some side → t.numerator ≢ pos 0
+    by true u f g h = falls t.numerator f
+    by false true f g h = rises t.numerator g
     by false false f g h = absurd cc
 
 -- ---- the rows of basic variables
-pub basic_row : (T : Table) → IsTable T → (v k : ℕ) → position (λ w. w == v) T.basics ≡ Some k → (k < length T.rows) × (basic_at T.basics k ≡ v)
+pub basic_row : (T : Table) → IsTable T → (v k : ℕ) → position (λ w. w == v) T.basics ≡ Some k → (k < length T.rows)
+    × (basic_at T.basics k ≡ v)
 basic_row T table v k e =
     let p = position-Some (λ w. w == v) T.basics k 0 e in
     let l = p.0 in
@@ -122,54 +130,74 @@ basic_row T table v k e =
 
 module _ (T : Table) (table : IsTable T) where
   -- a breach is a row whose basic variable is outside its sides
-  pub breach_is : (w i : ℕ) (up : Bool) → breach T w ≡ Some (i, up) → (i < length T.rows) × (basic_at T.basics i ≡ w) × (outside (value_number T i) (variable_at T.variables w).low (variable_at T.variables w).high ≡ Some up)
+  pub breach_is : (w i : ℕ) (up : Bool) → breach T w ≡ Some (i, up) → (i < length T.rows) × (basic_at T.basics i ≡ w)
+      × (outside (value_number T i) (variable_at T.variables w).low (variable_at T.variables w).high ≡ Some up)
   breach_is w i up e = by (position (λ z. z == w) T.basics) refl e
     where
-      two : (k : ℕ) (o : Option Bool) → k < length T.rows → basic_at T.basics k ≡ w → outside (value_number T k) (variable_at T.variables w).low (variable_at T.variables w).high ≡ o → option_map {U = ℕ × Bool} (λ up. (k, up)) o ≡ Some (i, up) → (i < length T.rows) × (basic_at T.basics i ≡ w) × (outside (value_number T i) (variable_at T.variables w).low (variable_at T.variables w).high ≡ Some up)
+      two : (k : ℕ) (o : Option Bool) → k < length T.rows → basic_at T.basics k ≡ w →
+          outside (value_number T k) (variable_at T.variables w).low (variable_at T.variables w).high ≡ o →
+          option_map {U = ℕ × Bool} (λ up. (k, up)) o ≡ Some (i, up) → (i < length T.rows) × (basic_at T.basics i ≡ w)
+          × (outside (value_number T i) (variable_at T.variables w).low (variable_at T.variables w).high ≡ Some up)
       two k None l p g h = absurd cc
       two k (Some u) l p g h =
           let same : paired k u ≡ paired i up = cc in
           let q : k ≡ i = ap (λ (z : ℕ × Bool). z.0) same in
           let r : u ≡ up = ap (λ (z : ℕ × Bool). z.1) same in
-          subst (λ (k : ℕ). (k < length T.rows) × (basic_at T.basics k ≡ w) × (outside (value_number T k) (variable_at T.variables w).low (variable_at T.variables w).high ≡ Some up)) q (l, p, g ∙ ap Some r)
+          subst (λ (k : ℕ). (k < length T.rows) × (basic_at T.basics k ≡ w)
+              × (outside (value_number T k) (variable_at T.variables w).low (variable_at T.variables w).high ≡ Some up)) q (l, p, g
+              ∙ ap Some r)
 
-      by : (o : Option ℕ) → position (λ z. z == w) T.basics ≡ o → option_and_then (λ i. option_map {U = ℕ × Bool} (λ up. (i, up)) (outside (value_number T i) (variable_at T.variables w).low (variable_at T.variables w).high)) o ≡ Some (i, up) → (i < length T.rows) × (basic_at T.basics i ≡ w) × (outside (value_number T i) (variable_at T.variables w).low (variable_at T.variables w).high ≡ Some up)
+      by : (o : Option ℕ) → position (λ z. z == w) T.basics ≡ o →
+          option_and_then (λ i. option_map {U = ℕ × Bool} (λ up. (i, up)) (outside (value_number T i) (variable_at T.variables w).low
+          (variable_at T.variables w).high)) o ≡ Some (i, up) → (i < length T.rows) × (basic_at T.basics i ≡ w)
+          × (outside (value_number T i) (variable_at T.variables w).low (variable_at T.variables w).high ≡ Some up)
       by None g h = absurd cc
       by (Some k) g h =
           let p = basic_row T table w k g in
           two k (outside (value_number T k) (variable_at T.variables w).low (variable_at T.variables w).high) p.0 p.1 refl h
 
-  pub first_breach : (x : ℕ × Bool) → first (breach T) (length T.variables) ≡ Some x → (x.0 < length T.rows) × (outside (value_number T x.0) (variable_at T.variables (basic_at T.basics x.0)).low (variable_at T.variables (basic_at T.basics x.0)).high ≡ Some x.1)
+  pub first_breach : (x : ℕ × Bool) → first (breach T) (length T.variables) ≡ Some x → (x.0 < length T.rows)
+      × (outside (value_number T x.0) (variable_at T.variables (basic_at T.basics x.0)).low
+      (variable_at T.variables (basic_at T.basics x.0)).high ≡ Some x.1)
   first_breach x e =
       let r = first_is (breach T) (length T.variables) x e in
       let s = breach_is r.0 x.0 x.1 r.2 in
-      (s.0, subst (λ (w : ℕ). outside (value_number T x.0) (variable_at T.variables w).low (variable_at T.variables w).high ≡ Some x.1) (sym s.1) s.2)
+      (s.0, subst (λ (w : ℕ). outside (value_number T x.0) (variable_at T.variables w).low (variable_at T.variables w).high
+          ≡ Some x.1) (sym s.1) s.2)
 
   module _ (rests : (v : ℕ) → v < length T.variables → RestsRight T v (rest_at T.rests v)) where
-    mends : (i : ℕ) (up : Bool) (o : Option ℕ) → i < length T.rows → CanRest (variable_at T.variables (basic_at T.basics i)) (side_towards (not up)) → mender T i up ≡ o → CanStep T (mend i up o)
+    mends : (i : ℕ) (up : Bool) (o : Option ℕ) → i < length T.rows →
+        CanRest (variable_at T.variables (basic_at T.basics i)) (side_towards (not up)) → mender T i up ≡ o → CanStep T (mend i up o)
     mends i up None l leaves e = l
-    mends i up (Some v) l leaves e = by (first_is (λ v. option_map (λ go. v) (way T (if up then number T i v else neg (number T i v)) v)) (length T.variables) v e)
+    mends i up (Some v) l leaves e = by (first_is (λ v. option_map (λ go. v) (way T (if up then number T i v else neg (number T i v)) v))
+        (length T.variables) v e)
       where
-        pivot_of : (up : Bool) (w : ℕ) → (if up then number T i w else neg (number T i w)).top ≢ pos 0 → (entry T.rows i w).num ≢ pos 0
+        pivot_of : (up : Bool) (w : ℕ) → (if up then number T i w else neg (number T i w)).numerator ≢ pos 0 →
+            (entry T.rows i w).num ≢ pos 0
         pivot_of true w h = numerator (entry T.rows i w) (nonzero (number T i w) h)
         pivot_of false w h = numerator (entry T.rows i w) (nonzero_neg (number T i w) h)
 
-        at : (w : ℕ) → w < length T.variables → (o : Option Bool) → way T (if up then number T i w else neg (number T i w)) w ≡ o → option_map (λ go. w) o ≡ Some v → CanPivot T i v (side_towards (not up))
+        at : (w : ℕ) → w < length T.variables → (o : Option Bool) → way T (if up then number T i w else neg (number T i w)) w ≡ o →
+            option_map (λ go. w) o ≡ Some v → CanPivot T i v (side_towards (not up))
         at w k None g h = absurd cc
         at w k (Some go) g h =
             let q : w ≡ v = cc in
             let x = way_is T (if up then number T i w else neg (number T i w)) w go g in
-            subst (λ (z : ℕ). CanPivot T i z (side_towards (not up))) q (record { row = l; variable = k; pivot = pivot_of up w x.0; enters = x.1; leaves = leaves })
+            subst (λ (z : ℕ). CanPivot T i z (side_towards (not up))) q (record { row = l; variable = k; pivot = pivot_of up w x.0;
+                enters = x.1; leaves = leaves })
 
-        by : (w : ℕ) × (w < length T.variables) × (option_map (λ go. w) (way T (if up then number T i w else neg (number T i w)) w) ≡ Some v) → CanPivot T i v (side_towards (not up))
+        by : (w : ℕ) × (w < length T.variables) × (option_map (λ go. w) (way T (if up then number T i w else neg (number T i w)) w)
+            ≡ Some v) → CanPivot T i v (side_towards (not up))
         by r = at r.0 r.1 (way T (if up then number T i r.0 else neg (number T i r.0)) r.0) refl r.2
 
     module _ (v : ℕ) (up : Bool) (inside : v < length T.variables) (free : rest_at T.rests v ≢ Basic) where
       -- a side of a basic variable stops v by a pivot that can be made
-      stops_at : (i : ℕ) (side : Rest) (x : Rational × Next) → i < length T.rows → (number T i v).top ≢ pos 0 → stop_at T v i side ≡ Some x → CanStep T x.1
+      stops_at : (i : ℕ) (side : Rest) (x : Rational × Next) → i < length T.rows → (number T i v).numerator ≢ pos 0 →
+          stop_at T v i side ≡ Some x → CanStep T x.1
       stops_at i side x l n e = by (side_at (variable_at T.variables (basic_at T.basics i)) side) refl e
         where
-          by : (o : Option ℤ) → side_at (variable_at T.variables (basic_at T.basics i)) side ≡ o → option_map {U = Rational × Next} (λ there. (absolute (ratio_number T i v side), Pivot i v side)) o ≡ Some x → CanStep T x.1
+          by : (o : Option ℤ) → side_at (variable_at T.variables (basic_at T.basics i)) side ≡ o →
+              option_map {U = Rational × Next} (λ there. (absolute (ratio_number T i v side), Pivot i v side)) o ≡ Some x → CanStep T x.1
           by None f h = absurd cc
           by (Some z) f h =
               let q : paired (absolute (ratio_number T i v side)) (Pivot i v side) ≡ x = cc in
@@ -181,7 +209,8 @@ module _ (T : Table) (table : IsTable T) where
                 leaves = named_side (variable_at T.variables (basic_at T.basics i)) side z f;
               })
 
-      stops_in : (i : ℕ) (x : Rational × Next) → i < length T.rows → option_and_then (stop_at T v i) (side_met up (number T i v)) ≡ Some x → CanStep T x.1
+      stops_in : (i : ℕ) (x : Rational × Next) → i < length T.rows → option_and_then (stop_at T v i) (side_met up (number T i v)) ≡ Some x
+          → CanStep T x.1
       stops_in i x l e = by (side_met up (number T i v)) refl e
         where
           by : (o : Option Rest) → side_met up (number T i v) ≡ o → option_and_then (stop_at T v i) o ≡ Some x → CanStep T x.1
@@ -191,7 +220,9 @@ module _ (T : Table) (table : IsTable T) where
       stops : (w : ℕ) (x : Rational × Next) → stop T v up w ≡ Some x → CanStep T x.1
       stops w x e = by (w == v) (room (variable_at T.variables v)) (position (λ z. z == w) T.basics) refl refl e
         where
-          by : (t : Bool) (far : Option Rational) (at : Option ℕ) → room (variable_at T.variables v) ≡ far → position (λ z. z == w) T.basics ≡ at → cond t (option_map (λ far. (far, Flip v)) far) (option_and_then (λ i. option_and_then (stop_at T v i) (side_met up (number T i v))) at) ≡ Some x → CanStep T x.1
+          by : (t : Bool) (far : Option Rational) (at : Option ℕ) → room (variable_at T.variables v) ≡ far →
+              position (λ z. z == w) T.basics ≡ at → cond t (option_map (λ far. (far, Flip v)) far)
+              (option_and_then (λ i. option_and_then (stop_at T v i) (side_met up (number T i v))) at) ≡ Some x → CanStep T x.1
           by true None at g f h = absurd cc
           by true (Some far) at g f h =
               let q : paired far (Flip v) ≡ x = cc in
@@ -213,14 +244,16 @@ module _ (T : Table) (table : IsTable T) where
     improves None e = tt
     improves (Some go) e = by (first_is (λ v. option_map (λ up. (v, up)) (way T (price_number T v) v)) (length T.variables) go e)
       where
-        at : (w : ℕ) → w < length T.variables → (o : Option Bool) → way T (price_number T w) w ≡ o → option_map (λ up. (w, up)) o ≡ Some go → CanStep T (move T go)
+        at : (w : ℕ) → w < length T.variables → (o : Option Bool) → way T (price_number T w) w ≡ o → option_map (λ up. (w, up)) o ≡ Some go
+            → CanStep T (move T go)
         at w k None g h = absurd cc
         at w k (Some up) g h =
             let q : paired w up ≡ go = cc in
             let x = way_is T (price_number T w) w up g in
             subst (λ (z : ℕ × Bool). CanStep T (move T z)) q (moves w up k x.1 (nearest (stop T w up) (length T.variables)) refl)
 
-        by : (w : ℕ) × (w < length T.variables) × (option_map (λ up. (w, up)) (way T (price_number T w) w) ≡ Some go) → CanStep T (move T go)
+        by : (w : ℕ) × (w < length T.variables) × (option_map (λ up. (w, up)) (way T (price_number T w) w) ≡ Some go) →
+            CanStep T (move T go)
         by r = at r.0 r.1 (way T (price_number T r.0) r.0) refl r.2
 
     breaches : (o : Option (ℕ × Bool)) → first (breach T) (length T.variables) ≡ o → CanStep T (by_breach T o)

@@ -1,6 +1,7 @@
 -- Something always stops a variable that is not basic: a column at its other side, and a slack by a column of the rows, for else the
 -- slack would move where no column does.
-use Rattle.std.specs.Prelude.{◌≡◌, ◌≢◌, ℕ, ◌+◌, ◌<◌, ◌==◌, not, Bool, true, false, cond, if◌then◌else◌, List, [], length, Option, Some, None, option_map, option_and_then, ℤ, pos}
+use Rattle.std.specs.Prelude.{◌≡◌, ◌≢◌, ℕ, ◌+◌, ◌<◌, ◌==◌, not, Bool, true, false, cond, if◌then◌else◌, List, [], length, Option, Some,
+    None, option_map, option_and_then, ℤ, pos}
 use Rattle.std.specs.List.{position}
 use Rattle.std.specs.Int.Signed.{lt_z}
 use Rattle.std.proofs.Common.{arith, refl, ap, sym, ◌∙◌, subst, ◌⊎◌, inl, inr}
@@ -18,7 +19,7 @@ use Rattle.ip_defs.specs.declared.programs.Parts.{Parts}
 use Rattle.lp_duality.proofs.SignLaws.{top_zero, over_positive}
 use Rattle.tableau.specs.declared.rests.Rest.TheVariants.{Basic, Low, High}
 use Rattle.tableau.specs.Tables.{Table, basic_at, rest_at, variable_at, IsTable}
-use Rattle.tableau.specs.Nodes.{number, StandsFor, IsNought, HasItsPoints}
+use Rattle.tableau.specs.Nodes.{number, StandsFor, AreRowsZero, HasItsPoints}
 use Rattle.tableau.specs.Meanings.{ratio_number}
 use Rattle.tableau.proofs.RowLaws.{same_number}
 use Rattle.tableau.proofs.TableLaws.{system_of}
@@ -35,7 +36,7 @@ use Rattle.ip_defs.proofs.ListLaws.{unmapped}
 
 one_apart : of (pos 1) ≢ of (pos 0)
 unfolding of
-one_apart e = let p = over_positive (pos 1) 0 (omega (arith, ints)) in let q = ap (λ z. z.top) e ∙ zero_top in omega (arith, ints)
+one_apart e = let p = over_positive (pos 1) 0 (omega (arith, ints)) in let q = ap (λ z. z.numerator) e ∙ zero_top in omega (arith, ints)
 
 pub if_same : {A : Type 0} (v w : ℕ) (a b : A) → v ≡ w → cond (v == w) a b ≡ a
 if_same v w a b e = by (v == w) refl
@@ -52,19 +53,27 @@ if_other v w a b e = by (v == w) refl
     by false f = refl
 
 -- a basic variable with both sides stops v, but where its entry is 0
-flat_entry : (T : Table) (v k : ℕ) (up : Bool) → (variable_at T.variables (basic_at T.basics k)).low ≢ None → (variable_at T.variables (basic_at T.basics k)).high ≢ None → option_and_then (stop_at T v k) (side_met up (number T k v)) ≡ None → number T k v ≡ of (pos 0)
-flat_entry T v k up low high e = by (lt_z (number T k v).top (pos 0)) (lt_z (pos 0) (number T k v).top) refl refl e
+flat_entry : (T : Table) (v k : ℕ) (up : Bool) → (variable_at T.variables (basic_at T.basics k)).low ≢ None →
+    (variable_at T.variables (basic_at T.basics k)).high ≢ None → option_and_then (stop_at T v k) (side_met up (number T k v)) ≡ None →
+    number T k v ≡ of (pos 0)
+flat_entry T v k up low high e = by (lt_z (number T k v).numerator (pos 0)) (lt_z (pos 0) (number T k v).numerator) refl refl e
   where
     stops : (u : Bool) → stop_at T v k (side_towards u) ≢ None
-    stops true h = high (unmapped {B = Rational × Next} (λ there. (absolute (ratio_number T k v High), Pivot k v High)) (variable_at T.variables (basic_at T.basics k)).high h)
-    stops false h = low (unmapped {B = Rational × Next} (λ there. (absolute (ratio_number T k v Low), Pivot k v Low)) (variable_at T.variables (basic_at T.basics k)).low h)
+    stops true h = high (unmapped {B = Rational × Next} (λ there. (absolute (ratio_number T k v High), Pivot k v High))
+        (variable_at T.variables (basic_at T.basics k)).high h)
+    stops false h = low (unmapped {B = Rational × Next} (λ there. (absolute (ratio_number T k v Low), Pivot k v Low))
+        (variable_at T.variables (basic_at T.basics k)).low h)
 
-    by : (s t : Bool) → lt_z (number T k v).top (pos 0) ≡ s → lt_z (pos 0) (number T k v).top ≡ t → option_and_then (stop_at T v k) (cond s (Some (side_towards up)) (cond t (Some (side_towards (not up))) None)) ≡ None → number T k v ≡ of (pos 0)
+    by : (s t : Bool) → lt_z (number T k v).numerator (pos 0) ≡ s → lt_z (pos 0) (number T k v).numerator ≡ t →
+        option_and_then (stop_at T v k) (cond s (Some (side_towards up)) (cond t (Some (side_towards (not up))) None)) ≡ None →
+        number T k v ≡ of (pos 0)
     by true t f g h = absurd (stops up h)
     by false true f g h = absurd (stops (not up) h)
-    by false false f g h = top_zero (number T k v) (let x = not_less (number T k v).top (pos 0) f in let y = not_less (pos 0) (number T k v).top g in omega (arith, ints))
+    by false false f g h = top_zero (number T k v) (let x = not_less (number T k v).numerator (pos 0) f in
+        let y = not_less (pos 0) (number T k v).numerator g in omega (arith, ints))
 
-module _ (m : Parts) (b : List (ℤ × ℤ)) (T : Table) (table : IsTable T) (stands : StandsFor m b T) (v : ℕ) (up : Bool) (inside : v < length m.columns + length m.rows) (free : rest_at T.rests v ≢ Basic)
+module _ (m : Parts) (b : List (ℤ × ℤ)) (T : Table) (table : IsTable T) (stands : StandsFor m b T) (v : ℕ) (up : Bool) (inside : v
+    < length m.columns + length m.rows) (free : rest_at T.rests v ≢ Basic)
     (loose : (w : ℕ) → w < length m.columns + length m.rows → stop T v up w ≡ None) where
   not_basic : (i : ℕ) → i < length m.rows → basic_at T.basics i ≢ v
   not_basic i l e = free (ap (rest_at T.rests) (sym e) ∙ stands.basic i l)
@@ -89,7 +98,8 @@ module _ (m : Parts) (b : List (ℤ × ℤ)) (T : Table) (table : IsTable T) (st
   x_is : (u : ℕ) → ((k : ℕ) × (k < length m.rows) × (basic_at T.basics k ≡ u) × (x u ≡ neg (number T k v))) ⊎ (x u ≡ q u)
   x_is u = by (position (λ w. w == u) T.basics) refl
     where
-      by : (o : Option ℕ) → position (λ w. w == u) T.basics ≡ o → ((k : ℕ) × (k < length m.rows) × (basic_at T.basics k ≡ u) × (by_place o u ≡ neg (number T k v))) ⊎ (by_place o u ≡ q u)
+      by : (o : Option ℕ) → position (λ w. w == u) T.basics ≡ o → ((k : ℕ) × (k < length m.rows) × (basic_at T.basics k ≡ u)
+          × (by_place o u ≡ neg (number T k v))) ⊎ (by_place o u ≡ q u)
       by None e = inr refl
       by (Some k) e = let p = basic_place m b T table stands u k e in inl (k, p.0, p.1, refl)
 
@@ -101,38 +111,49 @@ module _ (m : Parts) (b : List (ℤ × ℤ)) (T : Table) (table : IsTable T) (st
       by (Some k) e = ap (λ z. neg (number T z v)) (own_place m b T table stands i k l e)
 
   -- the rows of the tableau are 0 in that direction
-  x_nought : IsNought m T x
-  x_nought = basic_point rationals (length m.rows) (length m.columns) (coefficient_of m.rows) (number T) (basic_at T.basics) (system_of m b T stands) x q
+  x_zero : AreRowsZero m T x
+  x_zero = basic_point rationals (length m.rows) (length m.columns) (coefficient_of m.rows) (number T) (basic_at T.basics)
+      (system_of m b T stands) x q
       (λ u l. by u (x_is u))
       (λ i l. q_other (basic_at T.basics i) (not_basic i l))
-      (λ i l. x_basic i l ∙ ap neg (sym (sum_single rationals (λ w. mul (number T i w) (q w)) v (length m.columns + length m.rows) inside (λ w k n. ap (λ z. mul (number T i w) z) (q_other w n) ∙ mul_zero rationals (number T i w)) ∙ ap (λ z. mul (number T i v) z) q_own ∙ rationals.mul_one (number T i v))))
+      (λ i l. x_basic i l ∙ ap neg (sym (sum_single rationals (λ w. mul (number T i w) (q w)) v (length m.columns
+          + length m.rows) inside (λ w k n. ap (λ z. mul (number T i w) z) (q_other w n) ∙ mul_zero rationals (number T i w))
+          ∙ ap (λ z. mul (number T i v) z) q_own ∙ rationals.mul_one (number T i v))))
     where
-      by : (u : ℕ) → ((k : ℕ) × (k < length m.rows) × (basic_at T.basics k ≡ u) × (x u ≡ neg (number T k v))) ⊎ (x u ≡ q u) → ((k : ℕ) × (k < length m.rows) × (basic_at T.basics k ≡ u)) ⊎ (x u ≡ q u)
+      by : (u : ℕ) → ((k : ℕ) × (k < length m.rows) × (basic_at T.basics k ≡ u) × (x u ≡ neg (number T k v))) ⊎ (x u ≡ q u) →
+          ((k : ℕ) × (k < length m.rows) × (basic_at T.basics k ≡ u)) ⊎ (x u ≡ q u)
       by u (inl (k, l, e, f)) = inl (k, l, e)
       by u (inr e) = inr e
 
   -- no basic column moves
   column_flat : (i : ℕ) → i < length m.rows → basic_at T.basics i < length m.columns → number T i v ≡ of (pos 0)
-  column_flat i l c = by (basic_at T.basics i == v) refl (position (λ z. z == basic_at T.basics i) T.basics) refl (loose (basic_at T.basics i) (stands.within i l))
+  column_flat i l c = by (basic_at T.basics i == v) refl (position (λ z. z == basic_at T.basics i) T.basics) refl
+      (loose (basic_at T.basics i) (stands.within i l))
     where
       low_there : (variable_at T.variables (basic_at T.basics i)).low ≢ None
-      low_there h = let p : Some (low_at b (basic_at T.basics i)) ≡ None = sym (column_low m b T stands (basic_at T.basics i) c) ∙ h in absurd cc
+      low_there h = let p : Some (low_at b (basic_at T.basics i)) ≡ None = sym (column_low m b T stands (basic_at T.basics i) c) ∙ h in
+          absurd cc
 
       high_there : (variable_at T.variables (basic_at T.basics i)).high ≢ None
-      high_there h = let p : Some (high_at b (basic_at T.basics i)) ≡ None = sym (column_high m b T stands (basic_at T.basics i) c) ∙ h in absurd cc
+      high_there h = let p : Some (high_at b (basic_at T.basics i)) ≡ None = sym (column_high m b T stands (basic_at T.basics i) c) ∙ h in
+          absurd cc
 
       by : (t : Bool) → (basic_at T.basics i == v) ≡ t → (o : Option ℕ) → position (λ z. z == basic_at T.basics i) T.basics ≡ o
-          → cond t (option_map {U = Rational × Next} (λ far. (far, Flip v)) (room (variable_at T.variables v))) (option_and_then (λ k. option_and_then (stop_at T v k) (side_met up (number T k v))) o) ≡ None → number T i v ≡ of (pos 0)
+          → cond t (option_map {U = Rational × Next} (λ far. (far, Flip v)) (room (variable_at T.variables v)))
+              (option_and_then (λ k. option_and_then (stop_at T v k) (side_met up (number T k v))) o) ≡ None → number T i v ≡ of (pos 0)
       by true f o g h = absurd (not_basic i l (eqb-true (basic_at T.basics i) v f))
       by false f None g h = absurd (has_place m b T table stands i (basic_at T.basics i) l refl g)
       by false f (Some k) g h =
           let same = own_place m b T table stands i k l g in
-          flat_entry T v i up low_there high_there (subst (λ (k : ℕ). option_and_then (stop_at T v k) (side_met up (number T k v)) ≡ None) same h)
+          flat_entry T v i up low_there high_there (subst (λ (k : ℕ). option_and_then (stop_at T v k) (side_met up (number T k v))
+              ≡ None) same h)
 
   own_room : room (variable_at T.variables v) ≡ None
   own_room = by (v == v) (same_number v) (loose v inside)
     where
-      by : (t : Bool) → t ≡ true → cond t (option_map {U = Rational × Next} (λ far. (far, Flip v)) (room (variable_at T.variables v))) (option_and_then (λ k. option_and_then (stop_at T v k) (side_met up (number T k v))) (position (λ z. z == v) T.basics)) ≡ None → room (variable_at T.variables v) ≡ None
+      by : (t : Bool) → t ≡ true → cond t (option_map {U = Rational × Next} (λ far. (far, Flip v)) (room (variable_at T.variables v)))
+          (option_and_then (λ k. option_and_then (stop_at T v k) (side_met up (number T k v))) (position (λ z. z == v) T.basics)) ≡ None →
+          room (variable_at T.variables v) ≡ None
       by false f h = absurd cc
       by true f h = unmapped {B = Rational × Next} (λ far. (far, Flip v)) (room (variable_at T.variables v)) h
 
@@ -143,7 +164,8 @@ module _ (m : Parts) (b : List (ℤ × ℤ)) (T : Table) (table : IsTable T) (st
       at_column k e j l = is (x_is j)
         where
           is : ((k : ℕ) × (k < length m.rows) × (basic_at T.basics k ≡ j) × (x j ≡ neg (number T k v))) ⊎ (x j ≡ q j) → x j ≡ of (pos 0)
-          is (inl (i, o, p, f)) = f ∙ ap neg (column_flat i o (omega arith)) ∙ identity rationals [] (minus (num (pos 0))) (num (pos 0)) refl
+          is (inl (i, o, p, f)) = f ∙ ap neg (column_flat i o (omega arith))
+              ∙ identity rationals [] (minus (num (pos 0))) (num (pos 0)) refl
           is (inr f) = f ∙ q_other j (omega arith)
 
       at_own : ((k : ℕ) × (k < length m.rows) × (basic_at T.basics k ≡ v) × (x v ≡ neg (number T k v))) ⊎ (x v ≡ q v) → x v ≡ of (pos 1)
@@ -152,14 +174,19 @@ module _ (m : Parts) (b : List (ℤ × ℤ)) (T : Table) (table : IsTable T) (st
 
       by : (v < length m.columns) ⊎ ((k : ℕ) × (k < length m.rows) × (v ≡ length m.columns + k)) → ⊥
       by (inl c) =
-          let first = subst (λ (o : Option ℤ). room_between o (variable_at T.variables v).high ≡ None) (column_low m b T stands v c) own_room in
+          let first = subst (λ (o : Option ℤ). room_between o (variable_at T.variables v).high
+                  ≡ None) (column_low m b T stands v c) own_room in
           let second = subst (λ (o : Option ℤ). room_between (Some (low_at b v)) o ≡ None) (column_high m b T stands v c) first in
           absurd cc
       by (inr (k, s, e)) =
-          let total = sum_same rationals (λ j. mul (of (coefficient_of m.rows k j)) (x j)) (λ j. of (pos 0)) (length m.columns) (λ j l. ap (λ z. mul (of (coefficient_of m.rows k j)) z) (at_column k e j l) ∙ mul_zero rationals (of (coefficient_of m.rows k j))) ∙ sum_zero rationals (length m.columns) in
-          one_apart (sym (at_own (x_is v)) ∙ ap x e ∙ has x x_nought k s ∙ total)
+          let total = sum_same rationals (λ j. mul (of (coefficient_of m.rows k j)) (x j)) (λ j. of (pos 0)) (length m.columns)
+                  (λ j l. ap (λ z. mul (of (coefficient_of m.rows k j)) z) (at_column k e j l)
+                  ∙ mul_zero rationals (of (coefficient_of m.rows k j))) ∙ sum_zero rationals (length m.columns) in
+          one_apart (sym (at_own (x_is v)) ∙ ap x e ∙ has x x_zero k s ∙ total)
 
 -- something stops a variable that is not basic, whichever way it goes
-pub something_stops : (m : Parts) (b : List (ℤ × ℤ)) (T : Table) → IsTable T → StandsFor m b T → HasItsPoints m T → (v : ℕ) (up : Bool) → v < length T.variables → rest_at T.rests v ≢ Basic → nearest (stop T v up) (length T.variables) ≢ None
+pub something_stops : (m : Parts) (b : List (ℤ × ℤ)) (T : Table) → IsTable T → StandsFor m b T → HasItsPoints m T → (v : ℕ) (up : Bool) →
+    v < length T.variables → rest_at T.rests v ≢ Basic → nearest (stop T v up) (length T.variables) ≢ None
 something_stops m b T table stands has v up inside free e =
-    never_loose m b T table stands v up (let s = stands.size in omega arith) free (λ w l. nearest_none (stop T v up) (length T.variables) e w (let s = stands.size in omega arith)) has
+    never_loose m b T table stands v up (let s = stands.size in
+        omega arith) free (λ w l. nearest_none (stop T v up) (length T.variables) e w (let s = stands.size in omega arith)) has

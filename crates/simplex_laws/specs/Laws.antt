@@ -45,22 +45,26 @@ StepsCanBeMade = (m : Parts) (b : List (ℤ × ℤ)) (T : Table) → IsTable T �
 -- ---- final tableaus
 -- where a tableau is final with a point, the point lies in the relaxation, and the dual value of the slacks' prices is what it costs
 abbrev pub BestIsRight : Type 0
-BestIsRight = (m : Parts) (b : List (ℤ × ℤ)) (T : Table) → IsTable T → StandsFor m b T → HasItsPoints m T → IsUncrossed m b → next T ≡ FinalPoint
+BestIsRight = (m : Parts) (b : List (ℤ × ℤ)) (T : Table) → IsTable T → StandsFor m b T → HasItsPoints m T → IsUncrossed m b →
+    next T ≡ FinalPoint
     → IsRelaxed m b (point_of T) × (dual m b (of (pos 1)) (slack_prices m T) ≡ Some (total_cost m (point_of T)))
 
 -- and no point of the relaxation costs less
 abbrev pub BestIsLeast : Type 0
-BestIsLeast = (m : Parts) (b : List (ℤ × ℤ)) (T : Table) → IsTable T → StandsFor m b T → HasItsPoints m T → IsUncrossed m b → next T ≡ FinalPoint
+BestIsLeast = (m : Parts) (b : List (ℤ × ℤ)) (T : Table) → IsTable T → StandsFor m b T → HasItsPoints m T → IsUncrossed m b →
+    next T ≡ FinalPoint
     → (x : ℕ → Rational) → IsRelaxed m b x → AtMost (total_cost m (point_of T)) (total_cost m x)
 
 -- where it is final by a row, the row's slack entries, or their negations, have a positive dual value without a cost
 abbrev pub EmptyIsRight : Type 0
-EmptyIsRight = (m : Parts) (b : List (ℤ × ℤ)) (T : Table) (i : ℕ) (up : Bool) → IsTable T → StandsFor m b T → IsUncrossed m b → next T ≡ FinalRow i up
-    → (gain : Rational) × (dual m b (of (pos 0)) (slack_ray m T i up) ≡ Some gain) × (pos 0 <ℤ gain.top)
+EmptyIsRight = (m : Parts) (b : List (ℤ × ℤ)) (T : Table) (i : ℕ) (up : Bool) → IsTable T → StandsFor m b T → IsUncrossed m b →
+    next T ≡ FinalRow i up
+    → (gain : Rational) × (dual m b (of (pos 0)) (slack_ray m T i up) ≡ Some gain) × (pos 0 <ℤ gain.numerator)
 
 -- and the relaxation has no point
 abbrev pub EmptyHasNoPoint : Type 0
-EmptyHasNoPoint = (m : Parts) (b : List (ℤ × ℤ)) (T : Table) (i : ℕ) (up : Bool) → IsTable T → StandsFor m b T → IsUncrossed m b → next T ≡ FinalRow i up
+EmptyHasNoPoint = (m : Parts) (b : List (ℤ × ℤ)) (T : Table) (i : ℕ) (up : Bool) → IsTable T → StandsFor m b T → IsUncrossed m b →
+    next T ≡ FinalRow i up
     → (x : ℕ → Rational) → ¬ IsRelaxed m b x
 
 -- ---- runs
@@ -72,11 +76,13 @@ pub record IsTableOf (m : Parts) (b : List (ℤ × ℤ)) (T : Table) : Type 0 wh
 
 -- each tableau that the steps reach is one of the node
 abbrev pub RunsStand : Type 0
-RunsStand = (m : Parts) (b : List (ℤ × ℤ)) (n : ℕ) (T : Table) → IsWithinLimits m → length b ≡ length m.columns → after m b n ≡ Ok T → IsTableOf m b T
+RunsStand = (m : Parts) (b : List (ℤ × ℤ)) (n : ℕ) (T : Table) → IsWithinLimits m → length b ≡ length m.columns → after m b n ≡ Ok T →
+    IsTableOf m b T
 
 -- a final tableau stays
 abbrev pub FinalsStay : Type 0
-FinalsStay = (m : Parts) (b : List (ℤ × ℤ)) (k n : ℕ) (T : Table) → after m b k ≡ Ok T → is_final (next T) ≡ true → k ≤ n → after m b n ≡ Ok T
+FinalsStay = (m : Parts) (b : List (ℤ × ℤ)) (k n : ℕ) (T : Table) → after m b k ≡ Ok T → is_final (next T) ≡ true → k ≤ n →
+    after m b n ≡ Ok T
 
 -- where there is a tableau after n steps, there is one after fewer
 abbrev pub RunsHaveBegun : Type 0

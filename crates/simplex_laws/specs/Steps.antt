@@ -1,6 +1,7 @@
 -- One step of the simplex for variables with sides, by the least-number rule: first a basic variable outside its sides is mended, then the
 -- cost is lowered. Each choice is the first one by number.
-use Rattle.std.specs.Prelude.{ℕ, zero, suc, ◌==◌, ◌&&◌, not, Bool, true, false, if◌then◌else◌, length, Option, Some, None, option_map, option_and_then, ℤ, pos}
+use Rattle.std.specs.Prelude.{ℕ, zero, suc, ◌==◌, ◌&&◌, not, Bool, true, false, if◌then◌else◌, length, Option, Some, None, option_map,
+    option_and_then, ℤ, pos}
 use Rattle.std.specs.List.{position}
 use Rattle.ip_defs.specs.Lists.{first}
 use Rattle.std.specs.Int.Signed.{lt_z}
@@ -30,7 +31,8 @@ can_go T up v = rests_for up (rest_at T.rests v) && not (is_fixed (variable_at T
 
 -- which way a variable goes by a number's sign: up below 0 where it can rise, down above 0 where it can fall
 abbrev pub way : Table → Rational → ℕ → Option Bool
-way T p v = if lt_z p.top (pos 0) && can_go T true v then Some true else if lt_z (pos 0) p.top && can_go T false v then Some false else None
+way T p v = if lt_z p.numerator (pos 0) && can_go T true v then Some true else if lt_z (pos 0) p.numerator && can_go T false v
+    then Some false else None
 
 -- ---- a basic variable outside its sides
 -- whether it has to rise, where a number is outside two sides
@@ -44,7 +46,8 @@ outside x (Some low) high = if is_below x (of low) then Some true else above x h
 
 -- the row of a basic variable that is outside its sides, and whether it has to rise
 abbrev pub breach : Table → ℕ → Option (ℕ × Bool)
-breach T v = option_and_then (λ i. option_map (λ up. (i, up)) (outside (value_number T i) (variable_at T.variables v).low (variable_at T.variables v).high)) (position (λ w. w == v) T.basics)
+breach T v = option_and_then (λ i. option_map (λ up. (i, up)) (outside (value_number T i) (variable_at T.variables v).low
+    (variable_at T.variables v).high)) (position (λ w. w == v) T.basics)
 
 -- the side at which a variable leaves that goes up or down
 abbrev pub side_towards : Bool → Rest
@@ -63,11 +66,13 @@ mend i up (Some v) = Pivot i v (side_towards (not up))
 -- ---- a variable that lowers the cost
 -- the side towards which a basic variable moves, by its entry's sign, where v goes up or down
 abbrev pub side_met : Bool → Rational → Option Rest
-side_met up t = if lt_z t.top (pos 0) then Some (side_towards up) else if lt_z (pos 0) t.top then Some (side_towards (not up)) else None
+side_met up t = if lt_z t.numerator (pos 0) then Some (side_towards up) else if lt_z (pos 0) t.numerator then Some (side_towards (not up))
+    else None
 
 -- row i's basic variable stops v at a side, where it has that side: how far v goes until then, and the pivot
 abbrev pub stop_at : Table → ℕ → ℕ → Rest → Option (Rational × Next)
-stop_at T v i side = option_map (λ there. (absolute (ratio_number T i v side), Pivot i v side)) (side_at (variable_at T.variables (basic_at T.basics i)) side)
+stop_at T v i side = option_map (λ there. (absolute (ratio_number T i v side), Pivot i v side))
+    (side_at (variable_at T.variables (basic_at T.basics i)) side)
 
 -- where variable w stops v: v itself at its own other side, a basic variable at the side towards which it moves
 abbrev pub stop : Table → ℕ → Bool → ℕ → Option (Rational × Next)

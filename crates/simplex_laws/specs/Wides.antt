@@ -12,7 +12,9 @@ use Rattle.simplex_laws.specs.Runs.{step, after}
 pub data HasWideNumber (T : Table) : Type 0 where
   wide_value : (i : ℕ) → i < length T.rows → value T i ≡ Err (record {}) → HasWideNumber T
   wide_price : (v : ℕ) → v < length T.variables → price T v ≡ Err (record {}) → HasWideNumber T
-  wide_ratio : (i v : ℕ) (side : Rest) → i < length T.rows → v < length T.variables → rest_at T.rests v ≢ Basic → (entry T.rows i v).num ≢ pos 0 → side_at (variable_at T.variables (basic_at T.basics i)) side ≢ None → ratio T i v side ≡ Err (record {}) → HasWideNumber T
+  wide_ratio : (i v : ℕ) (side : Rest) → i < length T.rows → v < length T.variables → rest_at T.rests v ≢ Basic →
+      (entry T.rows i v).num ≢ pos 0 → side_at (variable_at T.variables (basic_at T.basics i)) side ≢ None →
+      ratio T i v side ≡ Err (record {}) → HasWideNumber T
 
 -- within n steps a pivot is wide, or the tableau after some of them has a wide number
 pub data IsWideWithin (m : Parts) (b : List (ℤ × ℤ)) (n : ℕ) : Type 0 where

@@ -24,13 +24,15 @@ one_row = record {
 
 -- the column with the sides of the box, and the slack with those of its row
 abbrev variables : List Variable
-variables = record { low = Some (pos 0); high = Some (pos 4); cost = negsuc 0 } ∷ record { low = None; high = Some (pos 3); cost = pos 0 } ∷ []
+variables = record { low = Some (pos 0); high = Some (pos 4); cost = negsuc 0 } ∷ record { low = None; high = Some (pos 3);
+    cost = pos 0 } ∷ []
 
 abbrev pub before : Table
 before = record { rows = (whole (negsuc 1) ∷ whole (pos 1) ∷ []) ∷ []; basics = 1 ∷ []; rests = Low ∷ Basic ∷ []; variables = variables }
 
 abbrev pub after : Table
-after = record { rows = (whole (pos 1) ∷ over (negsuc 0) (pos 2) ∷ []) ∷ []; basics = 0 ∷ []; rests = Basic ∷ High ∷ []; variables = variables }
+after = record { rows = (whole (pos 1) ∷ over (negsuc 0) (pos 2) ∷ []) ∷ []; basics = 0 ∷ []; rests = Basic ∷ High ∷ [];
+    variables = variables }
 
 pub starts : start_of one_row ((pos 0, pos 4) ∷ []) ≡ before
 starts = refl
@@ -52,7 +54,8 @@ unfolding lowest_of sum_of product_of gcd
 price_after = refl
 
 -- from its high side the slack takes the column back to where it was, but for the rest
-pub pivots_back : after_pivot after 0 1 High ≡ Ok (record { rows = before.rows; basics = before.basics; rests = High ∷ Basic ∷ []; variables = variables })
+pub pivots_back : after_pivot after 0 1 High ≡ Ok (record { rows = before.rows; basics = before.basics; rests = High ∷ Basic ∷ [];
+    variables = variables })
 unfolding lowest_of sum_of product_of gcd
 pivots_back = refl
 
@@ -60,7 +63,8 @@ pub flips : (after_flip before 0).rests ≡ High ∷ Basic ∷ []
 flips = refl
 
 -- another row loses its multiple of the new pivot row: 5 - 3 * (4 / 2)
-pub other_row : new_rows 2 ((whole (pos 2) ∷ whole (pos 4) ∷ []) ∷ (whole (pos 3) ∷ whole (pos 5) ∷ []) ∷ []) 0 0 ≡ Ok ((whole (pos 1) ∷ whole (pos 2) ∷ []) ∷ (whole (pos 0) ∷ whole (negsuc 0) ∷ []) ∷ [])
+pub other_row : new_rows 2 ((whole (pos 2) ∷ whole (pos 4) ∷ []) ∷ (whole (pos 3) ∷ whole (pos 5) ∷ []) ∷ []) 0 0
+    ≡ Ok ((whole (pos 1) ∷ whole (pos 2) ∷ []) ∷ (whole (pos 0) ∷ whole (negsuc 0) ∷ []) ∷ [])
 unfolding lowest_of sum_of product_of gcd
 other_row = refl
 

@@ -1,5 +1,6 @@
 -- A pivot and a flip keep what a tableau is, and what it stands for.
-use Rattle.std.specs.Prelude.{◌≡◌, ◌≢◌, ℕ, ◌+◌, ◌<◌, ◌==◌, Bool, true, false, cond, List, length, Result, Ok, Err, OnOk, OnErr, None, pos, ℤ, slice_set}
+use Rattle.std.specs.Prelude.{◌≡◌, ◌≢◌, ℕ, ◌+◌, ◌<◌, ◌==◌, Bool, true, false, cond, List, length, Result, Ok, Err, OnOk, OnErr, None, pos,
+    ℤ, slice_set}
 use Rattle.std.proofs.Common.{arith, refl, ap, sym, ◌∙◌, subst, length-set}
 use Rattle.std.proofs.lemmas.Bool.{eqb-true, eqb-false}
 use Rattle.std.proofs.lemmas.List.{get_or-set_same, get_or-set_other}
@@ -16,15 +17,16 @@ use Rattle.tableau.specs.declared.rests.Rest.TheVariants.{Basic, Low, High, Zero
 use Rattle.tableau.specs.Tables.{Table, entry, basic_at, rest_at, variable_at, CanRest, IsTable}
 use Rattle.tableau.specs.Numbers.{and_then}
 use Rattle.tableau.specs.Pivots.{new_rows, after_pivot, other_side, after_flip}
-use Rattle.tableau.specs.Nodes.{number, RestsRight, StandsFor, IsNought, HasItsPoints}
+use Rattle.tableau.specs.Nodes.{number, RestsRight, StandsFor, AreRowsZero, HasItsPoints}
 use Rattle.tableau.proofs.FractionLaws.{nonzero-value}
 use Rattle.tableau.proofs.EntryLaws.{count, new_are, new_number}
 use Rattle.tableau.proofs.SystemLaws.{IsSystem, pivoted, pivot_keeps, stands_same}
 use Rattle.tableau.proofs.PointLaws.{pivot_back}
 
 -- a tableau that stands for a node, over the rational numbers
-pub system_of : (m : Parts) (b : List (ℤ × ℤ)) (T : Table) → StandsFor m b T → IsSystem rationals (length m.rows) (length m.columns) (coefficient_of m.rows) (number T) (basic_at T.basics)
-system_of m b T s = record { within = s.within; different = s.different; one = s.one; nought = s.nought; combination = s.combination }
+pub system_of : (m : Parts) (b : List (ℤ × ℤ)) (T : Table) → StandsFor m b T →
+    IsSystem rationals (length m.rows) (length m.columns) (coefficient_of m.rows) (number T) (basic_at T.basics)
+system_of m b T s = record { within = s.within; different = s.different; one = s.one; zeros = s.zeros; combination = s.combination }
 
 -- what a basic variable can't be
 not_basic : (T : Table) (v w : ℕ) → rest_at T.rests v ≢ Basic → rest_at T.rests w ≡ Basic → w ≢ v
@@ -39,7 +41,8 @@ with_rows T r v leaving new = record {
   variables = T.variables;
 }
 
-module _ (T : Table) (r v : ℕ) (leaving : Rest) (table : IsTable T) (inside : r < length T.rows) (enters : v < length T.variables) (pivot : (entry T.rows r v).num ≢ pos 0) where
+module _ (T : Table) (r v : ℕ) (leaving : Rest) (table : IsTable T) (inside : r < length T.rows) (enters : v
+    < length T.variables) (pivot : (entry T.rows r v).num ≢ pos 0) where
   module _ (new : List (List Fraction)) (made : new_rows (length T.variables) T.rows r v ≡ Ok new) where
     abbrev U : Table
     U = with_rows T r v leaving new
@@ -64,7 +67,8 @@ module _ (T : Table) (r v : ℕ) (leaving : Rest) (table : IsTable T) (inside : 
         record {
           rows = new_are (length T.variables) T.rows r v table.rows inside enters pivot new made;
           basics = length-set T.basics r v ∙ table.basics ∙ sym e;
-          rests = length-set (slice_set T.rests (basic_at T.basics r) leaving) v Basic ∙ length-set T.rests (basic_at T.basics r) leaving ∙ table.rests;
+          rests = length-set (slice_set T.rests (basic_at T.basics r) leaving) v Basic ∙ length-set T.rests (basic_at T.basics r) leaving
+              ∙ table.rests;
           within = λ i l. within (i == r) i refl (omega arith);
         }
       where
@@ -73,35 +77,43 @@ module _ (T : Table) (r v : ℕ) (leaving : Rest) (table : IsTable T) (inside : 
         within false i e l = let is = basic_is false i e in omega (arith, is, table.within i l)
 
     module _ (m : Parts) (b : List (ℤ × ℤ)) (s : StandsFor m b T) where
-      number_is : (i w : ℕ) → i < length m.rows → w < length m.columns + length m.rows → number U i w ≡ pivoted rationals (number T) r v (inverse (number T r v)) i w
-      number_is i w l k = let e = s.rows in let f = s.size in new_number (length T.variables) T.rows r v table.rows inside enters pivot new made i w (omega arith) (omega arith)
+      number_is : (i w : ℕ) → i < length m.rows → w < length m.columns + length m.rows →
+          number U i w ≡ pivoted rationals (number T) r v (inverse (number T r v)) i w
+      number_is i w l k = let e = s.rows in let f = s.size in
+          new_number (length T.variables) T.rows r v table.rows inside enters pivot new made i w (omega arith) (omega arith)
 
       inverse_is : mul (number T r v) (inverse (number T r v)) ≡ of (pos 1)
       inverse_is = inverse-is (number T r v) (nonzero-value (entry T.rows r v) (table.rows.fractions r v inside enters) pivot)
 
       -- the points at which the new rows are 0
-      pub points_back : (x : ℕ → Rational) → IsNought m U x → IsNought m T x
+      pub points_back : (x : ℕ → Rational) → AreRowsZero m U x → AreRowsZero m T x
       points_back x hold =
           let all = length m.columns + length m.rows in
           let e = s.rows in
           pivot_back rationals (length m.rows) (length m.columns) (number T) r v (inverse (number T r v)) (omega arith) inverse_is x
-          (λ i l. sum_same rationals (λ w. mul (pivoted rationals (number T) r v (inverse (number T r v)) i w) (x w)) (λ w. mul (number U i w) (x w)) all (λ w k. ap (λ z. mul z (x w)) (sym (number_is i w l k))) ∙ hold i l)
+          (λ i l. sum_same rationals (λ w. mul (pivoted rationals (number T) r v (inverse (number T r v)) i w) (x w))
+              (λ w. mul (number U i w) (x w)) all (λ w k. ap (λ z. mul z (x w)) (sym (number_is i w l k))) ∙ hold i l)
 
       module _ (free : rest_at T.rests v ≢ Basic) (leaves : CanRest (variable_at T.variables (basic_at T.basics r)) leaving) where
         system_is : IsSystem rationals (length m.rows) (length m.columns) (coefficient_of m.rows) (number U) (basic_at U.basics)
         system_is =
             let e = s.rows in
             let f = s.size in
-            stands_same rationals (length m.rows) (length m.columns) (coefficient_of m.rows) (pivoted rationals (number T) r v (inverse (number T r v))) (number U) (λ i. cond (i == r) v (basic_at T.basics i)) (basic_at U.basics)
+            stands_same rationals (length m.rows) (length m.columns) (coefficient_of m.rows)
+                (pivoted rationals (number T) r v (inverse (number T r v))) (number U) (λ i. cond (i == r) v (basic_at T.basics i))
+                (basic_at U.basics)
             (λ i w l k. number_is i w l k)
             (λ i l. basic_is (i == r) i refl)
-            (pivot_keeps rationals (length m.rows) (length m.columns) (coefficient_of m.rows) (number T) (basic_at T.basics) r v (inverse (number T r v)) (system_of m b T s) (omega arith) (omega arith) (λ i l. not_basic T v (basic_at T.basics i) free (s.basic i l)) inverse_is)
+            (pivot_keeps rationals (length m.rows) (length m.columns) (coefficient_of m.rows) (number T) (basic_at T.basics) r v
+                (inverse (number T r v)) (system_of m b T s) (omega arith) (omega arith)
+                (λ i l. not_basic T v (basic_at T.basics i) free (s.basic i l)) inverse_is)
 
         left : ℕ
         left = basic_at T.basics r
 
         rest_own : rest_at U.rests v ≡ Basic
-        rest_own = get_or-set_same (slice_set T.rests (basic_at T.basics r) leaving) v Basic Basic (let e = table.rests in let f = length-set T.rests (basic_at T.basics r) leaving in omega arith)
+        rest_own = get_or-set_same (slice_set T.rests (basic_at T.basics r) leaving) v Basic Basic (let e = table.rests in
+            let f = length-set T.rests (basic_at T.basics r) leaving in omega arith)
 
         rest_left : basic_at T.basics r ≢ v → rest_at U.rests (basic_at T.basics r) ≡ leaving
         rest_left n =
@@ -120,7 +132,8 @@ module _ (T : Table) (r v : ℕ) (leaving : Rest) (table : IsTable T) (inside : 
         basic_rests false i e l =
             let f = s.rows in
             ap (rest_at U.rests) (basic_is false i e)
-            ∙ rest_other (basic_at T.basics i) (not_basic T v (basic_at T.basics i) free (s.basic i l)) (λ q. eqb-false i r e (s.different i r l (omega arith) q))
+            ∙ rest_other (basic_at T.basics i) (not_basic T v (basic_at T.basics i) free (s.basic i l))
+                (λ q. eqb-false i r e (s.different i r l (omega arith) q))
             ∙ s.basic i l
 
         -- the rest of the variable that leaves
@@ -140,7 +153,8 @@ module _ (T : Table) (r v : ℕ) (leaving : Rest) (table : IsTable T) (inside : 
         right_other w High n h = h
         right_other w Zero n h = h
 
-        rest_right : (t u : Bool) (w : ℕ) → (w == v) ≡ t → (w == basic_at T.basics r) ≡ u → w < length m.columns + length m.rows → RestsRight U w (rest_at U.rests w)
+        rest_right : (t u : Bool) (w : ℕ) → (w == v) ≡ t → (w == basic_at T.basics r) ≡ u → w < length m.columns + length m.rows →
+            RestsRight U w (rest_at U.rests w)
         rest_right true u w e f l =
             let same = eqb-true w v e in
             let c = same_count in
@@ -148,7 +162,8 @@ module _ (T : Table) (r v : ℕ) (leaving : Rest) (table : IsTable T) (inside : 
         rest_right false true w e f l =
             let same = eqb-true w (basic_at T.basics r) f in
             let n = eqb-false w v e in
-            subst (λ z. RestsRight U z (rest_at U.rests z)) (sym same) (subst (RestsRight U (basic_at T.basics r)) (sym (rest_left (λ q. n (same ∙ q)))) (right_left leaving leaves))
+            subst (λ z. RestsRight U z (rest_at U.rests z)) (sym same) (subst (RestsRight U (basic_at T.basics r))
+                (sym (rest_left (λ q. n (same ∙ q)))) (right_left leaving leaves))
         rest_right false false w e f l =
             let n = eqb-false w v e in
             let k = eqb-false w (basic_at T.basics r) f in
@@ -164,22 +179,25 @@ module _ (T : Table) (r v : ℕ) (leaving : Rest) (table : IsTable T) (inside : 
               within = system.within;
               different = system.different;
               one = system.one;
-              nought = system.nought;
+              zeros = system.zeros;
               combination = system.combination;
               basic = λ i l. basic_rests (i == r) i refl l;
               rests = λ w l. rest_right (w == v) (w == basic_at T.basics r) w refl refl l;
             }
 
   -- ---- the answers of a pivot
-  split_rows : (U : Table) (P : Table → Type 0) → ((new : List (List Fraction)) → new_rows (length T.variables) T.rows r v ≡ Ok new → P (with_rows T r v leaving new)) → after_pivot T r v leaving ≡ Ok U → P U
+  split_rows : (U : Table) (P : Table → Type 0) → ((new : List (List Fraction)) → new_rows (length T.variables) T.rows r v ≡ Ok new →
+      P (with_rows T r v leaving new)) → after_pivot T r v leaving ≡ Ok U → P U
   split_rows U P h e = by (new_rows (length T.variables) T.rows r v) refl e
     where
-      by : (o : Result (List (List Fraction)) Wide) → new_rows (length T.variables) T.rows r v ≡ o → and_then o (λ rows. Ok (with_rows T r v leaving rows)) ≡ Ok U → P U
+      by : (o : Result (List (List Fraction)) Wide) → new_rows (length T.variables) T.rows r v ≡ o →
+          and_then o (λ rows. Ok (with_rows T r v leaving rows)) ≡ Ok U → P U
       by (Ok new) f g = let is : with_rows T r v leaving new ≡ U = cc in subst P is (h new f)
       by (Err w) f g = absurd cc
 
   -- a pivot, also a wide one, keeps what a tableau stands for, and its points
-  pub pivot_stands : (o : Result Unit Wide) (U : Table) → OnOk o (after_pivot T r v leaving ≡ Ok U) → OnErr o (U ≡ T) → rest_at T.rests v ≢ Basic → CanRest (variable_at T.variables (basic_at T.basics r)) leaving
+  pub pivot_stands : (o : Result Unit Wide) (U : Table) → OnOk o (after_pivot T r v leaving ≡ Ok U) → OnErr o (U ≡ T) →
+      rest_at T.rests v ≢ Basic → CanRest (variable_at T.variables (basic_at T.basics r)) leaving
       → (m : Parts) (b : List (ℤ × ℤ)) → StandsFor m b T → StandsFor m b U
   pivot_stands (Ok u) U made kept free leaves m b s = split_rows U (StandsFor m b) (λ new e. with_rows-stands new e m b s free leaves) made
   pivot_stands (Err w) U made kept free leaves m b s = subst (StandsFor m b) (sym kept) s
@@ -190,7 +208,8 @@ module _ (T : Table) (r v : ℕ) (leaving : Rest) (table : IsTable T) (inside : 
   pivot_points (Err w) U made kept m b s has = subst (HasItsPoints m) (sym kept) has
 
 -- ---- flips
-module _ (T : Table) (v : ℕ) (rests : CanRest (variable_at T.variables v) (rest_at T.rests v)) (low : (variable_at T.variables v).low ≢ None) (high : (variable_at T.variables v).high ≢ None) where
+module _ (T : Table) (v : ℕ) (rests : CanRest (variable_at T.variables v) (rest_at T.rests v))
+    (low : (variable_at T.variables v).low ≢ None) (high : (variable_at T.variables v).high ≢ None) where
   abbrev F : Table
   F = after_flip T v
 
@@ -215,7 +234,8 @@ module _ (T : Table) (v : ℕ) (rests : CanRest (variable_at T.variables v) (res
   kept w High h = h
   kept w Zero h = h
 
-  pub flip_stands : v < length T.variables → length T.rests ≡ length T.variables → (m : Parts) (b : List (ℤ × ℤ)) → StandsFor m b T → StandsFor m b F
+  pub flip_stands : v < length T.variables → length T.rests ≡ length T.variables → (m : Parts) (b : List (ℤ × ℤ)) → StandsFor m b T →
+      StandsFor m b F
   flip_stands inside size m b s = record {
     variables = s.variables;
     size = s.size;
@@ -223,9 +243,10 @@ module _ (T : Table) (v : ℕ) (rests : CanRest (variable_at T.variables v) (res
     within = s.within;
     different = s.different;
     one = s.one;
-    nought = s.nought;
+    zeros = s.zeros;
     combination = s.combination;
-    basic = λ i l. rest_kept (basic_at T.basics i) (not_basic T v (basic_at T.basics i) (not_basic_here (rest_at T.rests v) rests) (s.basic i l)) ∙ s.basic i l;
+    basic = λ i l. rest_kept (basic_at T.basics i) (not_basic T v (basic_at T.basics i) (not_basic_here (rest_at T.rests v) rests)
+        (s.basic i l)) ∙ s.basic i l;
     rests = λ w l. right (w == v) w refl (s.rests w l);
   }
     where
@@ -233,7 +254,8 @@ module _ (T : Table) (v : ℕ) (rests : CanRest (variable_at T.variables v) (res
       right true w e h =
           let same = eqb-true w v e in
           subst (λ z. RestsRight F z (rest_at F.rests z)) (sym same)
-          (subst (RestsRight F v) (sym (get_or-set_same T.rests v (other_side (rest_at T.rests v)) Basic (omega arith))) (turned (rest_at T.rests v) rests))
+          (subst (RestsRight F v) (sym (get_or-set_same T.rests v (other_side (rest_at T.rests v)) Basic (omega arith)))
+              (turned (rest_at T.rests v) rests))
       right false w e h = subst (RestsRight F w) (sym (rest_kept w (eqb-false w v e))) (kept w (rest_at T.rests w) h)
 
   pub flip_points : (m : Parts) → HasItsPoints m T → HasItsPoints m F

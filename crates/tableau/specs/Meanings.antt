@@ -23,4 +23,5 @@ price_number T v = sub (cost_number T v) (sum (λ i. mul (number T i v) (cost_nu
 
 -- the value less the side, divided by the entry
 abbrev pub ratio_number : Table → ℕ → ℕ → Rest → Rational
-ratio_number T i v side = quotient (sub (value_number T i) (of (side_or_zero (side_at (variable_at T.variables (basic_at T.basics i)) side)))) (number T i v)
+ratio_number T i v side =
+    quotient (sub (value_number T i) (of (side_or_zero (side_at (variable_at T.variables (basic_at T.basics i)) side)))) (number T i v)

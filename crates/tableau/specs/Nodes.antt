@@ -1,6 +1,7 @@
 -- The linear system of a node, and what it means that a tableau stands for it. A node has one variable for each column, with the
 -- sides of its area, and one slack for each row, with the row's sides; its equations say that each slack is its row's sum.
-use Rattle.std.specs.Prelude.{◌≡◌, ◌≢◌, ℕ, zero, suc, ◌+◌, ◌<◌, ◌==◌, if◌then◌else◌, nat_lt, List, [], ◌∷◌, ◌++◌, length, map, Some, ℤ, pos, neg_ℤ}
+use Rattle.std.specs.Prelude.{◌≡◌, ◌≢◌, ℕ, zero, suc, ◌+◌, ◌<◌, ◌==◌, if◌then◌else◌, nat_lt, List, [], ◌∷◌, ◌++◌, length, map, Some, ℤ,
+    pos, neg_ℤ}
 use Rattle.std.specs.List.{zip}
 use Rattle.frac128.specs.Fractions.{Fraction, whole}
 use Rattle.frac128.specs.Rationals.{Rational, of, mul, neg, sum}
@@ -70,19 +71,21 @@ pub record StandsFor (m : Parts) (b : List (ℤ × ℤ)) (T : Table) : Type 0 wh
   pub within : (i : ℕ) → i < length m.rows → basic_at T.basics i < length m.columns + length m.rows
   pub different : (i k : ℕ) → i < length m.rows → k < length m.rows → basic_at T.basics i ≡ basic_at T.basics k → i ≡ k
   pub one : (i : ℕ) → i < length m.rows → number T i (basic_at T.basics i) ≡ of (pos 1)
-  pub nought : (i k : ℕ) → i < length m.rows → k < length m.rows → i ≢ k → number T i (basic_at T.basics k) ≡ of (pos 0)
-  pub combination : (i j : ℕ) → i < length m.rows → j < length m.columns → number T i j ≡ neg (sum (λ k. mul (number T i (length m.columns + k)) (of (coefficient_of m.rows k j))) (length m.rows))
+  pub zeros : (i k : ℕ) → i < length m.rows → k < length m.rows → i ≢ k → number T i (basic_at T.basics k) ≡ of (pos 0)
+  pub combination : (i j : ℕ) → i < length m.rows → j < length m.columns → number T i j
+      ≡ neg (sum (λ k. mul (number T i (length m.columns + k)) (of (coefficient_of m.rows k j))) (length m.rows))
   pub basic : (i : ℕ) → i < length m.rows → rest_at T.rests (basic_at T.basics i) ≡ Basic
   pub rests : (v : ℕ) → v < length m.columns + length m.rows → RestsRight T v (rest_at T.rests v)
 
 -- each row of the tableau is 0 at a point
-abbrev pub IsNought : Parts → Table → (ℕ → Rational) → Type 0
-IsNought m T x = (i : ℕ) → i < length m.rows → sum (λ v. mul (number T i v) (x v)) (length m.columns + length m.rows) ≡ of (pos 0)
+abbrev pub AreRowsZero : Parts → Table → (ℕ → Rational) → Type 0
+AreRowsZero m T x = (i : ℕ) → i < length m.rows → sum (λ v. mul (number T i v) (x v)) (length m.columns + length m.rows) ≡ of (pos 0)
 
 -- a point meets the node's equations: each slack is its row's sum
 abbrev pub MeetsEquations : Parts → (ℕ → Rational) → Type 0
-MeetsEquations m x = (k : ℕ) → k < length m.rows → x (length m.columns + k) ≡ sum (λ j. mul (of (coefficient_of m.rows k j)) (x j)) (length m.columns)
+MeetsEquations m x = (k : ℕ) → k < length m.rows → x (length m.columns + k)
+    ≡ sum (λ j. mul (of (coefficient_of m.rows k j)) (x j)) (length m.columns)
 
 -- only points that meet the node's equations make each row of the tableau 0
 abbrev pub HasItsPoints : Parts → Table → Type 0
-HasItsPoints m T = (x : ℕ → Rational) → IsNought m T x → MeetsEquations m x
+HasItsPoints m T = (x : ℕ → Rational) → AreRowsZero m T x → MeetsEquations m x

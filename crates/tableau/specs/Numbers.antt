@@ -43,7 +43,8 @@ less_resting x t (Some z) = less_product x t (whole z)
 
 -- the value of a row's basic variable: 0 less each entry times resting value, over the variables by number
 abbrev pub value : Table → ℕ → Result Fraction Wide
-value T i = after_steps (λ v x. less_resting x (entry T.rows i v) (resting (variable_at T.variables v) (rest_at T.rests v))) (whole (pos 0)) (length T.variables)
+value T i = after_steps (λ v x. less_resting x (entry T.rows i v) (resting (variable_at T.variables v) (rest_at T.rests v)))
+    (whole (pos 0)) (length T.variables)
 
 -- the cost of a variable
 abbrev pub cost_at : Table → ℕ → Fraction
@@ -63,7 +64,8 @@ side_at x Zero = None
 -- how far a variable can go until the row's basic variable meets a side: its value less the side, divided by the entry
 abbrev pub ratio : Table → ℕ → ℕ → Rest → Result Fraction Wide
 ratio T i v side =
-    and_then (value T i) (λ x. and_then (difference_of x (whole (side_or_zero (side_at (variable_at T.variables (basic_at T.basics i)) side)))) (λ way. quotient_of way (entry T.rows i v)))
+    and_then (value T i) (λ x. and_then (difference_of x (whole
+        (side_or_zero (side_at (variable_at T.variables (basic_at T.basics i)) side)))) (λ way. quotient_of way (entry T.rows i v)))
 
 -- ---- both sides of a variable
 -- it has two equal sides

@@ -42,4 +42,5 @@ other_side Zero = Zero
 
 -- the tableau after a flip of a variable
 abbrev pub after_flip : Table → ℕ → Table
-after_flip T v = record { rows = T.rows; basics = T.basics; rests = slice_set T.rests v (other_side (rest_at T.rests v)); variables = T.variables }
+after_flip T v = record { rows = T.rows; basics = T.basics; rests = slice_set T.rests v (other_side (rest_at T.rests v));
+    variables = T.variables }

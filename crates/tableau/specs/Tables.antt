@@ -37,8 +37,8 @@ abbrev pub variable_at : List Variable → ℕ → Variable
 variable_at variables v = slice_index_or variables v (record { low = None; high = None; cost = pos 0 })
 
 -- a fraction is 0
-abbrev pub is_nought : Fraction → Bool
-is_nought x = unsigned_abs x.num == 0
+abbrev pub is_zero_fraction : Fraction → Bool
+is_zero_fraction x = unsigned_abs x.num == 0
 
 -- a variable that is not basic can rest so: at a side that it has, or at 0 where it has none
 abbrev pub CanRest : Variable → Rest → Type 0

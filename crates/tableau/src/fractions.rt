@@ -3,7 +3,7 @@ ghost use Rattle.std.specs.Prelude.{◌≡◌, IfOk, Ok};
 ghost use Rattle.frac128.specs.Fractions.{IsFraction};
 ghost use Rattle.frac128.specs.Rationals.{sub as less, mul as times};
 ghost use Rattle.frac128.specs.Values.{value_of};
-ghost use Rattle.tableau.specs.Tables.{is_nought};
+ghost use Rattle.tableau.specs.Tables.{is_zero_fraction};
 ghost use Rattle.tableau.specs.Numbers.{less_product};
 
 use frac128::{Frac, Wide, mul, sub};
@@ -11,7 +11,7 @@ use frac128::{Frac, Wide, mul, sub};
 /// Whether a fraction is 0.
 #[inline]
 pub fn is_zero(x: Frac) -> bool
-    ensures zero { result ≡ is_nought x }
+    ensures zero { result ≡ is_zero_fraction x }
     ensures fraction { IsFraction x.num x.den }
 {
     x.num() == 0

@@ -1,7 +1,7 @@
 //! The rows after a pivot, made one by one in spare lines.
 ghost use Rattle.std.specs.Prelude.{◌≡◌, ◌≢◌, ◌<◌, ◌==◌, ◌&&◌, not, ℕ, if◌then◌else◌, length, OnOk, OnErr, Ok, Err, pos};
 ghost use Rattle.frac128.specs.Fractions.{quotient_of};
-ghost use Rattle.tableau.specs.Tables.{at, line as line_of, entry, is_nought, AreRows, IsRoom};
+ghost use Rattle.tableau.specs.Tables.{at, line as line_of, entry, is_zero_fraction, AreRows, IsRoom};
 ghost use Rattle.tableau.specs.Pivots.{all_below, new_rows};
 ghost use Rattle.tableau.specs.Internal.Changes.{is_changed, lessened_row, AreLessened, HasWideRow};
 
@@ -48,7 +48,7 @@ fn lessen_row(row: &[Frac], factor: Frac, quotients: &[Frac], into: &mut Line) -
 #[inline]
 fn changes(line: &Line, i: usize, row: usize, var: usize) -> bool
     requires { var < length line.now }
-    ensures { result ≡ (not (i == row) && not (is_nought (at line.now var))) }
+    ensures { result ≡ (not (i == row) && not (is_zero_fraction (at line.now var))) }
 {
     i != row && !is_zero(line.at(var))
 }

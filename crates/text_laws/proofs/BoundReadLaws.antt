@@ -1,5 +1,6 @@
 -- The bounds of a canonical text are those of the columns.
-use Rattle.std.specs.Prelude.{◌≡◌, ℕ, zero, suc, ◌+◌, ◌-◌, ◌<◌, ◌^◌, Bool, true, false, ◌&&◌, not, cond, List, [], ◌∷◌, map, filter, flat_map, None, Some, slice_get, bytes_eq, codes, ℤ, pos, negsuc, neg_ℤ, ◌/◌}
+use Rattle.std.specs.Prelude.{◌≡◌, ℕ, zero, suc, ◌+◌, ◌-◌, ◌<◌, ◌^◌, Bool, true, false, ◌&&◌, not, cond, List, [], ◌∷◌, map, filter,
+    flat_map, None, Some, slice_get, bytes_eq, codes, ℤ, pos, negsuc, neg_ℤ, ◌/◌}
 use Rattle.std.specs.Fmt.{signed_decimal}
 use Rattle.std.specs.Option.{option_map_or}
 use Rattle.std.specs.Int.{int_div_euclid}
@@ -10,7 +11,8 @@ use Rattle.ip_defs.specs.Lists.{first_of}
 use Rattle.ip_defs.specs.Certificates.{ceiling}
 use Rattle.mps_defs.specs.CanonicalText.{Written, bound}
 use Rattle.mps_defs.specs.Records.{Line, bounds_on, is_kept_bound, bound_set, bound_column}
-use Rattle.mps_defs.specs.TextModels.{lower_side, upper_side, sets_lower, sets_upper, lower_by, upper_by, is_negative_number, rounded_up, rounded_down}
+use Rattle.mps_defs.specs.TextModels.{lower_side, upper_side, sets_lower, sets_upper, lower_by, upper_by, is_negative_number, rounded_up,
+    rounded_down}
 use Rattle.mps_defs.specs.Numbers.{is_large}
 use Rattle.mps_defs.specs.declared.texts.Number.{Number}
 use Rattle.ip_defs.specs.declared.programs.Column.{Column}

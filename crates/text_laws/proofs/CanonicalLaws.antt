@@ -1,11 +1,13 @@
 -- The sections of a canonical text, and the lines that it is read as.
-use Rattle.std.specs.Prelude.{◌≡◌, ℕ, ◌==◌, Bool, true, false, not, if◌then◌else◌, List, [], ◌∷◌, ◌++◌, length, map, flat_map, find, Option, None, Some, codes, ℤ, pos, neg_ℤ, ◌-ℤ◌}
+use Rattle.std.specs.Prelude.{◌≡◌, ℕ, ◌==◌, Bool, true, false, not, if◌then◌else◌, List, [], ◌∷◌, ◌++◌, length, map, flat_map, find,
+    Option, None, Some, codes, ℤ, pos, neg_ℤ, ◌-ℤ◌}
 use Rattle.std.specs.List.{enumerate_from}
 use Rattle.std.specs.Option.{option_map_or}
 use Rattle.std.specs.Ordering.{int_eq}
 use Rattle.std.proofs.Common.{refl, ap, sym, ◌∙◌}
 use Rattle.ip_defs.specs.Lists.{when}
-use Rattle.mps_defs.specs.CanonicalText.{Written, head, pair, triple, bound, kind_text, coef_line, column_block, columns_block, right_side, rhs_line, constant_line, range_line, canonical_lines, value_text, side_line, width_line}
+use Rattle.mps_defs.specs.CanonicalText.{Written, head, pair, triple, bound, kind_text, coef_line, column_block, columns_block, right_side,
+    rhs_line, constant_line, range_line, canonical_lines, value_text, side_line, width_line}
 use Rattle.mps_defs.specs.Numbers.{decimal_text}
 use Rattle.ip_defs.specs.declared.programs.Row.{Row}
 use Rattle.ip_defs.specs.declared.programs.Parts.{Parts}
@@ -87,7 +89,8 @@ columns_items m = by (length m.columns == 0)
     blocks = flat_map (column_block m) (enumerate_from 0 m.columns)
 
     by : (t : Bool)
-        → AreItems (if t then [] else triple (codes "M") (codes "'MARKER'") (codes "'INTORG'") ∷ blocks ++ triple (codes "M") (codes "'MARKER'") (codes "'INTEND'") ∷ [])
+        → AreItems (if t then [] else triple (codes "M") (codes "'MARKER'") (codes "'INTORG'") ∷ blocks
+            ++ triple (codes "M") (codes "'MARKER'") (codes "'INTEND'") ∷ [])
     by true = tt
     by false = (
       refl,

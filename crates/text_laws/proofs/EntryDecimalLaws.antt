@@ -1,5 +1,6 @@
 -- The decimals of the entries that are kept for a row, and those of the amounts that are made of them.
-use Rattle.std.specs.Prelude.{◌≡◌, ℕ, ◌+◌, ◌≤◌, ◌==◌, Bool, true, false, ◌||◌, not, cond, List, [], ◌∷◌, map, filter, filter_map, Option, None, Some, option_map, bytes_eq, codes, ℤ}
+use Rattle.std.specs.Prelude.{◌≡◌, ℕ, ◌+◌, ◌≤◌, ◌==◌, Bool, true, false, ◌||◌, not, cond, List, [], ◌∷◌, map, filter, filter_map, Option,
+    None, Some, option_map, bytes_eq, codes, ℤ}
 use Rattle.std.specs.List.{enumerate_from, cons_option}
 use Rattle.std.specs.Int.RustNames.{unsigned_abs}
 use Rattle.std.proofs.Common.{refl, arith, ap, sym, ◌∙◌, subst}
@@ -103,7 +104,8 @@ nonzero_each k most (p ∷ ps) all = by (unsigned_abs p.1 == 0) refl all (λ h. 
 
 -- the number that is written at a column needs no more than the coefficients do
 pub coef_needs : (es : List Entry) (names : List (List ℕ)) (row : List ℕ) (k most : ℕ)
-    → Each (λ z. needed_decimals k z ≤ most) (map (λ (p : ℕ × ℤ). p.1) (filter (λ p. not (unsigned_abs p.1 == 0)) (map (λ (p : ℕ × Number). (p.0, units k p.1)) (written_in es names row))))
+    → Each (λ z. needed_decimals k z ≤ most) (map (λ (p : ℕ × ℤ). p.1) (filter (λ p. not (unsigned_abs p.1 == 0))
+        (map (λ (p : ℕ × Number). (p.0, units k p.1)) (written_in es names row))))
     → (name : List ℕ) (x : Number) → is_among name names ≡ true → written_at es row name ≡ Some x → needed_decimals k (units k x) ≤ most
 coef_needs es names row k most all =
     let pairs = map (λ (p : ℕ × Number). (p.0, units k p.1)) (written_in es names row) in

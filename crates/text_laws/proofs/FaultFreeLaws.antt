@@ -1,5 +1,6 @@
 -- What cannot be wrong with a canonical text after its lines: the end, the objective, the bounds and the limits.
-use Rattle.std.specs.Prelude.{◌≡◌, ℕ, suc, ◌+◌, ◌≤◌, ◌^◌, nat_lt, true, false, ◌&&◌, ◌||◌, not, List, [], ◌∷◌, ◌++◌, length, map, filter, flat_map, Option, None, Some, slice_get, codes, ℤ, sum_by}
+use Rattle.std.specs.Prelude.{◌≡◌, ℕ, suc, ◌+◌, ◌≤◌, ◌^◌, nat_lt, true, false, ◌&&◌, ◌||◌, not, List, [], ◌∷◌, ◌++◌, length, map, filter,
+    flat_map, Option, None, Some, slice_get, codes, ℤ, sum_by}
 use Rattle.std.specs.List.{enumerate_from, list_any}
 use Rattle.std.specs.Option.{option_map_or, is_none, ForSome}
 use Rattle.std.specs.Int.RustNames.{unsigned_abs}
@@ -20,7 +21,8 @@ use Rattle.ip_defs.specs.declared.programs.Column.{Column}
 use Rattle.ip_defs.specs.declared.programs.Row.{Row}
 use Rattle.ip_defs.specs.declared.programs.Parts.{Parts}
 use Rattle.text_laws.proofs.WrittenLaws.{lines_from}
-use Rattle.text_laws.proofs.SectionLaws.{Sections, AreSections, AreItems, lines_in, number_after, items_first, columns_at, right_sides_at, ranges_at, bounds_at, after_rows, after_columns, after_right_sides, after_ranges, after_bounds}
+use Rattle.text_laws.proofs.SectionLaws.{Sections, AreSections, AreItems, lines_in, number_after, items_first, columns_at, right_sides_at,
+    ranges_at, bounds_at, after_rows, after_columns, after_right_sides, after_ranges, after_bounds}
 use Rattle.text_laws.proofs.CanonicalLaws.{sections_of, are_sections}
 use Rattle.text_laws.proofs.BoundReadLaws.{bounds_read, lower_read, upper_read}
 use Rattle.ip_defs.proofs.ListLaws.{filter-append}

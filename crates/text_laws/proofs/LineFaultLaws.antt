@@ -1,5 +1,6 @@
 -- No fault is found in the lines of a section whose rows are known, whose amounts are numbers and whose places are fresh.
-use Rattle.std.specs.Prelude.{◌≡◌, ℕ, suc, ◌≤◌, ◌<◌, ◌^◌, nat_lt, nat_le, Bool, true, false, ◌&&◌, ◌||◌, not, cond, if◌then◌else◌, List, [], ◌∷◌, ◌++◌, map, filter, flat_map, bytes_eq, codes, ℤ}
+use Rattle.std.specs.Prelude.{◌≡◌, ℕ, suc, ◌≤◌, ◌<◌, ◌^◌, nat_lt, nat_le, Bool, true, false, ◌&&◌, ◌||◌, not, cond, if◌then◌else◌, List,
+    [], ◌∷◌, ◌++◌, map, filter, flat_map, bytes_eq, codes, ℤ}
 use Rattle.std.specs.List.{list_any}
 use Rattle.std.specs.Fmt.{signed_decimal}
 use Rattle.std.specs.Option.{option_map_or, is_none}
@@ -10,9 +11,12 @@ use Rattle.mps_defs.specs.Lists.{is_among, last_of, with_earlier, AreDistinct}
 use Rattle.ip_defs.specs.Lists.{when, Each}
 use Rattle.mps_defs.specs.Numbers.{decimal_text, decimals_of, is_number, least_decimals, has_decimals}
 use Rattle.mps_defs.specs.CanonicalText.{Written, pair, kind_text, is_equation, is_from_below}
-use Rattle.mps_defs.specs.Records.{Line, Entry, items_of, words_of, row_name, is_marker, in_force, column_name, has_column, entries_of, entries_from, all_entries, is_kept, opening, row_names, item, entry}
-use Rattle.mps_defs.specs.Faults.{line_faults, row_faults, column_faults, set_faults, bound_faults, marker_faults, pair_faults, entry_faults, is_split, same_place, may_come, place_of, faults_after, is_last_column}
-use Rattle.mps_defs.specs.declared.texts.MpsError.TheVariants.{SectionOrder, FieldCount, RowKind, TwiceRow, UnknownRow, SplitColumn, TwiceEntry, Number, Marker, BoundKind, UnknownColumn, Digits}
+use Rattle.mps_defs.specs.Records.{Line, Entry, items_of, words_of, row_name, is_marker, in_force, column_name, has_column, entries_of,
+    entries_from, all_entries, is_kept, opening, row_names, item, entry}
+use Rattle.mps_defs.specs.Faults.{line_faults, row_faults, column_faults, set_faults, bound_faults, marker_faults, pair_faults,
+    entry_faults, is_split, same_place, may_come, place_of, faults_after, is_last_column}
+use Rattle.mps_defs.specs.declared.texts.MpsError.TheVariants.{SectionOrder, FieldCount, RowKind, TwiceRow, UnknownRow, SplitColumn,
+    TwiceEntry, Number, Marker, BoundKind, UnknownColumn, Digits}
 use Rattle.ip_defs.specs.declared.programs.Column.{Column}
 use Rattle.ip_defs.specs.declared.programs.Row.{Row}
 use Rattle.text_laws.proofs.WrittenLaws.{lines_from}

@@ -1,12 +1,14 @@
 -- A written text is read as its lines: each with its number, its section and its fields.
-use Rattle.std.specs.Prelude.{◌≡◌, ℕ, suc, ◌+◌, ◌-◌, ◌==◌, nat_le, Bool, true, false, ◌&&◌, ◌||◌, not, cond, if◌then◌else◌, List, [], ◌∷◌, ◌++◌, length, take, map, filter, flat_map, slice_index_or, bytes_eq, codes, ⊤}
+use Rattle.std.specs.Prelude.{◌≡◌, ℕ, suc, ◌+◌, ◌-◌, ◌==◌, nat_le, Bool, true, false, ◌&&◌, ◌||◌, not, cond, if◌then◌else◌, List, [], ◌∷◌,
+    ◌++◌, length, take, map, filter, flat_map, slice_index_or, bytes_eq, codes, ⊤}
 use Rattle.std.specs.List.{slice_split, onto_first, list_any, list_all, enumerate_from, concat}
 use Rattle.std.proofs.Common.{refl, arith, ap, sym, ◌∙◌, le-leb}
 use Rattle.std.proofs.lemmas.List.Folds.{list_any-append}
 use Rattle.std.proofs.lemmas.List.Splits.{slice_split-cons_yes, slice_split-cons_no}
 use Rattle.mps_defs.specs.Lists.{with_earlier, after_those, through_first}
 use Rattle.mps_defs.specs.CanonicalText.{Written, written_text, newline, is_separator}
-use Rattle.mps_defs.specs.Records.{Line, is_blank, is_star, begins_with, without_return, fields_of, numbered, opens, opens_end, first_field, last_word, line_of, lines_of, is_line_end, is_read}
+use Rattle.mps_defs.specs.Records.{Line, is_blank, is_star, begins_with, without_return, fields_of, numbered, opens, opens_end,
+    first_field, last_word, line_of, lines_of, is_line_end, is_read}
 use Rattle.text_laws.proofs.WrittenLaws.{is_field, is_readable, section_word, section_after, lines_from, is_last}
 use Rattle.ip_defs.proofs.BoolLaws.{both_true}
 use Rattle.std.proofs.lemmas.List.{append-nil, append_assoc}

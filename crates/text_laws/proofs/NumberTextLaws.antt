@@ -1,5 +1,6 @@
 -- Decimal texts are numbers: what is read of a decimal text is what it writes, in the least decimals.
-use Rattle.std.specs.Prelude.{◌≡◌, ℕ, zero, suc, ◌+◌, ◌-◌, ◌*◌, ◌/◌, ◌%◌, ◌^◌, ◌<◌, ◌≤◌, ◌==◌, nat_le, nat_lt, cond, Bool, true, false, ◌&&◌, ◌||◌, not, if◌then◌else◌, List, [], ◌∷◌, ◌++◌, length, map, Some, unwrap_or, decimal, ℤ, pos, negsuc, neg_ℤ, ◌*ℤ◌, ◌-ℤ◌}
+use Rattle.std.specs.Prelude.{◌≡◌, ℕ, zero, suc, ◌+◌, ◌-◌, ◌*◌, ◌/◌, ◌%◌, ◌^◌, ◌<◌, ◌≤◌, ◌==◌, nat_le, nat_lt, cond, Bool, true, false,
+    ◌&&◌, ◌||◌, not, if◌then◌else◌, List, [], ◌∷◌, ◌++◌, length, map, Some, unwrap_or, decimal, ℤ, pos, negsuc, neg_ℤ, ◌*ℤ◌, ◌-ℤ◌}
 use Rattle.std.specs.Fmt.{signed_decimal}
 use Rattle.std.specs.Int.RustNames.{unsigned_abs}
 use Rattle.std.specs.List.{list_all, list_any, before_first, after_first}
@@ -13,9 +14,12 @@ use Rattle.std.proofs.Math.Nat.{div-le_self, mul-le-mul_left}
 use Rattle.std.proofs.lemmas.Int.{ints}
 use Rattle.decimals.proofs.DecimalLaws.{least_units, units-none}
 use Rattle.decimals.proofs.NumberLaws.{value_from-append, none_after, tens_rise}
-use Rattle.text_laws.proofs.NumeralLaws.{digit_range, decimal_digits, decimal_value, decimal_some, places_digits, places_short, places_none, none_among, no_point, no_mark, no_sign, all_before, before_it, after_it}
+use Rattle.text_laws.proofs.NumeralLaws.{digit_range, decimal_digits, decimal_value, decimal_some, places_digits, places_short,
+    places_none, none_among, no_point, no_mark, no_sign, all_before, before_it, after_it}
 use Rattle.text_laws.proofs.ScaleLaws.{places_value, zeros_dropped, units_back}
-use Rattle.mps_defs.specs.Numbers.{is_digit, is_point, is_exponent_mark, is_numeral, is_number, is_infinity, is_minus, without_sign, whole_part, rest_part, exponent_part, is_exponent, value_from, digits_value, places, size_text, decimal_text, power_of, over_tens, fraction_of, number_from, number_of, signed, least_decimals, decimals_of, is_large}
+use Rattle.mps_defs.specs.Numbers.{is_digit, is_point, is_exponent_mark, is_numeral, is_number, is_infinity, is_minus, without_sign,
+    whole_part, rest_part, exponent_part, is_exponent, value_from, digits_value, places, size_text, decimal_text, power_of, over_tens,
+    fraction_of, number_from, number_of, signed, least_decimals, decimals_of, is_large}
 use Rattle.mps_defs.specs.Lists.{where_true}
 use Rattle.mps_defs.specs.TextModels.{units, number_or_zero}
 use Rattle.mps_defs.specs.declared.texts.Number.{Number}
@@ -40,7 +44,9 @@ joined_parts ds [] d e =
     let plain = none_among is_exponent_mark ds no_mark d in
     let same = all_before is_exponent_mark ds plain in
     let pointless = none_among is_point ds no_point d in
-    record { whole = ap (before_first is_point) same ∙ all_before is_point ds pointless; rest = ap (after_first is_point) same ∙ none_after is_point ds pointless; exponent = none_after is_exponent_mark ds plain; unmarked = plain }
+    record { whole = ap (before_first is_point) same ∙ all_before is_point ds pointless;
+        rest = ap (after_first is_point) same ∙ none_after is_point ds pointless; exponent = none_after is_exponent_mark ds plain;
+        unmarked = plain }
 joined_parts ds (p ∷ ps) d e =
     let plain =
     list_any-append is_exponent_mark ds (46 ∷ p ∷ ps)
@@ -48,7 +54,9 @@ joined_parts ds (p ∷ ps) d e =
     ∙ none_among is_exponent_mark (p ∷ ps) no_mark e in
     let same = all_before is_exponent_mark (ds ++ 46 ∷ p ∷ ps) plain in
     let pointless = none_among is_point ds no_point d in
-    record { whole = ap (before_first is_point) same ∙ before_it is_point ds 46 (p ∷ ps) pointless refl; rest = ap (after_first is_point) same ∙ after_it is_point ds 46 (p ∷ ps) pointless refl; exponent = none_after is_exponent_mark (ds ++ 46 ∷ p ∷ ps) plain; unmarked = plain }
+    record { whole = ap (before_first is_point) same ∙ before_it is_point ds 46 (p ∷ ps) pointless refl;
+        rest = ap (after_first is_point) same ∙ after_it is_point ds 46 (p ∷ ps) pointless refl;
+        exponent = none_after is_exponent_mark (ds ++ 46 ∷ p ∷ ps) plain; unmarked = plain }
 
 -- it is a numeral
 numeral_is : (ds ps body : List ℕ) → IsBody ds ps body → list_all is_digit ds ≡ true → list_all is_digit ps ≡ true → 1 ≤ length ds
@@ -158,7 +166,8 @@ begins_plain [] rest all some = absurd (omega arith)
 begins_plain (d ∷ ds) rest all some =
     let here = (both_true (is_digit d) (list_all is_digit ds) all).0 in
     let r = digit_range d here in
-    record { unsigned = ap (λ t. if t then ds ++ rest else d ∷ ds ++ rest) (no_sign d here); positive = ne_eqb d 45 (λ s. omega (arith, r)); finite = begins_low d (ds ++ rest) here }
+    record { unsigned = ap (λ t. if t then ds ++ rest else d ∷ ds ++ rest) (no_sign d here);
+        positive = ne_eqb d 45 (λ s. omega (arith, r)); finite = begins_low d (ds ++ rest) here }
 
 -- the number that a decimal text writes, in the least decimals
 abbrev pub least_number : Bool → ℕ → ℕ → Number

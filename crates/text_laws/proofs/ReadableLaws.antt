@@ -1,5 +1,6 @@
 -- Each line of the canonical text of a printable program within its limits can be read back, and ENDATA is the last one.
-use Rattle.std.specs.Prelude.{◌≡◌, ℕ, zero, suc, ◌/◌, ◌%◌, ◌^◌, ◌<◌, ◌≤◌, ◌==◌, Bool, true, false, ◌&&◌, ◌||◌, not, cond, if◌then◌else◌, List, [], ◌∷◌, ◌++◌, length, map, flat_map, find, Option, None, Some, slice_get, bytes_eq, codes, decimal, ℤ, pos, negsuc, neg_ℤ, ◌-ℤ◌}
+use Rattle.std.specs.Prelude.{◌≡◌, ℕ, zero, suc, ◌/◌, ◌%◌, ◌^◌, ◌<◌, ◌≤◌, ◌==◌, Bool, true, false, ◌&&◌, ◌||◌, not, cond, if◌then◌else◌,
+    List, [], ◌∷◌, ◌++◌, length, map, flat_map, find, Option, None, Some, slice_get, bytes_eq, codes, decimal, ℤ, pos, negsuc, neg_ℤ, ◌-ℤ◌}
 use Rattle.std.specs.Fmt.{signed_decimal}
 use Rattle.std.specs.List.{list_any, list_all, enumerate_from}
 use Rattle.std.specs.Option.{option_map_or, ForSome}
@@ -13,7 +14,9 @@ use Rattle.std.proofs.Math.Nat.{div-le_self}
 use Rattle.ip_defs.specs.Lists.{when, Each}
 use Rattle.ip_defs.specs.Limits.{IsWithinLimits, AreSmall}
 use Rattle.mps_defs.specs.Numbers.{decimal_text, size_text, places, is_digit}
-use Rattle.mps_defs.specs.CanonicalText.{Written, head, pair, triple, bound, kind_text, is_equation, is_from_below, coef_line, column_block, columns_block, right_side, rhs_line, constant_line, range_line, written_text, canonical_text, is_printable, is_printable_name, value_text, is_separator, side_line, width_line}
+use Rattle.mps_defs.specs.CanonicalText.{Written, head, pair, triple, bound, kind_text, is_equation, is_from_below, coef_line,
+    column_block, columns_block, right_side, rhs_line, constant_line, range_line, written_text, canonical_text, is_printable,
+    is_printable_name, value_text, is_separator, side_line, width_line}
 use Rattle.ip_defs.specs.Program.{is_crossed}
 use Rattle.mps_defs.specs.Records.{lines_of}
 use Rattle.ip_defs.specs.declared.programs.Column.{Column}
@@ -23,7 +26,8 @@ use Rattle.text_laws.proofs.WrittenLaws.{is_field, is_readable, is_last}
 use Rattle.text_laws.proofs.NumeralLaws.{digit_range, decimal_digits, decimal_some, places_digits, none_among}
 use Rattle.text_laws.proofs.NumberTextLaws.{signed_decimal_is}
 use Rattle.text_laws.proofs.LineTextLaws.{AreReadable, EndsOnce, text_lines}
-use Rattle.text_laws.proofs.SectionLaws.{Sections, AreSections, AreItems, section_lines, lines_in, after_rows, after_columns, after_right_sides, after_ranges, after_bounds}
+use Rattle.text_laws.proofs.SectionLaws.{Sections, AreSections, AreItems, section_lines, lines_in, after_rows, after_columns,
+    after_right_sides, after_ranges, after_bounds}
 use Rattle.text_laws.proofs.CanonicalLaws.{sections_of, canonical_sections, are_sections}
 use Rattle.ip_defs.proofs.BoolLaws.{both_true}
 use Rattle.ip_defs.proofs.ListLaws.{each_numbered}
@@ -247,7 +251,8 @@ columns_readable m h = by (length m.columns == 0)
     blocks = flat_map (column_block m) (enumerate_from 0 m.columns)
 
     by : (t : Bool)
-        → AreReadable (if t then [] else triple (codes "M") (codes "'MARKER'") (codes "'INTORG'") ∷ blocks ++ triple (codes "M") (codes "'MARKER'") (codes "'INTEND'") ∷ [])
+        → AreReadable (if t then [] else triple (codes "M") (codes "'MARKER'") (codes "'INTORG'") ∷ blocks
+            ++ triple (codes "M") (codes "'MARKER'") (codes "'INTEND'") ∷ [])
     by true = tt
     by false = (
       refl,

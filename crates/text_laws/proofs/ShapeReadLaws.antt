@@ -1,5 +1,6 @@
 -- A program that is read is well shaped: its decimals are at most 9, and the column numbers of each row rise.
-use Rattle.std.specs.Prelude.{◌≡◌, ◌≢◌, ℕ, zero, suc, ◌<◌, ◌≤◌, ◌==◌, true, false, not, List, [], ◌∷◌, length, map, filter, unwrap_or, codes, ℤ, pos}
+use Rattle.std.specs.Prelude.{◌≡◌, ◌≢◌, ℕ, zero, suc, ◌<◌, ◌≤◌, ◌==◌, true, false, not, List, [], ◌∷◌, length, map, filter, unwrap_or,
+    codes, ℤ, pos}
 use Rattle.std.specs.Int.RustNames.{unsigned_abs}
 use Rattle.std.proofs.Common.{arith, ap, sym, subst}
 use Rattle.std.proofs.lemmas.List.{length-map}
@@ -64,7 +65,9 @@ well_shaped ls how read digits =
       rows =
           λ i r at. each_get (IsRowShaped (length (map column (column_names ls))))
           (map (λ l. row_from ls how (row_kind l) (row_name l)) bound) i r
-          (each_of_map (IsRowShaped (length (map column (column_names ls)))) (λ l. row_from ls how (row_kind l) (row_name l)) bound (every (λ l. IsRowShaped (length (map column (column_names ls))) (row_from ls how (row_kind l) (row_name l))) bound (λ l. record {
+          (each_of_map (IsRowShaped (length (map column (column_names ls)))) (λ l. row_from ls how (row_kind l) (row_name l)) bound
+              (every (λ l. IsRowShaped (length (map column (column_names ls))) (row_from ls how (row_kind l) (row_name l))) bound
+              (λ l. record {
             decimals = few_decimals_read ls how (row_name l) read digits;
             coefs = subst (λ n. AreOrdered n
                 (coefs_in (kept_entries (codes "COLUMNS") ls) (column_names ls) (row_name l)

@@ -1,6 +1,7 @@
 -- Lines without a fault, in the order in which they are read: no line of ROWS comes after a later section, so that what is kept at a
 -- line is kept at the end.
-use Rattle.std.specs.Prelude.{◌≡◌, ℕ, nat_lt, Bool, true, false, ◌&&◌, ◌||◌, not, cond, if◌then◌else◌, List, [], ◌∷◌, ◌++◌, map, Option, None, Some, bytes_eq, codes, ⊤}
+use Rattle.std.specs.Prelude.{◌≡◌, ℕ, nat_lt, Bool, true, false, ◌&&◌, ◌||◌, not, cond, if◌then◌else◌, List, [], ◌∷◌, ◌++◌, map, Option,
+    None, Some, bytes_eq, codes, ⊤}
 use Rattle.std.specs.List.{list_any, list_all}
 use Rattle.std.specs.Option.{option_map_or}
 use Rattle.std.proofs.Common.{refl, arith, ap, sym, ◌∙◌}
@@ -9,7 +10,8 @@ use Rattle.std.proofs.lemmas.List.Folds.{list_any-append}
 use Rattle.std.proofs.lemmas.Slice.Eq.{bytes_eq-Decides}
 use Rattle.mps_defs.specs.Lists.{after_those, through_first}
 use Rattle.ip_defs.specs.Lists.{first_of}
-use Rattle.mps_defs.specs.Records.{Line, Entry, items_of, words_of, row_lines, is_kept, opens, first_field, last_word, line_of, opens_end, numbered, lines_of}
+use Rattle.mps_defs.specs.Records.{Line, Entry, items_of, words_of, row_lines, is_kept, opens, first_field, last_word, line_of, opens_end,
+    numbered, lines_of}
 use Rattle.mps_defs.specs.Faults.{all_line_faults, line_faults, is_before, place_of, faults_after}
 use Rattle.ip_defs.proofs.BoolLaws.{both_true, either_true}
 use Rattle.ip_defs.proofs.ListLaws.{none_append}

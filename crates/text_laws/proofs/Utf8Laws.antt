@@ -1,5 +1,6 @@
 -- A canonical text is UTF-8 where the names of its program are.
-use Rattle.std.specs.Prelude.{◌≡◌, ℕ, suc, ◌/◌, ◌%◌, ◌^◌, ◌<◌, ◌≤◌, ◌==◌, Bool, true, false, not, if◌then◌else◌, List, [], ◌∷◌, ◌++◌, length, flat_map, find, Option, None, Some, codes, decimal, ℤ, pos, negsuc, neg_ℤ, ◌-ℤ◌, nat_lt}
+use Rattle.std.specs.Prelude.{◌≡◌, ℕ, suc, ◌/◌, ◌%◌, ◌^◌, ◌<◌, ◌≤◌, ◌==◌, Bool, true, false, not, if◌then◌else◌, List, [], ◌∷◌, ◌++◌,
+    length, flat_map, find, Option, None, Some, codes, decimal, ℤ, pos, negsuc, neg_ℤ, ◌-ℤ◌, nat_lt}
 use Rattle.std.specs.Fmt.{signed_decimal}
 use Rattle.std.specs.List.{list_all, enumerate_from, concat}
 use Rattle.std.specs.Option.{option_map_or, ForSome}
@@ -14,7 +15,9 @@ use Rattle.std.proofs.lemmas.Str.Ascii.{IsAscii-from_all}
 use Rattle.std.proofs.Math.Nat.{div-le_self}
 use Rattle.ip_defs.specs.Lists.{Each}
 use Rattle.mps_defs.specs.Numbers.{decimal_text, size_text, places, is_digit}
-use Rattle.mps_defs.specs.CanonicalText.{Written, head, pair, triple, bound, kind_text, is_equation, is_from_below, coef_line, column_block, columns_block, right_side, rhs_line, constant_line, range_line, written_text, canonical_text, value_text, newline, side_line, width_line}
+use Rattle.mps_defs.specs.CanonicalText.{Written, head, pair, triple, bound, kind_text, is_equation, is_from_below, coef_line,
+    column_block, columns_block, right_side, rhs_line, constant_line, range_line, written_text, canonical_text, value_text, newline,
+    side_line, width_line}
 use Rattle.ip_defs.specs.declared.programs.Column.{Column}
 use Rattle.ip_defs.specs.declared.programs.Row.{Row}
 use Rattle.ip_defs.specs.declared.programs.Parts.{Parts}
@@ -24,7 +27,8 @@ use Rattle.text_laws.proofs.NumberTextLaws.{signed_decimal_is}
 use Rattle.text_laws.proofs.ListLaws.{each_flat, each_map, each_when, each_both}
 use Rattle.text_laws.proofs.SectionLaws.{Sections, section_lines, after_columns, after_right_sides, after_ranges, after_bounds}
 use Rattle.text_laws.proofs.CanonicalLaws.{sections_of, canonical_sections}
-use Rattle.text_laws.proofs.ReadableLaws.{IsProgramText, IsRowText, IsColumnText, all_from, found_small, right_side_small, width_small, negated_small}
+use Rattle.text_laws.proofs.ReadableLaws.{IsProgramText, IsRowText, IsColumnText, all_from, found_small, right_side_small, width_small,
+    negated_small}
 use Rattle.ip_defs.proofs.BoolLaws.{both_true}
 use Rattle.ip_defs.proofs.ListLaws.{each_numbered, each_append}
 use Rattle.mps_defs.proofs.NumberLaws.{ten_positive}

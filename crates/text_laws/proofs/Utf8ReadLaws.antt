@@ -1,5 +1,6 @@
 -- The fields of the lines of a UTF-8 text are UTF-8, since lines and fields are cut at ASCII bytes.
-use Rattle.std.specs.Prelude.{◌≡◌, ℕ, zero, suc, ◌-◌, ◌<◌, ◌≤◌, ◌==◌, nat_lt, nat_le, Bool, true, false, ◌&&◌, ◌||◌, not, if◌then◌else◌, List, [], ◌∷◌, ◌++◌, length, take, map, slice_index_or}
+use Rattle.std.specs.Prelude.{◌≡◌, ℕ, zero, suc, ◌-◌, ◌<◌, ◌≤◌, ◌==◌, nat_lt, nat_le, Bool, true, false, ◌&&◌, ◌||◌, not, if◌then◌else◌,
+    List, [], ◌∷◌, ◌++◌, length, take, map, slice_index_or}
 use Rattle.std.specs.List.{slice_split, onto_first, list_any, enumerate_from}
 use Rattle.std.specs.Char.{IsScalar}
 use Rattle.std.specs.Str.{IsUtf8, is_utf8, encode_utf8_all}
@@ -7,9 +8,11 @@ use Rattle.std.proofs.Common.{refl, arith, ap, sym, ◌∙◌, subst, get_or}
 use Rattle.std.proofs.Math.Utf8.{encode, scalar, scalars}
 use Rattle.std.proofs.lemmas.Bool.{ltb-true, ltb-false, eqb-true}
 use Rattle.std.proofs.lemmas.List.Splits.{slice_split-cons_yes, slice_split-cons_no}
-use Rattle.std.proofs.lemmas.Str.{IsUtf8-append, IsUtf8-nil, IsUtf8-encode, IsUtf8-from_is_utf8, IsUtf8-take, IsCharBoundary-before_ascii, encode_ascii, inside_one}
+use Rattle.std.proofs.lemmas.Str.{IsUtf8-append, IsUtf8-nil, IsUtf8-encode, IsUtf8-from_is_utf8, IsUtf8-take, IsCharBoundary-before_ascii,
+    encode_ascii, inside_one}
 use Rattle.mps_defs.specs.Lists.{with_earlier, through_first}
-use Rattle.mps_defs.specs.Records.{Line, is_blank, is_star, begins_with, without_return, fields_of, numbered, opens_end, line_of, lines_of, field, is_line_end}
+use Rattle.mps_defs.specs.Records.{Line, is_blank, is_star, begins_with, without_return, fields_of, numbered, opens_end, line_of, lines_of,
+    field, is_line_end}
 use Rattle.text_laws.proofs.LineTextLaws.{split_joined}
 use Rattle.text_laws.proofs.EachLaws.{each_filter, each_of_map, each_through, each_those}
 use Rattle.ip_defs.proofs.BoolLaws.{both_true}

@@ -1,5 +1,6 @@
 -- What a depth-first search says of a node that it visits, and of the subtree that it has grown over one box.
-use Rattle.std.specs.Prelude.{◌≡◌, ℕ, ◌+◌, ◌^◌, ◌<◌, ◌≤◌, List, [], ◌∷◌, length, map, slice_get, Option, Some, None, option_map, ℤ, pos, ◌≤ℤ◌, ◌<ℤ◌}
+use Rattle.std.specs.Prelude.{◌≡◌, ℕ, ◌+◌, ◌^◌, ◌<◌, ◌≤◌, List, [], ◌∷◌, length, map, slice_get, Option, Some, None, option_map, ℤ, pos,
+    ◌≤ℤ◌, ◌<ℤ◌}
 use Rattle.std.specs.Int.RustNames.{unsigned_abs}
 use Rattle.ip_defs.specs.declared.certificates.Bound.{Bound}
 use Rattle.ip_defs.specs.declared.certificates.Bound.TheVariants.{At, Infinite}

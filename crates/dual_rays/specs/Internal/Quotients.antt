@@ -1,5 +1,6 @@
 -- A ray divided by the size of its first number that is not 0.
-use Rattle.std.specs.Prelude.{◌≡◌, ℕ, suc, ◌^◌, ◌<◌, ◌≤◌, ◌==◌, if◌then◌else◌, List, [], ◌∷◌, length, map, Option, None, Some, slice_index_or, pos, unsigned_abs}
+use Rattle.std.specs.Prelude.{◌≡◌, ℕ, suc, ◌^◌, ◌<◌, ◌≤◌, ◌==◌, if◌then◌else◌, List, [], ◌∷◌, length, map, Option, None, Some,
+    slice_index_or, pos, unsigned_abs}
 use Rattle.std.proofs.Common.{◌⊎◌}
 use Rattle.frac128.specs.Fractions.{Fraction}
 use Rattle.frac128.specs.Rationals.{Rational, of, absolute, quotient}
@@ -8,11 +9,11 @@ use Rattle.dual_rays.specs.Certificates.{values}
 -- the size of the first number that is not 0
 abbrev pub first_size : List Rational → Option Rational
 first_size [] = None
-first_size (p ∷ ps) = if unsigned_abs p.top == 0 then first_size ps else Some (absolute p)
+first_size (p ∷ ps) = if unsigned_abs p.numerator == 0 then first_size ps else Some (absolute p)
 
 -- a part of the number has more than 127 bits
 abbrev pub IsWide : Rational → Type 0
-IsWide p = (2 ^ 127 ≤ unsigned_abs p.top) ⊎ (2 ^ 127 ≤ suc p.less)
+IsWide p = (2 ^ 127 ≤ unsigned_abs p.numerator) ⊎ (2 ^ 127 ≤ suc p.less)
 
 -- a number by its place
 abbrev pub number_at : List Rational → ℕ → Rational

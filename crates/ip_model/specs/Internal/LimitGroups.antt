@@ -7,7 +7,8 @@ use Rattle.ip_defs.specs.declared.limits.What.TheVariants.{Columns, Rows, Entrie
 
 -- the counts, which come before all columns and rows
 abbrev pub count_limits : Parts → List Limit
-count_limits m = limit_at (nat_lt 4096 (length m.columns)) Columns 0 ++ limit_at (nat_lt 1024 (length m.rows)) Rows 0 ++ limit_at (nat_lt 200000 (sum_by (λ r. length r.coefs) m.rows)) Entries 0
+count_limits m = limit_at (nat_lt 4096 (length m.columns)) Columns 0 ++ limit_at (nat_lt 1024 (length m.rows)) Rows 0
+    ++ limit_at (nat_lt 200000 (sum_by (λ r. length r.coefs) m.rows)) Entries 0
 
 -- the objective's name and the constant, which come after them
 abbrev pub own_limits : Parts → List Limit

@@ -38,7 +38,8 @@ IsRefusalOf why No.Memory = Unit {0}
 -- what a model text comes to: its model, or the refusal of its first fault
 abbrev pub IsModelText : List ℕ → How → Result Parts NoModel → Type 0
 IsModelText bytes how (Ok m) = (mps_fault bytes how ≡ None) × (m ≡ model_of bytes how)
-IsModelText bytes how (Err (No.Refused text)) = (e : MpsError) × (mps_fault bytes how ≡ Some e) × (text.items ≡ refused_model (refusal_text e))
+IsModelText bytes how (Err (No.Refused text)) = (e : MpsError) × (mps_fault bytes how ≡ Some e)
+    × (text.items ≡ refused_model (refusal_text e))
 IsModelText bytes how (Err No.ReadFault) = ⊥
 IsModelText bytes how (Err No.Memory) = Unit {0}
 

@@ -1,6 +1,7 @@
 -- The sections of a canonical text, one after the other, and the text of their lines.
 use Rattle.std.specs.Prelude.{ℕ, List, [], ◌∷◌, ◌++◌, map, flat_map, codes}
-use Rattle.mps_defs.specs.CanonicalText.{Written, head, pair, bound, written_text, kind_text, columns_block, constant_line, rhs_line, range_line}
+use Rattle.mps_defs.specs.CanonicalText.{Written, head, pair, bound, written_text, kind_text, columns_block, constant_line, rhs_line,
+    range_line}
 use Rattle.ip_defs.specs.declared.programs.Column.{Column}
 use Rattle.ip_defs.specs.declared.programs.Row.{Row}
 use Rattle.ip_defs.specs.declared.programs.Parts.{Parts}

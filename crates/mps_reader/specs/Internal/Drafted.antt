@@ -1,5 +1,6 @@
 -- The model that a draft says, and what is wrong with the whole of it.
-use Rattle.std.specs.Prelude.{◌≡◌, Result, Ok, Err, ℕ, suc, ◌==◌, max, Bool, true, false, not, ◌&&◌, if◌then◌else◌, List, [], ◌∷◌, ◌++◌, map, filter, string_bytes, Option, None, Some, option_and_then, unwrap_or, ℤ, pos, neg_ℤ}
+use Rattle.std.specs.Prelude.{◌≡◌, Result, Ok, Err, ℕ, suc, ◌==◌, max, Bool, true, false, not, ◌&&◌, if◌then◌else◌, List, [], ◌∷◌, ◌++◌,
+    map, filter, string_bytes, Option, None, Some, option_and_then, unwrap_or, ℤ, pos, neg_ℤ}
 use Rattle.std.specs.Int.RustNames.{unsigned_abs}
 use Rattle.std.specs.Option.{is_none}
 use Rattle.ip_defs.specs.Lists.{when, first_of}

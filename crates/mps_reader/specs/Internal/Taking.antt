@@ -1,5 +1,7 @@
 -- What taking a part of a line owes: an entry, a marker, a column, a set.
-use Rattle.std.specs.Prelude.{◌≡◌, ◌⊎◌, ℕ, ◌==◌, max, nat_le, ◌%◌, drop, Bool, true, false, ◌&&◌, ◌||◌, not, if◌then◌else◌, List, [], ◌∷◌, ◌++◌, length, map, filter, flat_map, position, Option, None, Some, option_map, unwrap_or, string_bytes, bytes_eq, codes, Result, Ok, Err}
+use Rattle.std.specs.Prelude.{◌≡◌, ◌⊎◌, ℕ, ◌==◌, max, nat_le, ◌%◌, drop, Bool, true, false, ◌&&◌, ◌||◌, not, if◌then◌else◌, List, [], ◌∷◌,
+    ◌++◌, length, map, filter, flat_map, position, Option, None, Some, option_map, unwrap_or, string_bytes, bytes_eq, codes, Result, Ok,
+    Err}
 use Rattle.std.specs.Option.{option_map_or, is_some}
 use Rattle.ip_defs.specs.Lists.{first_of, when}
 use Rattle.mps_defs.specs.Lists.{last_of, is_among, after_those}

@@ -14,7 +14,8 @@ use Rattle.simplex_exact.specs.Internal.Numbers.{turned}
 
 -- the numbers of the columns and the reduced costs of the slacks, or a number is wide
 abbrev pub IsPointRead : Table → ℕ → ℕ → LpAnswer → Type 0
-IsPointRead T columns rows (Best point prices) = AreNumbers columns (point_of T) point × AreNumbers rows (λ k. price_number T (columns + k)) prices
+IsPointRead T columns rows (Best point prices) = AreNumbers columns (point_of T) point
+    × AreNumbers rows (λ k. price_number T (columns + k)) prices
 IsPointRead T columns rows (Empty ray) = ⊥
 IsPointRead T columns rows Stopped = ⊥
 IsPointRead T columns rows Wide = HasWideNumber T

@@ -7,7 +7,8 @@ use Rattle.branching.specs.declared.nodes.Visit.TheVariants.{Open}
 use Rattle.branching.specs.Internal.Search.{IsVisited}
 use Rattle.branching.specs.Counts.{stopped_in, stops}
 use Rattle.branching.specs.OpenTrees.{plain_open}
-use Rattle.branching.proofs.SearchLaws.{below_search, above_search, grown_from, halves_grown, halves_counted, first_grown, first_half_counted, no_stop}
+use Rattle.branching.proofs.SearchLaws.{below_search, above_search, grown_from, halves_grown, halves_counted, first_grown,
+    first_half_counted, no_stop}
 use Rattle.branching.proofs.search.+grow.Given.{Over}
 use Rattle.branching.proofs.search.+grow.Goals as goal
 use Rattle.branching.proofs.search.+grow.Goals.{In-Open, After-cut_below, After-set, After-cut_above}

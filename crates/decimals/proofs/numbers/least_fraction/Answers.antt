@@ -19,7 +19,9 @@ returns c =
     let units = c.loop-places.units in
     let places = c.loop-places.places in
     let reached : (least_units units places ≡ units) × (least_decimals units places ≡ places) =
-    elim c.loop-places-test.branch [ then-loop-places-test+else-units-eq0 w ↦ odd_reached units places w.if-units-eq0.false | else-loop-places-test w ↦ none_reached units places (let none = w.loop-places-test.false in omega arith) ] in
+    elim c.loop-places-test.branch [ then-loop-places-test+else-units-eq0 w ↦ odd_reached units places w.if-units-eq0.false |
+        else-loop-places-test w ↦ none_reached units places (let none = w.loop-places-test.false in omega arith) ] in
     let back : to_z w128 (of_z w128 c.signed.result) ≡ c.signed.result = omega (arith, ints) in
     ap (λ (z : ℤ). Dec z places) (back ∙ c.signed.ensures.value)
-    ∙ least_reached c.args.negative c.args.size c.args.decimals units places c.requires.below c.loop-places.invariant.units c.loop-places.invariant.decimals reached.0 reached.1
+    ∙ least_reached c.args.negative c.args.size c.args.decimals units places c.requires.below c.loop-places.invariant.units
+        c.loop-places.invariant.decimals reached.0 reached.1

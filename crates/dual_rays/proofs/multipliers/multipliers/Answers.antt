@@ -27,6 +27,8 @@ loop-row-preserved c =
     let next = multiples-next q xs i x c.loop-row-test.true c.index-prices-row.is in
     let read : to_z w64 (of_z w64 z) ≡ z = search rules in
     record {
-      kept = c.in_ok-add-in-Some.ensures ∙ present-next q xs i x (to_z w64 (of_z w64 z)) i c.loop-row.y c.loop-row-test.true c.index-prices-row.is (read ∙ within.0) refl c.loop-row.invariant.kept;
-      small = ap (list_any (above (2 ^ 36))) next ∙ above-none (map (multiple q) (values (take i xs))) (multiple q (value_of x)) c.loop-row.invariant.small within.1;
+      kept = c.in_ok-add-in-Some.ensures ∙ present-next q xs i x (to_z w64 (of_z w64 z)) i c.loop-row.y c.loop-row-test.true
+          c.index-prices-row.is (read ∙ within.0) refl c.loop-row.invariant.kept;
+      small = ap (list_any (above (2 ^ 36))) next ∙ above-none (map (multiple q) (values (take i xs))) (multiple q (value_of x))
+          c.loop-row.invariant.small within.1;
     }

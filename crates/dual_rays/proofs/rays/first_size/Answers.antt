@@ -9,9 +9,11 @@ use Rattle.dual_rays.proofs.rays.first_size.Goals as goal
 pub returns-then-num-ne0-clause-value : goal.returns-then-num-ne0-clause-value
 returns-then-num-ne0-clause-value c =
     let x = c.number-item.result in
-    let nonzero : (value_of x).top ≢ pos 0 = λ e. c.if-num-ne0.true (ap (of_z w128) (c.num.ensures.value ∙ sym (value_top x c.num.ensures.fraction) ∙ e)) in
+    let nonzero : (value_of x).numerator ≢ pos 0 = λ e. c.if-num-ne0.true (ap (of_z w128) (c.num.ensures.value
+            ∙ sym (value_top x c.num.ensures.fraction) ∙ e)) in
     ap Some c.absolute.ensures.value
-    ∙ sym (first-found c.args.ray.now c.loop-number.number-index x c.loop-number-test.true c.number-item.is c.loop-number.invariant.zeros nonzero)
+    ∙ sym (first-found c.args.ray.now c.loop-number.number-index x c.loop-number-test.true c.number-item.is c.loop-number.invariant.zeros
+        nonzero)
 
 pub returns-then-num-ne0-clause-present : goal.returns-then-num-ne0-clause-present
 returns-then-num-ne0-clause-present c =
@@ -23,5 +25,7 @@ pub loop-number-preserved : goal.loop-number-preserved
 loop-number-preserved c =
     let x = c.number-item.result in
     let read : to_z w128 (of_z w128 c.num.result) ≡ c.num.result = search rules in
-    let zero : (value_of x).top ≡ pos 0 = value_top x c.num.ensures.fraction ∙ sym c.num.ensures.value ∙ sym read ∙ ap (to_z w128) c.if-num-ne0.false in
-    record { zeros = first-next c.args.ray.now c.loop-number.number-index x c.loop-number-test.true c.number-item.is c.loop-number.invariant.zeros zero }
+    let zero : (value_of x).numerator ≡ pos 0 = value_top x c.num.ensures.fraction ∙ sym c.num.ensures.value ∙ sym read
+            ∙ ap (to_z w128) c.if-num-ne0.false in
+    record { zeros = first-next c.args.ray.now c.loop-number.number-index x c.loop-number-test.true c.number-item.is
+        c.loop-number.invariant.zeros zero }

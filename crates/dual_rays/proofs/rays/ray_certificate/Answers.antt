@@ -6,7 +6,8 @@ use Rattle.dual_rays.proofs.RayCertificateLaws.{certificate, zero-ray, wide-ray,
 use Rattle.dual_rays.proofs.rays.ray_certificate.Goals as goal
 
 pub returns-in-None : goal.returns-in-None
-returns-in-None c = ap (λ y. Some (certificate 0 y)) (c.from_vec.ensures ∙ c.new.ensures.items) ∙ zero-ray c.args.ray.now (sym c.in-None.ensures.value)
+returns-in-None c = ap (λ y. Some (certificate 0 y)) (c.from_vec.ensures ∙ c.new.ensures.items)
+    ∙ zero-ray c.args.ray.now (sym c.in-None.ensures.value)
 
 pub returns-in-None-2 : goal.returns-in-None-2
 returns-in-None-2 c =

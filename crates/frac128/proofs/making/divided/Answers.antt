@@ -7,19 +7,19 @@ use Rattle.frac128.proofs.making.divided.Goals as goal
 
 pub fraction_of-requires : goal.fraction_of-requires
 fraction_of-requires c =
-    let top : to_z w128 (of_z w128 c.over.result) ≡ int_div c.args.num (shared c.args.num c.args.den) = search rules in
+    let numerator : to_z w128 (of_z w128 c.over.result) ≡ int_div c.args.num (shared c.args.num c.args.den) = search rules in
     let under : to_z w128 (of_z w128 c.over-2.result) ≡ int_div c.args.den (shared c.args.num c.args.den) = search rules in
-    lowest-made c.args.num c.args.den _ _ c.requires.positive c.requires.num_fits (omega (arith, ints)) top under
+    lowest-made c.args.num c.args.den _ _ c.requires.positive c.requires.num_fits (omega (arith, ints)) numerator under
 
 pub returns-clause-value : goal.returns-clause-value
 returns-clause-value c =
-    let top : to_z w128 (of_z w128 c.over.result) ≡ int_div c.args.num (shared c.args.num c.args.den) = search rules in
+    let numerator : to_z w128 (of_z w128 c.over.result) ≡ int_div c.args.num (shared c.args.num c.args.den) = search rules in
     let under : to_z w128 (of_z w128 c.over-2.result) ≡ int_div c.args.den (shared c.args.num c.args.den) = search rules in
-    c.fraction_of.ensures.value ∙ lowest-parts c.args.num c.args.den _ _ top under
+    c.fraction_of.ensures.value ∙ lowest-parts c.args.num c.args.den _ _ numerator under
 
 pub returns-clause-equal : goal.returns-clause-equal
 returns-clause-equal c =
-    let top : to_z w128 (of_z w128 c.over.result) ≡ int_div c.args.num (shared c.args.num c.args.den) = search rules in
+    let numerator : to_z w128 (of_z w128 c.over.result) ≡ int_div c.args.num (shared c.args.num c.args.den) = search rules in
     let under : to_z w128 (of_z w128 c.over-2.result) ≡ int_div c.args.den (shared c.args.num c.args.den) = search rules in
-    let is = c.fraction_of.ensures.value ∙ lowest-parts c.args.num c.args.den _ _ top under in
+    let is = c.fraction_of.ensures.value ∙ lowest-parts c.args.num c.args.den _ _ numerator under in
     subst (λ (r : Fraction). r.num *ℤ c.args.den ≡ c.args.num *ℤ r.den) (sym is) (lowest_of-equal c.args.num c.args.den)

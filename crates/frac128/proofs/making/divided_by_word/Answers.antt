@@ -7,12 +7,12 @@ use Rattle.frac128.proofs.making.divided_by_word.Goals as goal
 
 pub fraction_of-requires : goal.fraction_of-requires
 fraction_of-requires c =
-    let top : to_z w128 (of_z w128 c.over_word.result) ≡ int_div c.args.num (shared c.args.num c.args.den) = search rules in
+    let numerator : to_z w128 (of_z w128 c.over_word.result) ≡ int_div c.args.num (shared c.args.num c.args.den) = search rules in
     let under : to_z w128 (of_z w128 c.over_word-2.result) ≡ int_div c.args.den (shared c.args.num c.args.den) = search rules in
-    lowest-made c.args.num c.args.den _ _ c.requires.positive c.requires.num_fits (omega (arith, ints)) top under
+    lowest-made c.args.num c.args.den _ _ c.requires.positive c.requires.num_fits (omega (arith, ints)) numerator under
 
 pub returns : goal.returns
 returns c =
-    let top : to_z w128 (of_z w128 c.over_word.result) ≡ int_div c.args.num (shared c.args.num c.args.den) = search rules in
+    let numerator : to_z w128 (of_z w128 c.over_word.result) ≡ int_div c.args.num (shared c.args.num c.args.den) = search rules in
     let under : to_z w128 (of_z w128 c.over_word-2.result) ≡ int_div c.args.den (shared c.args.num c.args.den) = search rules in
-    c.fraction_of.ensures.value ∙ lowest-parts c.args.num c.args.den _ _ top under
+    c.fraction_of.ensures.value ∙ lowest-parts c.args.num c.args.den _ _ numerator under

@@ -5,4 +5,5 @@ use Rattle.ip_defs.specs.Limits.{column_limits}
 use Rattle.ip_model.proofs.limits.first_of_columns.Given as goal
 
 abbrev pub invariant-loop-j : goal.invariant-loop-j
-invariant-loop-j l = first_of (flat_map column_limits (enumerate_from 0 l.columns)) ≡ first_of (flat_map column_limits (enumerate_from l.j (drop l.j l.columns)))
+invariant-loop-j l = first_of (flat_map column_limits (enumerate_from 0 l.columns))
+    ≡ first_of (flat_map column_limits (enumerate_from l.j (drop l.j l.columns)))

@@ -13,7 +13,9 @@ pub width-requires : goal.width-requires
 width-requires c =
     let m = c.args.model.now in
     let same = c.as_slice-column-items.ensures ∙ ap (λ (n : Parts). n.columns) c.parts.ensures.parts in
-    let found : slice_get m.columns c.loop-column.column-index ≡ Some c.column-item.result = read_at m.columns c.as_slice-column-items.result.now c.loop-column.column-index c.column-item.result same c.loop-column-test.true c.column-item.is in
+    let found : slice_get m.columns c.loop-column.column-index ≡ Some c.column-item.result =
+            read_at m.columns c.as_slice-column-items.result.now c.loop-column.column-index c.column-item.result same
+            c.loop-column-test.true c.column-item.is in
     c.parts.ensures.limits.columns c.loop-column.column-index c.column-item.result found
 
 pub overflow_add-total : goal.overflow_add-total
@@ -31,7 +33,8 @@ returns-in-None c =
     let i = c.loop-column.column-index in
     let column = c.column-item.result in
     let same = c.as_slice-column-items.ensures ∙ ap (λ (n : Parts). n.columns) c.parts.ensures.parts in
-    let found : slice_get m.columns i ≡ Some column = read_at m.columns c.as_slice-column-items.result.now i column same c.loop-column-test.true c.column-item.is in
+    let found : slice_get m.columns i ≡ Some column = read_at m.columns c.as_slice-column-items.result.now i column same
+            c.loop-column-test.true c.column-item.is in
     let counted = ap length same in
     let sides : length (box_of m) ≡ length m.columns = length-map m.columns (λ (c : Column). (c.lo, c.hi)) in
     let inside = c.loop-column-test.true in
@@ -43,7 +46,8 @@ loop-column-preserved c =
     let i = c.loop-column.column-index in
     let column = c.column-item.result in
     let same = c.as_slice-column-items.ensures ∙ ap (λ (n : Parts). n.columns) c.parts.ensures.parts in
-    let found : slice_get m.columns i ≡ Some column = read_at m.columns c.as_slice-column-items.result.now i column same c.loop-column-test.true c.column-item.is in
+    let found : slice_get m.columns i ≡ Some column = read_at m.columns c.as_slice-column-items.result.now i column same
+            c.loop-column-test.true c.column-item.is in
     let counted = ap length same in
     let sides : length (box_of m) ≡ length m.columns = length-map m.columns (λ (c : Column). (c.lo, c.hi)) in
     let test = c.loop-column-test.true in
@@ -56,7 +60,8 @@ loop-column-preserved c =
     let width = c.in-Some.ensures.some in
     let small = c.in-Some.ensures.small in
     record {
-      none = none_empty_more (box_of m) i (column.lo, column.hi) inside side c.loop-column.invariant.none (not_true _ c.in-Some.ensures.none.1);
+      none = none_empty_more (box_of m) i (column.lo, column.hi) inside side c.loop-column.invariant.none
+          (not_true _ c.in-Some.ensures.none.1);
       sum = omega arith;
       small = omega arith;
     }

@@ -12,7 +12,8 @@ invariant-loop-bytes g l = record {
   files : Keeps (g.S.Shelf.files l.fn.shelf) (g.S.Shelf.files l.shelf);
   untold : IsUntold (g.S.Shelf.files l.fn.shelf) (g.S.Shelf.files l.shelf) l.name;
   room : vec_len l.bytes ≤ l.most;
-  content : ForSome (g.S.Shelf.files l.shelf) (λ t. (rest : List ℕ) × (g.S.Shelf.left l.shelf ≡ Some rest) × (file_of t l.name ≡ Some (l.bytes.items ++ rest)));
+  content : ForSome (g.S.Shelf.files l.shelf) (λ t. (rest : List ℕ) × (g.S.Shelf.left l.shelf ≡ Some rest)
+      × (file_of t l.name ≡ Some (l.bytes.items ++ rest)));
 }
 
 abbrev pub decreases-loop-bytes : goal.decreases-loop-bytes

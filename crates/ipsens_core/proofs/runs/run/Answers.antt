@@ -6,15 +6,18 @@ use Rattle.ipsens_core.proofs.runs.run.Goals as goal
 
 pub returns-in-Err-Usage-clause-answer : goal.returns-in-Err-Usage-clause-answer
 returns-in-Err-Usage-clause-answer g c =
-    usage_meets (map string_bytes c.args.words.now) (g.S.Shelf.files c.args.shelf.now) (g.K.Sink.taken c.args.out.now) (g.K.Sink.taken c.finish.new.out) (g.K.Sink.faults c.args.out.now) (g.K.Sink.faults c.finish.new.out) c.finish.result
+    usage_meets (map string_bytes c.args.words.now) (g.S.Shelf.files c.args.shelf.now) (g.K.Sink.taken c.args.out.now)
+        (g.K.Sink.taken c.finish.new.out) (g.K.Sink.faults c.args.out.now) (g.K.Sink.faults c.finish.new.out) c.finish.result
     (c.in-Err-Usage.ensures.usage (ap Err c.in-Err-Usage.field-0-is)) c.finish.ensures.writes
 
 pub returns-in-Solve-clause-answer : goal.returns-in-Solve-clause-answer
 returns-in-Solve-clause-answer g c =
     let words = map string_bytes c.args.words.now in
-    meets_more (AnswersRequest c.in-Ok.request) (IsRunOf words) _ c.solve_at.result (λ rs a h. request_run words c.in-Ok.request rs a c.in-Ok.ensures.request h) c.solve_at.ensures.answer
+    meets_more (AnswersRequest c.in-Ok.request) (IsRunOf words) _ c.solve_at.result
+        (λ rs a h. request_run words c.in-Ok.request rs a c.in-Ok.ensures.request h) c.solve_at.ensures.answer
 
 pub returns-in-Show-clause-answer : goal.returns-in-Show-clause-answer
 returns-in-Show-clause-answer g c =
     let words = map string_bytes c.args.words.now in
-    meets_more (AnswersRequest c.in-Ok.request) (IsRunOf words) _ c.show_at.result (λ rs a h. request_run words c.in-Ok.request rs a c.in-Ok.ensures.request h) c.show_at.ensures.answer
+    meets_more (AnswersRequest c.in-Ok.request) (IsRunOf words) _ c.show_at.result
+        (λ rs a h. request_run words c.in-Ok.request rs a c.in-Ok.ensures.request h) c.show_at.ensures.answer

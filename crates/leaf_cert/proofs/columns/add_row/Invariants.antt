@@ -3,4 +3,5 @@ use Rattle.ip_defs.specs.Program.{at, coefficient}
 use Rattle.leaf_cert.proofs.columns.add_row.Given as goal
 
 abbrev pub invariant-loop-column : goal.invariant-loop-column
-invariant-loop-column l = (j : ℕ) → j < length l.taken → at l.taken j ≡ at l.initial.taken j +ℤ l.multiplier *ℤ coefficient (take l.column-index l.coefs) j
+invariant-loop-column l = (j : ℕ) → j < length l.taken → at l.taken j ≡ at l.initial.taken j
+    +ℤ l.multiplier *ℤ coefficient (take l.column-index l.coefs) j

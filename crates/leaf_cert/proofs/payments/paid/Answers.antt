@@ -31,17 +31,20 @@ loop-row-preserved c =
     let total = c.loop-row.total in
     let one = c.in-Some.one in
     let rest = pay rows (drop (i + 1) y) in
-    let fits : SFits w64 (value_at y i) = small_fits (value_at y i) (let small = (c.requires.multipliers i c.loop-row-test.true) in omega (arith, ints)) in
+    let fits : SFits w64 (value_at y i) = small_fits (value_at y i) (let small = (c.requires.multipliers i c.loop-row-test.true) in
+            omega (arith, ints)) in
     let read = to_z-of_z w64 (value_at y i) fits in
     let back : to_z w128 (of_z w128 c.total_of-total.result) ≡ c.total_of-total.result = omega (arith, ints) in
     let back' : to_z w128 (of_z w128 one) ≡ one = omega (arith, ints) in
     let is : payment rows (get_or y i (0, pos 0)) ≡ Some one = sym (rw read at c.payment_of.ensures.value) ∙ c.in-Some.is in
-    let sum : total +ℤ one ≡ to_z w128 (of_z w128 c.total_of-total.result) = sym (back ∙ (rw (c.loop-row.total-is, back') at c.total_of-total.ensures)) in
+    let sum : total +ℤ one ≡ to_z w128 (of_z w128 c.total_of-total.result) = sym (back
+            ∙ (rw (c.loop-row.total-is, back') at c.total_of-total.ensures)) in
     let before : pay rows y ≡ option_map (λ r. total +ℤ r) (pay rows (drop i y)) = rw c.loop-row.total-is at c.loop-row.invariant.paid in
     let small = c.in-Some.ensures.small in
     let so = c.loop-row.invariant.small in
     record {
-      paid = before ∙ ap (option_map (λ r. total +ℤ r)) (pay_next rows y i c.loop-row-test.true) ∙ ap (λ o. option_map (λ r. total +ℤ r) (onto o rest)) is ∙ so_far total one rest ∙ ap (λ z. option_map (λ r. z +ℤ r) rest) sum;
+      paid = before ∙ ap (option_map (λ r. total +ℤ r)) (pay_next rows y i c.loop-row-test.true)
+          ∙ ap (λ o. option_map (λ r. total +ℤ r) (onto o rest)) is ∙ so_far total one rest ∙ ap (λ z. option_map (λ r. z +ℤ r) rest) sum;
       small = omega (arith, ints);
     }
 

@@ -12,7 +12,8 @@ pub returns-in-Some-clause-small : goal.returns-in-Some-clause-small
 returns-in-Some-clause-small c =
     let m = c.args.parts.now in
     let row = c.index-rows-row.result in
-    let found : slice_get m.rows c.args.row ≡ Some row = slice_get_read m.rows (length m.rows) c.args.row row refl c.requires.within (rw c.as_slice-rows.ensures at c.index-rows-row.is) in
+    let found : slice_get m.rows c.args.row ≡ Some row = slice_get_read m.rows (length m.rows) c.args.row row refl c.requires.within
+            (rw c.as_slice-rows.ensures at c.index-rows-row.is) in
     let same : to_z w64 (of_z w64 c.args.multiplier) ≡ c.args.multiplier = omega (arith, ints) in
     let has : side_for c.args.multiplier row ≡ Some c.in-Some.side = sym (rw same at c.side_of.ensures) ∙ c.in-Some.is in
     let small = side_small row c.args.multiplier c.in-Some.side (c.requires.limits.rows c.args.row row found) has in
@@ -26,7 +27,8 @@ pub returns-in-None-clause-value : goal.returns-in-None-clause-value
 returns-in-None-clause-value c =
     let m = c.args.parts.now in
     let row = c.index-rows-row.result in
-    let found : slice_get m.rows c.args.row ≡ Some row = slice_get_read m.rows (length m.rows) c.args.row row refl c.requires.within (rw c.as_slice-rows.ensures at c.index-rows-row.is) in
+    let found : slice_get m.rows c.args.row ≡ Some row = slice_get_read m.rows (length m.rows) c.args.row row refl c.requires.within
+            (rw c.as_slice-rows.ensures at c.index-rows-row.is) in
     let same : to_z w64 (of_z w64 c.args.multiplier) ≡ c.args.multiplier = omega (arith, ints) in
     let has : side_for c.args.multiplier row ≡ None = sym (rw same at c.side_of.ensures) ∙ c.in-None.is in
     sym (no_payment m.rows (c.args.row, c.args.multiplier) row found has)

@@ -27,7 +27,8 @@ returns-then-keeps c =
     ∙ ap Some (sym c.in-Some.ensures.value) in
     λ ls es name have owns.
     let e = entry c.args.line name c.args.row.now c.args.text.now in
-    counted_entry ls c.args.owner es table place row c.write.new.self e c.in_ok-place.number c.write.result have owns c.in_ok-place.ensures.0 there c.in_ok-place.ensures.1
+    counted_entry ls c.args.owner es table place row c.write.new.self e c.in_ok-place.number c.write.result have owns
+        c.in_ok-place.ensures.0 there c.in_ok-place.ensures.1
     (ap (λ b. counts_on c.args.owner b (is_at table.objective place)) (sym c.is_free.ensures)
     ∙ ap (counts_on c.args.owner c.is_free.result) (sym c.is_objective-is_objective.ensures)
     ∙ sym c.if-keeps.ensures) c.write.ensures

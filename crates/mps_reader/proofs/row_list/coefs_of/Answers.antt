@@ -25,6 +25,12 @@ loop-entry-preserved c =
     let is = c.clamped-coefficient.ensures ∙ ap clamped back ∙ ap clamped c.units.ensures in
     let back_word : to_z w64 (of_z w64 c.clamped-coefficient.result) ≡ c.clamped-coefficient.result = omega (arith, ints) in
     elim c.if-coefficient-ne0.branch [
-      | then-coefficient-ne0+in_ok-push w ↦ ap (λ v. v.items ++ clamped_coefs (drafted_coefs k rest)) w.coefs-is ∙ ap (λ l. l ++ clamped_coefs (drafted_coefs k rest)) w.in_ok-push.ensures.items ∙ ap (λ n. (done ++ (n, to_z w64 (of_z w64 c.clamped-coefficient.result)) ∷ []) ++ clamped_coefs (drafted_coefs k rest)) w.column_number.ensures ∙ ap (λ z. (done ++ (p.0, z) ∷ []) ++ clamped_coefs (drafted_coefs k rest)) back_word ∙ coefs_take k p rest done c.clamped-coefficient.result is (λ e. w.if-coefficient-ne0.true (ap (of_z w64) e)) ∙ before
-      | else-coefficient-ne0 w ↦ ap (λ v. v.items ++ clamped_coefs (drafted_coefs k rest)) w.coefs-is ∙ coefs_skip k p rest done c.clamped-coefficient.result is (let none = w.if-coefficient-ne0.false in omega (arith, ints)) ∙ before
+      | then-coefficient-ne0+in_ok-push w ↦ ap (λ v. v.items ++ clamped_coefs (drafted_coefs k rest)) w.coefs-is
+          ∙ ap (λ l. l ++ clamped_coefs (drafted_coefs k rest)) w.in_ok-push.ensures.items
+          ∙ ap (λ n. (done ++ (n, to_z w64 (of_z w64 c.clamped-coefficient.result)) ∷ [])
+          ++ clamped_coefs (drafted_coefs k rest)) w.column_number.ensures ∙ ap (λ z. (done ++ (p.0, z) ∷ [])
+          ++ clamped_coefs (drafted_coefs k rest)) back_word
+          ∙ coefs_take k p rest done c.clamped-coefficient.result is (λ e. w.if-coefficient-ne0.true (ap (of_z w64) e)) ∙ before
+      | else-coefficient-ne0 w ↦ ap (λ v. v.items ++ clamped_coefs (drafted_coefs k rest)) w.coefs-is
+          ∙ coefs_skip k p rest done c.clamped-coefficient.result is (let none = w.if-coefficient-ne0.false in omega (arith, ints)) ∙ before
     ]

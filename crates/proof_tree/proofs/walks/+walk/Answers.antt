@@ -8,7 +8,8 @@ use Rattle.proof_tree.specs.Trees.{plain, bound_min, bound_over}
 use Rattle.proof_tree.proofs.TreeLaws.{bound_split}
 use Rattle.proof_tree.proofs.WalkLaws.{no_half, below_size, above_size, below_within, above_within, put_back}
 use Rattle.proof_tree.proofs.walks.+walk.Goals as goal
-use Rattle.proof_tree.proofs.walks.+walk.Goals.{In-Split, After-cut_below, After-cut_above, then-cut_below, else-cut_below, then-cut_above, else-cut_above}
+use Rattle.proof_tree.proofs.walks.+walk.Goals.{In-Split, After-cut_below, After-cut_above, then-cut_below, else-cut_below, then-cut_above,
+    else-cut_above}
 
 -- ---- the area on the way
 

@@ -9,10 +9,12 @@ pub returns-in-Some : goal.returns-in-Some
 returns-in-Some c =
     let T = c.args.tableau.now in (
       c.in_ok-point.ensures T (λ v h. c.requires.values v (omega arith)),
-      subst (λ (o : Option (List Fraction)). MatchOption o (HasWideNumber T) (AreNumbers c.args.rows (λ k. price_number T (c.args.columns + k)))) c.in-Some.is c.in_ok-prices.ensures,
+      subst (λ (o : Option (List Fraction)). MatchOption o (HasWideNumber T) (AreNumbers c.args.rows
+          (λ k. price_number T (c.args.columns + k)))) c.in-Some.is c.in_ok-prices.ensures,
     )
 
 pub returns-in-None : goal.returns-in-None
 returns-in-None c =
     let T = c.args.tableau.now in
-    subst (λ (o : Option (List Fraction)). MatchOption o (HasWideNumber T) (AreNumbers c.args.rows (λ k. price_number T (c.args.columns + k)))) c.in-None.is c.in_ok-prices.ensures
+    subst (λ (o : Option (List Fraction)). MatchOption o (HasWideNumber T) (AreNumbers c.args.rows
+        (λ k. price_number T (c.args.columns + k)))) c.in-None.is c.in_ok-prices.ensures

@@ -7,4 +7,5 @@ pub returns-in-Some-clause-breach : goal.returns-in-Some-clause-breach
 returns-in-Some-clause-breach c =
     let T = c.args.tableau.now in
     let inside : c.loop-v.v < length T.variables = omega arith in
-    sym (first_here (breach T) (length T.variables) c.loop-v.v c.in-Some.found c.loop-v.invariant.none (sym c.breach.ensures ∙ c.in-Some.is) inside)
+    sym (first_here (breach T) (length T.variables) c.loop-v.v c.in-Some.found c.loop-v.invariant.none (sym c.breach.ensures
+        ∙ c.in-Some.is) inside)

@@ -14,5 +14,8 @@ loop-row-preserved c = λ v h.
     let inside : row < length T.basics = omega arith in
     let room : basic < length places = omega arith in
     place_step places c.if-is_none.places T.basics row v inside (c.loop-row.invariant v h)
-    (λ e. elim c.if-is_none.branch [ then-is_none w ↦ placed_here places c.if-is_none.places basic row v w.places-is room w.if-is_none.ensures (is ∙ e) | else-is_none w ↦ kept_here places c.if-is_none.places basic row v w.places-is w.if-is_none.ensures (is ∙ e) ])
-    (λ n. elim c.if-is_none.branch [ then-is_none w ↦ placed_there places c.if-is_none.places basic row v w.places-is (λ e. n (sym is ∙ e)) | else-is_none w ↦ ap (λ (xs : List (Option ℕ)). slice_index_or xs v None) w.places-is ])
+    (λ e. elim c.if-is_none.branch [ then-is_none w ↦ placed_here places c.if-is_none.places basic row v w.places-is room
+        w.if-is_none.ensures (is ∙ e) | else-is_none w ↦ kept_here places c.if-is_none.places basic row v w.places-is w.if-is_none.ensures
+        (is ∙ e) ])
+    (λ n. elim c.if-is_none.branch [ then-is_none w ↦ placed_there places c.if-is_none.places basic row v w.places-is (λ e. n (sym is ∙ e))
+        | else-is_none w ↦ ap (λ (xs : List (Option ℕ)). slice_index_or xs v None) w.places-is ])

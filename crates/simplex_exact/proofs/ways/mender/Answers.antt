@@ -10,5 +10,6 @@ returns-in-Some c =
     let T = c.args.tableau.now in
     let v = c.loop-var.var in
     let inside : v < length T.variables = omega arith in
-    sym (first_here (λ v. option_map (λ go. v) (way T (turned c.args.up (number T c.args.row v)) v)) (length T.variables) v v c.loop-var.invariant
+    sym (first_here (λ v. option_map (λ go. v) (way T (turned c.args.up (number T c.args.row v)) v)) (length T.variables) v v
+        c.loop-var.invariant
     (ap (option_map (λ go. v)) (sym c.mending_way.ensures ∙ c.in-Some.is)) inside)

@@ -8,4 +8,5 @@ use Rattle.tableau.proofs.numbers.less_rest.Goals as goal
 pub returns-in-None-clause-value : goal.returns-in-None-clause-value
 returns-in-None-clause-value c =
     let none : c.args.resting ≡ None = search rules in
-    less_nothing (value_of c.args.x) (value_of c.args.entry) ∙ ap (λ (o : Option ℤ). sub (value_of c.args.x) (mul (value_of c.args.entry) (of (side_or_zero o)))) (sym none)
+    less_nothing (value_of c.args.x) (value_of c.args.entry)
+        ∙ ap (λ (o : Option ℤ). sub (value_of c.args.x) (mul (value_of c.args.entry) (of (side_or_zero o)))) (sym none)

@@ -14,10 +14,12 @@ pub returns-in-Err-clause-exact : goal.returns-in-Err-clause-exact
 returns-in-Err-clause-exact c =
     let line = c.args.line.now in
     let v = c.loop-v.v in
-    let f : ℕ → Fraction → Result Fraction Wide = λ v x. less_resting x (at line v) (resting (variable_at c.args.variables.now v) (rest_at c.args.rests.now v)) in
+    let f : ℕ → Fraction → Result Fraction Wide = λ v x. less_resting x (at line v)
+            (resting (variable_at c.args.variables.now v) (rest_at c.args.rests.now v)) in
     let read = get_or_read_under line v (length line) c.index-line-v.result (whole (pos 0)) c.index-line-v.is c.loop-v-test.true refl in
     let step : Err (record {}) ≡ f v c.loop-v.value =
-    sym (is_wide c.less_rest.result c.in-Err.field-0 c.in-Err.is) ∙ c.less_rest.ensures.exact ∙ ap (λ t. less_resting c.loop-v.value t c.resting_value.result) read
+    sym (is_wide c.less_rest.result c.in-Err.field-0 c.in-Err.is) ∙ c.less_rest.ensures.exact
+        ∙ ap (λ t. less_resting c.loop-v.value t c.resting_value.result) read
     ∙ ap (λ (o : Option ℤ). less_resting c.loop-v.value (at line v) o) c.resting_value.ensures in
     let next = after_steps-next f (whole (pos 0)) c.loop-v.value v (Err (record {})) c.loop-v.invariant.exact step in
     sym (after_steps-wide f (whole (pos 0)) (v + 1) (length line) (sym next) (let l = c.loop-v-test.true in omega arith))
@@ -43,5 +45,6 @@ loop-v-preserved c =
     ∙ ap (λ (o : Option ℤ). sub (value_of c.loop-v.value) (mul (value_of (at line v)) (of (side_or_zero o)))) c.resting_value.ensures in
     record {
       exact = after_steps-next f (whole (pos 0)) c.loop-v.value v (Ok c.in-Ok.less) c.loop-v.invariant.exact step;
-      number = value_step (λ v. mul (value_of (at line v)) (of (side_or_zero (rest v)))) v (value_of c.loop-v.value) (value_of c.in-Ok.less) c.loop-v.invariant.number loss;
+      number = value_step (λ v. mul (value_of (at line v)) (of (side_or_zero (rest v)))) v (value_of c.loop-v.value)
+          (value_of c.in-Ok.less) c.loop-v.invariant.number loss;
     }

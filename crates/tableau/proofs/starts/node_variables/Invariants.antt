@@ -7,4 +7,5 @@ abbrev pub invariant-loop-j : goal.invariant-loop-j
 invariant-loop-j l = l.variables.items ≡ map column_variable (take l.j (zip l.columns l.area))
 
 abbrev pub invariant-loop-row : goal.invariant-loop-row
-invariant-loop-row l = l.variables.items ≡ map column_variable (zip l.parts.columns l.area) ++ map slack_variable (take l.row-index l.row-items)
+invariant-loop-row l = l.variables.items ≡ map column_variable (zip l.parts.columns l.area)
+    ++ map slack_variable (take l.row-index l.row-items)

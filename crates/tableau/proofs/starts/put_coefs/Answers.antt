@@ -16,8 +16,11 @@ loop-column-preserved c =
     let size = c.loop-column.invariant.size in
     let value_is : c.from_whole.result ≡ whole (neg_ℤ (value_at coefs i)) = c.from_whole.ensures.exact ∙ ap whole (omega (arith, ints)) in
     let inside : number_at coefs i < length numbers = omega (arith, c.requires.ordered.within i test) in
-    let same : length c.set.new.self ≡ length numbers = ap length c.set.ensures ∙ length-set numbers (number_at coefs i) c.from_whole.result in
+    let same : length c.set.new.self ≡ length numbers = ap length c.set.ensures
+            ∙ length-set numbers (number_at coefs i) c.from_whole.result in
     record {
       size = same ∙ size;
-      numbers = λ v l. ap (λ (z : List Fraction). at z v) c.set.ensures ∙ put_step numbers coefs i c.from_whole.result test c.requires.ordered.rising inside c.loop-column.invariant.numbers value_is v (omega arith);
+      numbers = λ v l. ap (λ (z : List Fraction). at z v) c.set.ensures
+          ∙ put_step numbers coefs i c.from_whole.result test c.requires.ordered.rising inside c.loop-column.invariant.numbers value_is v
+          (omega arith);
     }

@@ -14,13 +14,15 @@ use Rattle.tableau.proofs.NumberLaws.{number_is}
 use Rattle.tableau.proofs.tables.Tableau.value.Goals as goal
 
 abbrev loss_of : List Fraction → List Rest → List Variable → ℕ → Rational
-loss_of numbers rests variables n = neg (sum rationals (λ v. mul (value_of (at numbers v)) (of (side_or_zero (resting (variable_at variables v) (rest_at rests v))))) n)
+loss_of numbers rests variables n = neg (sum rationals (λ v. mul (value_of (at numbers v))
+    (of (side_or_zero (resting (variable_at variables v) (rest_at rests v))))) n)
 
 pub returns-clause-number : goal.returns-clause-number
 returns-clause-number c =
     let inside = c.self.inside in
     let r = c.args.row in
-    let T : Table = record { rows = inside.rows.items; basics = inside.basics.items; rests = inside.rests.items; variables = inside.variables.items } in
+    let T : Table = record { rows = inside.rows.items; basics = inside.basics.items; rests = inside.rests.items;
+            variables = inside.variables.items } in
     let row : r < length inside.rows.items = subst (λ (t : Table). r < length t.rows) (sym c.self.view_is) c.requires in
     let numbers = c.as_slice.result.now in
     let rests = c.as_slice-2.result.now in
@@ -31,6 +33,7 @@ returns-clause-number c =
     (ap (loss_of numbers rests variables) size
     ∙ ap (λ (z : List Fraction). loss_of z rests variables (length inside.variables.items)) line_is
     ∙ ap (λ (z : List Rest). loss_of (line inside.rows.items r) z variables (length inside.variables.items)) c.as_slice-2.ensures.value
-    ∙ ap (λ (z : List Variable). loss_of (line inside.rows.items r) inside.rests.items z (length inside.variables.items)) c.as_slice-3.ensures.value
+    ∙ ap (λ (z : List Variable). loss_of (line inside.rows.items r) inside.rests.items z (length inside.variables.items))
+        c.as_slice-3.ensures.value
     ∙ ap (λ (t : Table). value_number t r) c.self.view_is)
     c.row_value.ensures.number

@@ -10,5 +10,6 @@ pub returns-in-Some-Some : goal.returns-in-Some-Some
 returns-in-Some-Some c =
     let gap : ℤ = c.in-Some-Some.high -ℤ c.in-Some-Some.low in
     let is : value_of c.frac.result ≡ of gap =
-    ap value_of c.frac.ensures.value ∙ lowest-value _ (pos 1) (omega (arith, ints)) ∙ ap (λ z. rational z (pos 1)) (omega (arith, ints)) ∙ whole-value gap in
+    ap value_of c.frac.ensures.value ∙ lowest-value _ (pos 1) (omega (arith, ints)) ∙ ap (λ z. rational z (pos 1)) (omega (arith, ints))
+        ∙ whole-value gap in
     ap Some is ∙ search rules

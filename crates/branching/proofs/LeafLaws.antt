@@ -16,7 +16,7 @@ use Rattle.ip_defs.specs.declared.certificates.Cert.{Cert}
 use Rattle.ip_defs.specs.declared.programs.Parts.{Parts}
 use Rattle.ip_defs.specs.declared.programs.Row.{Row}
 use Rattle.ip_defs.specs.Boxes.{IsOpen}
-use Rattle.ip_defs.specs.Certificates.{coefs_of, side_for, pay, entry, reduced, column_part, dual_value, box_sum, ceiling, is_empty_side,
+use Rattle.ip_defs.specs.Certificates.{coefs_of, side_for, pay, coefficient_of, reduced, column_part, dual_value, box_sum, ceiling, is_empty_side,
     bound_by, leaf_bound}
 use Rattle.ip_defs.specs.Limits.{IsCert, IsWithinLimits}
 use Rattle.ip_defs.specs.Program.{at, box_of, coefficient, costs_of, row_sum, low_at, high_at, IsIn, cost}
@@ -109,7 +109,7 @@ module _ (b : List (ℤ × ℤ)) (single : IsSingle b) (open' : IsOpen b) where
       let y : List (ℕ × ℤ) = (i, k) ∷ [] in
       let each : (j : ℕ) → j < length b → int_min (reduced m (pos 0) y j *ℤ low_at b j) (reduced m (pos 0) y j *ℤ high_at b j)
               ≡ (pos 0 -ℤ k) *ℤ (coefficient r.coefs j *ℤ at (lowest b) j) = λ j l.
-      ends_meet (reduced m (pos 0) y j) j l ∙ turned (at (costs_of m) j) (entry m.rows i j) (at (lowest b) j)
+      ends_meet (reduced m (pos 0) y j) j l ∙ turned (at (costs_of m) j) (coefficient_of m.rows i j) (at (lowest b) j)
           ∙ ap (λ (o : Option Row). (pos 0 -ℤ k) *ℤ (coefficient (coefs_of o) j *ℤ at (lowest b) j)) is in
       let same = sum_same (λ j. int_min (reduced m (pos 0) y j *ℤ low_at b j) (reduced m (pos 0) y j *ℤ high_at b j))
               (λ j. (pos 0 -ℤ k) *ℤ (coefficient r.coefs j *ℤ at (lowest b) j)) (length b) each in

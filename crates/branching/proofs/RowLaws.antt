@@ -16,7 +16,7 @@ use Rattle.ip_defs.specs.declared.programs.Row.{Row}
 use Rattle.ip_defs.specs.Boxes.{IsOpen}
 use Rattle.ip_defs.specs.Breaches.{column_breach, is_below_side, is_above_side, row_breach, first_breach}
 use Rattle.ip_defs.specs.Certificates.{leaf_bound}
-use Rattle.ip_defs.specs.Limits.{IsCert, IsWithinLimits, number_at, value_at}
+use Rattle.ip_defs.specs.Limits.{IsCert, IsWithinLimits, index_at, value_at}
 use Rattle.ip_defs.specs.Lists.{first}
 use Rattle.std.specs.Option.{option_or}
 use Rattle.ip_defs.specs.Program.{at, box_of, low_at, high_at, row_sum, IsIn}
@@ -109,7 +109,7 @@ ray_cert i k l other small = record {
   multipliers = λ a p. small_first a p;
 }
   where
-    at_first : (a : ℕ) → a < 1 → number_at ((i, k) ∷ []) a < 1024
+    at_first : (a : ℕ) → a < 1 → index_at ((i, k) ∷ []) a < 1024
     at_first zero p = l
     at_first (suc a) p = absurd (omega arith)
 

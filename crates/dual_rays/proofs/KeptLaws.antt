@@ -6,7 +6,7 @@ use Rattle.std.proofs.Common.{arith, refl, ap, sym, ◌∙◌}
 use Rattle.std.proofs.lemmas.Int.{ints}
 use borrow.Author.Tests.{ltb-false}
 use Rattle.ip_defs.specs.Program.{at, coefficient}
-use Rattle.ip_defs.specs.Limits.{above, number_at, value_at, AreOrdered, AreSmall}
+use Rattle.ip_defs.specs.Limits.{exceeds, index_at, value_at, AreOrdered, AreSmall}
 use Rattle.dual_rays.specs.Certificates.{is_present, present}
 use Rattle.ip_defs.proofs.OrderLaws.{zero_is, nonzero_is}
 use Rattle.lp_duality.proofs.SparseLaws.{coefficient_absent, coefficient_same, coefficient_other}
@@ -17,7 +17,7 @@ kept n zs = filter is_present (enumerate_from n zs)
 
 -- pairs in order whose numbers are n or more
 record AreFrom (n rows : ℕ) (ps : List (ℕ × ℤ)) : Type 0 where
-  least : (i : ℕ) → i < length ps → n ≤ number_at ps i
+  least : (i : ℕ) → i < length ps → n ≤ index_at ps i
   ordered : AreOrdered rows ps
 
 from_more : (n rows : ℕ) (ps : List (ℕ × ℤ)) → AreFrom (n + 1) rows ps → AreFrom n rows ps
@@ -29,16 +29,16 @@ from_cons n rows z ps l present' f = record {
   ordered = record { rising = rising; within = within; present = nonzero };
 }
   where
-    least : (i : ℕ) → i < length ((n, z) ∷ ps) → n ≤ number_at ((n, z) ∷ ps) i
+    least : (i : ℕ) → i < length ((n, z) ∷ ps) → n ≤ index_at ((n, z) ∷ ps) i
     least zero m = omega arith
     least (suc i) m = let h = f.least i (omega arith) in omega arith
 
-    rising : (i k : ℕ) → i < k → k < length ((n, z) ∷ ps) → number_at ((n, z) ∷ ps) i < number_at ((n, z) ∷ ps) k
+    rising : (i k : ℕ) → i < k → k < length ((n, z) ∷ ps) → index_at ((n, z) ∷ ps) i < index_at ((n, z) ∷ ps) k
     rising i zero h m = absurd (omega arith)
     rising zero (suc k) h m = let g = f.least k (omega arith) in omega arith
     rising (suc i) (suc k) h m = f.ordered.rising i k (omega arith) (omega arith)
 
-    within : (i : ℕ) → i < length ((n, z) ∷ ps) → number_at ((n, z) ∷ ps) i < rows
+    within : (i : ℕ) → i < length ((n, z) ∷ ps) → index_at ((n, z) ∷ ps) i < rows
     within zero m = l
     within (suc i) m = f.ordered.within i (omega arith)
 
@@ -63,9 +63,9 @@ pub present-ordered : (zs : List ℤ) → AreOrdered (length zs) (present zs)
 present-ordered zs = (kept_from 0 (length zs) zs (omega arith)).ordered
 
 -- ---- sizes
-kept_small : (n : ℕ) (zs : List ℤ) → list_any (above (2 ^ 36)) zs ≡ false → AreSmall (2 ^ 36) (kept n zs)
+kept_small : (n : ℕ) (zs : List ℤ) → list_any (exceeds (2 ^ 36)) zs ≡ false → AreSmall (2 ^ 36) (kept n zs)
 kept_small n [] e = λ i l. absurd (omega arith)
-kept_small n (z ∷ zs) e = let parts = neither_true (above (2 ^ 36) z) (list_any (above (2 ^ 36)) zs) e in
+kept_small n (z ∷ zs) e = let parts = neither_true (exceeds (2 ^ 36) z) (list_any (exceeds (2 ^ 36)) zs) e in
     by (unsigned_abs z == 0) (ltb-false (2 ^ 36) (unsigned_abs z) parts.0) (kept_small (n + 1) zs parts.1)
   where
     cons : unsigned_abs z ≤ 2 ^ 36 → AreSmall (2 ^ 36) (kept (n + 1) zs) → AreSmall (2 ^ 36) ((n, z) ∷ kept (n + 1) zs)
@@ -77,7 +77,7 @@ kept_small n (z ∷ zs) e = let parts = neither_true (above (2 ^ 36) z) (list_an
     by true s f = f
     by false s f = cons s f
 
-pub present-small : (zs : List ℤ) → list_any (above (2 ^ 36)) zs ≡ false → AreSmall (2 ^ 36) (present zs)
+pub present-small : (zs : List ℤ) → list_any (exceeds (2 ^ 36)) zs ≡ false → AreSmall (2 ^ 36) (present zs)
 present-small zs e = kept_small 0 zs e
 
 -- ---- by row

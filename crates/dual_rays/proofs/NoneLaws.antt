@@ -15,7 +15,7 @@ use Rattle.ring_laws.proofs.Normal.{num, var, ◌⊗◌, minus, combine}
 use Rattle.ring_laws.proofs.Named.{ring3}
 use Rattle.ring_laws.proofs.Products.{mul_assoc}
 use Rattle.ip_defs.specs.Program.{at, coefficient}
-use Rattle.ip_defs.specs.Limits.{above, AreOrdered, AreSmall}
+use Rattle.ip_defs.specs.Limits.{exceeds, AreOrdered, AreSmall}
 use Rattle.ip_defs.specs.declared.certificates.Cert.{Cert}
 use Rattle.frac128.specs.Fractions.{Fraction}
 use Rattle.frac128.proofs.Rationals.{Rational, S, denominator, over, over_parts, same, mul-over, both, both-is, of, of_mul, mul, rationals}
@@ -47,10 +47,10 @@ coefficient_small n s (p ∷ ps) k o h = by (p.0 == k) refl (coefficient_small n
 
 -- small numbers have a certificate
 fitting : (q : ℕ) (zs : List ℤ) → q ≤ 2 ^ 36 → ((k : ℕ) → k < length zs → unsigned_abs (at zs k) ≤ 2 ^ 36) → certificate_of q zs ≢ None
-fitting q zs small all e = by (nat_lt (2 ^ 36) q) (list_any (above (2 ^ 36)) zs) (le-ltb (2 ^ 36) q small) none e
+fitting q zs small all e = by (nat_lt (2 ^ 36) q) (list_any (exceeds (2 ^ 36)) zs) (le-ltb (2 ^ 36) q small) none e
   where
-    none : list_any (above (2 ^ 36)) zs ≡ false
-    none = list_any_none (above (2 ^ 36)) zs (All-from_get_or (λ z. above (2 ^ 36) z
+    none : list_any (exceeds (2 ^ 36)) zs ≡ false
+    none = list_any_none (exceeds (2 ^ 36)) zs (All-from_get_or (λ z. exceeds (2 ^ 36) z
         ≡ false) zs (pos 0) (λ k l. le-ltb (2 ^ 36) (unsigned_abs (at zs k)) (all k l)))
 
     certificate : List (ℕ × ℤ) → Cert

@@ -6,7 +6,7 @@ use Rattle.std.proofs.Common.{arith, ap, sym, ◌∙◌, subst}
 use Rattle.std.proofs.lemmas.List.{take_more, map-append, length-map, get_or-map, length-take-le}
 use Rattle.std.proofs.lemmas.List.Elements.{filter-append}
 use Rattle.std.proofs.lemmas.List.Folds.{list_any-append, list_any_at}
-use Rattle.ip_defs.specs.Limits.{above}
+use Rattle.ip_defs.specs.Limits.{exceeds}
 use Rattle.frac128.specs.Fractions.{Fraction}
 use Rattle.frac128.specs.Values.{value_of}
 use Rattle.dual_rays.specs.Multiples.{multiple}
@@ -38,16 +38,16 @@ multiple-at q xs i d e l =
 
 -- a multiple beyond the limit
 pub multiples-past : (q : ℕ) (xs : List Fraction) (i : ℕ) (x : Fraction) → i < length xs → x ≡ slice_index_or xs i x →
-    above (2 ^ 36) (multiple q (value_of x)) ≡ true → None ≡ multipliers_of (map (multiple q) (values xs))
+    exceeds (2 ^ 36) (multiple q (value_of x)) ≡ true → None ≡ multipliers_of (map (multiple q) (values xs))
 multiples-past q xs i x l is e =
     let zs = map (multiple q) (values xs) in
     let size : i < length zs = subst (λ n. i < n) (sym (length-map (values xs) (multiple q) ∙ length-map xs value_of)) l in
     let at = multiple-at q xs i x (pos 0) l ∙ ap (λ y. multiple q (value_of y)) (sym is) in
-    sym (ap (λ t. if t then None else Some (present zs)) (list_any_at (above (2 ^ 36)) zs i (pos 0) size (ap (above (2 ^ 36)) at ∙ e)))
+    sym (ap (λ t. if t then None else Some (present zs)) (list_any_at (exceeds (2 ^ 36)) zs i (pos 0) size (ap (exceeds (2 ^ 36)) at ∙ e)))
 
-pub above-none : (zs : List ℤ) (z : ℤ) → list_any (above (2 ^ 36)) zs ≡ false → above (2 ^ 36) z ≡ false →
-    list_any (above (2 ^ 36)) (zs ++ z ∷ []) ≡ false
-above-none zs z e f = list_any-append (above (2 ^ 36)) zs (z ∷ []) ∙ ap (λ t. t || list_any (above (2 ^ 36)) (z ∷ [])) e
+pub exceeds-none : (zs : List ℤ) (z : ℤ) → list_any (exceeds (2 ^ 36)) zs ≡ false → exceeds (2 ^ 36) z ≡ false →
+    list_any (exceeds (2 ^ 36)) (zs ++ z ∷ []) ≡ false
+exceeds-none zs z e f = list_any-append (exceeds (2 ^ 36)) zs (z ∷ []) ∙ ap (λ t. t || list_any (exceeds (2 ^ 36)) (z ∷ [])) e
     ∙ ap (λ t. t || false) f
 
 -- a loop over fractions that adds each multiple

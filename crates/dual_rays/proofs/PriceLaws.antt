@@ -11,7 +11,7 @@ use borrow.Author.Tests.{ltb-false}
 use Rattle.ring_laws.proofs.Rings.{whole}
 use Rattle.ring_laws.proofs.Normal.{num, var, ◌⊗◌, minus, combine}
 use Rattle.ip_defs.specs.Program.{at, coefficient}
-use Rattle.ip_defs.specs.Limits.{above, IsCert, AreOrdered, AreSmall}
+use Rattle.ip_defs.specs.Limits.{exceeds, IsCert, AreOrdered, AreSmall}
 use Rattle.ip_defs.specs.declared.certificates.Cert.{Cert}
 use Rattle.frac128.specs.Fractions.{Fraction}
 use Rattle.frac128.specs.Values.{value_of}
@@ -33,12 +33,12 @@ pub record IsMade (q : ℕ) (zs : List ℤ) (c : Cert) : Type 0 where
   pub divisor : c.q ≡ pos q
   pub kept : c.y ≡ present zs
   pub small : q ≤ 2 ^ 36
-  pub all_small : list_any (above (2 ^ 36)) zs ≡ false
+  pub all_small : list_any (exceeds (2 ^ 36)) zs ≡ false
 
 pub certificate-made : (q : ℕ) (zs : List ℤ) (c : Cert) → certificate_of q zs ≡ Some c → IsMade q zs c
-certificate-made q zs c e = by (nat_lt (2 ^ 36) q) (list_any (above (2 ^ 36)) zs) refl refl e
+certificate-made q zs c e = by (nat_lt (2 ^ 36) q) (list_any (exceeds (2 ^ 36)) zs) refl refl e
   where
-    by : (s t : Bool) → nat_lt (2 ^ 36) q ≡ s → list_any (above (2 ^ 36)) zs ≡ t →
+    by : (s t : Bool) → nat_lt (2 ^ 36) q ≡ s → list_any (exceeds (2 ^ 36)) zs ≡ t →
         (if s then None else option_map (λ y. record { q = pos q; y = y }) (if t then None else Some (present zs))) ≡ Some c → IsMade q zs c
     by true t f g h = absurd cc
     by false true f g h = absurd cc

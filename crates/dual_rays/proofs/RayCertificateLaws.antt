@@ -10,7 +10,7 @@ use Rattle.std.proofs.lemmas.List.{length-map, get_or-map}
 use Rattle.std.proofs.lemmas.List.Folds.{list_any_at}
 use Rattle.std.proofs.Math.Nat.{mul-div_cancel', le_of_dvd, zero-div}
 use Rattle.ip_defs.specs.Program.{at}
-use Rattle.ip_defs.specs.Limits.{above}
+use Rattle.ip_defs.specs.Limits.{exceeds}
 use Rattle.ip_defs.specs.declared.certificates.Cert.{Cert}
 use Rattle.frac128.specs.Fractions.{Fraction}
 use Rattle.frac128.specs.Rationals.{Rational, quotient, of, absolute}
@@ -35,7 +35,7 @@ none_present : (n : ℕ) (ps : List Rational) → filter is_present (enumerate_f
 none_present n [] = refl
 none_present n (p ∷ ps) = none_present (n + 1) ps
 
-none_above : (ps : List Rational) → list_any (above (2 ^ 36)) (map (λ p. pos 0) ps) ≡ false
+none_above : (ps : List Rational) → list_any (exceeds (2 ^ 36)) (map (λ p. pos 0) ps) ≡ false
 none_above [] = refl
 none_above (p ∷ ps) = none_above ps
 
@@ -60,7 +60,7 @@ zero-ray xs e =
 abbrev pub without_divisor : Option Cert → Option Cert
 without_divisor o = option_map (λ c. record { q = pos 0; y = c.y }) o
 
-above_none : (q : ℕ) (zs : List ℤ) → list_any (above (2 ^ 36)) zs ≡ true → certificate_of q zs ≡ None
+above_none : (q : ℕ) (zs : List ℤ) → list_any (exceeds (2 ^ 36)) zs ≡ true → certificate_of q zs ≡ None
 above_none q zs e = ap (λ t. if nat_lt (2 ^ 36) q then None else option_map (certificate q) (if t then None else Some (present zs))) e
     ∙ by (nat_lt (2 ^ 36) q)
   where
@@ -71,16 +71,16 @@ above_none q zs e = ap (λ t. if nat_lt (2 ^ 36) q then None else option_map (ce
 -- a divisor that is a multiplier's size makes no difference
 same_divisor : (q : ℕ) (zs : List ℤ) (i : ℕ) → i < length zs → unsigned_abs (at zs i) ≡ q →
     without_divisor (certificate_of q zs) ≡ certificate_of 0 zs
-same_divisor q zs i l e = by (list_any (above (2 ^ 36)) zs) refl (nat_lt (2 ^ 36) q) refl
+same_divisor q zs i l e = by (list_any (exceeds (2 ^ 36)) zs) refl (nat_lt (2 ^ 36) q) refl
   where
-    by : (s : Bool) → list_any (above (2 ^ 36)) zs ≡ s → (t : Bool) → nat_lt (2 ^ 36) q ≡ t →
+    by : (s : Bool) → list_any (exceeds (2 ^ 36)) zs ≡ s → (t : Bool) → nat_lt (2 ^ 36) q ≡ t →
         without_divisor (if t then None else option_map (certificate q) (if s then None else Some (present zs)))
         ≡ (if nat_lt (2 ^ 36) 0 then None else option_map (certificate 0) (if s then None else Some (present zs)))
     by true f true g = refl
     by true f false g = refl
     by false f false g = refl
     by false f true g =
-        let great = list_any_at (above (2 ^ 36)) zs i (pos 0) l (ap (nat_lt (2 ^ 36)) e ∙ g) in
+        let great = list_any_at (exceeds (2 ^ 36)) zs i (pos 0) l (ap (nat_lt (2 ^ 36)) e ∙ g) in
         let clash : true ≡ false = sym great ∙ f in
         absurd cc
 
@@ -145,11 +145,11 @@ module _ (xs : List Fraction) (s : Rational) (e : first_size (values xs) ≡ Som
   pub wide-ray : AreQuotients ps s None → None ≡ certificate_of_ray xs
   wide-ray (k, l, wide) = sym (ap (certificate_of 0) same_multiples ∙ above_none 0 (multiples rs) (by wide))
     where
-      by : IsWide (quotient (number_at ps k) s) → list_any (above (2 ^ 36)) (multiples rs) ≡ true
-      by (inl w) = list_any_at (above (2 ^ 36)) (multiples rs) k (pos 0) (inside k l)
+      by : IsWide (quotient (number_at ps k) s) → list_any (exceeds (2 ^ 36)) (multiples rs) ≡ true
+      by (inl w) = list_any_at (exceeds (2 ^ 36)) (multiples rs) k (pos 0) (inside k l)
           (lt-ltb (2 ^ 36) (unsigned_abs (at (multiples rs) k)) (let size = multiple_size k l in
               let grows = grows_by (unsigned_abs (quotient (number_at ps k) s).numerator) (q / suc (quotient (number_at ps k) s).less)
               (times_positive k l) in omega arith))
-      by (inr w) = list_any_at (above (2 ^ 36)) (multiples rs) is_first.place (pos 0) (inside is_first.place is_first.within)
+      by (inr w) = list_any_at (exceeds (2 ^ 36)) (multiples rs) is_first.place (pos 0) (inside is_first.place is_first.within)
           (lt-ltb (2 ^ 36) (unsigned_abs (at (multiples rs) is_first.place)) (let size = unit_size in
               let small = le_of_dvd (denominator-positive rs) (divides k l) in omega arith))

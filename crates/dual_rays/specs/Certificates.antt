@@ -2,7 +2,7 @@
 use Rattle.std.specs.Prelude.{ℕ, ◌^◌, ◌==◌, nat_lt, Bool, not, if◌then◌else◌, List, map, filter, Option, None, Some, option_map, ℤ, pos,
     unsigned_abs}
 use Rattle.std.specs.List.{enumerate_from, list_any}
-use Rattle.ip_defs.specs.Limits.{above}
+use Rattle.ip_defs.specs.Limits.{exceeds}
 use Rattle.ip_defs.specs.declared.certificates.Cert.{Cert}
 use Rattle.frac128.specs.Fractions.{Fraction}
 use Rattle.frac128.specs.Rationals.{Rational}
@@ -15,7 +15,7 @@ divisor_of q = if nat_lt (2 ^ 36) q then None else Some q
 
 -- a multiplier of a certificate: none where it passes 2^36 in size
 abbrev pub multiplier_of : ℤ → Option ℤ
-multiplier_of z = if above (2 ^ 36) z then None else Some z
+multiplier_of z = if exceeds (2 ^ 36) z then None else Some z
 
 -- a multiplier of a row is not 0
 abbrev pub is_present : ℕ × ℤ → Bool
@@ -27,7 +27,7 @@ present zs = filter is_present (enumerate_from 0 zs)
 
 -- the multipliers of a certificate, by one number for each row: none where one passes 2^36 in size
 abbrev pub multipliers_of : List ℤ → Option (List (ℕ × ℤ))
-multipliers_of zs = if list_any (above (2 ^ 36)) zs then None else Some (present zs)
+multipliers_of zs = if list_any (exceeds (2 ^ 36)) zs then None else Some (present zs)
 
 -- a certificate: none where the divisor or a multiplier passes 2^36 in size
 abbrev pub certificate_of : ℕ → List ℤ → Option Cert

@@ -13,7 +13,7 @@ use Rattle.std.specs.Int.Signed.{lt_z}
 use Rattle.std.specs.List.{list_any}
 use Rattle.ip_defs.specs.Sums.{sum_below, sum_over}
 use Rattle.ip_defs.specs.Program.{at, coefficient, row_sum, Meets, IsIn, low_at, high_at, cost, costs_of}
-use Rattle.ip_defs.specs.Certificates.{side_for, payment, pay, coefs_of, entry, reduced, column_part, dual_value, box_sum, ceiling,
+use Rattle.ip_defs.specs.Certificates.{side_for, payment, pay, coefs_of, coefficient_of, reduced, column_part, dual_value, box_sum, ceiling,
     is_empty_side, bound_by, IsAtMost, WeakDuality}
 use Rattle.ip_defs.specs.declared.programs.Row.{Row}
 use Rattle.ip_defs.specs.declared.programs.Parts.{Parts}
@@ -43,7 +43,7 @@ sum_over_same f g (y ∷ ys) h =
 
 -- the value of a row by its number
 abbrev activity : List Row → List ℤ → ℕ → ℤ
-activity rows x i = sum_below (λ j. entry rows i j *ℤ at x j) (length x)
+activity rows x i = sum_below (λ j. coefficient_of rows i j *ℤ at x j) (length x)
 
 -- one payment is at most the multiplier times the row's value
 one_pays : (x : List ℤ) (k : ℤ) (found : Option Row) (v : ℤ) → IfSome found (Meets x) →
@@ -95,13 +95,13 @@ taken : (m : Parts) (x : List ℤ) (q : ℤ) (y : List (ℕ × ℤ)) → sum_bel
     ≡ q *ℤ sum_below (λ j. at (costs_of m) j *ℤ at x j) (length x) -ℤ sum_over (λ p. p.1 *ℤ activity m.rows x p.0) y
 taken m x q y =
     let n = length x in
-    let F : ℕ × ℤ → ℕ → ℤ = λ p j. p.1 *ℤ (entry m.rows p.0 j *ℤ at x j) in
+    let F : ℕ × ℤ → ℕ → ℤ = λ p j. p.1 *ℤ (coefficient_of m.rows p.0 j *ℤ at x j) in
     let each : (j : ℕ) → reduced m q y j *ℤ at x j ≡ q *ℤ (at (costs_of m) j *ℤ at x j) -ℤ sum_over (λ p. F p j) y = λ j.
-    let apart = sub_mul (q *ℤ at (costs_of m) j) (sum_over (λ p. p.1 *ℤ entry m.rows p.0 j) y) (at x j) in
+    let apart = sub_mul (q *ℤ at (costs_of m) j) (sum_over (λ p. p.1 *ℤ coefficient_of m.rows p.0 j) y) (at x j) in
     let left = mul_assoc q (at (costs_of m) j) (at x j) in
-    let right = sum_over_mul (λ p. p.1 *ℤ entry m.rows p.0 j) y (at x j) in
-    let inner = sum_over_same (λ p. (p.1 *ℤ entry m.rows p.0 j) *ℤ at x j) (λ p. F p j) y
-            (λ p. mul_assoc p.1 (entry m.rows p.0 j) (at x j)) in
+    let right = sum_over_mul (λ p. p.1 *ℤ coefficient_of m.rows p.0 j) y (at x j) in
+    let inner = sum_over_same (λ p. (p.1 *ℤ coefficient_of m.rows p.0 j) *ℤ at x j) (λ p. F p j) y
+            (λ p. mul_assoc p.1 (coefficient_of m.rows p.0 j) (at x j)) in
     omega (arith, ints) in
     let same = sum_same (λ j. reduced m q y j *ℤ at x j) (λ j. q *ℤ (at (costs_of m) j *ℤ at x j)
             -ℤ sum_over (λ p. F p j) y) n (λ j l. each j) in
@@ -109,7 +109,7 @@ taken m x q y =
     let scaled = sum_scale q (λ j. at (costs_of m) j *ℤ at x j) n in
     let swapped = exchange F y n in
     let rowwise = sum_over_same (λ p. sum_below (F p) n) (λ p. p.1 *ℤ activity m.rows x p.0) y
-            (λ p. sum_scale p.1 (λ j. entry m.rows p.0 j *ℤ at x j) n) in
+            (λ p. sum_scale p.1 (λ j. coefficient_of m.rows p.0 j *ℤ at x j) n) in
     omega (arith, ints)
 
 -- the dual_value is at most q times the cost

@@ -33,12 +33,12 @@ coefs_of None = []
 coefs_of (Some r) = r.coefs
 
 -- the coefficient of a row and a column by number, and 0 where there is no such row
-abbrev pub entry : List Row → ℕ → ℕ → ℤ
-entry rows i j = coefficient (coefs_of (slice_get rows i)) j
+abbrev pub coefficient_of : List Row → ℕ → ℕ → ℤ
+coefficient_of rows i j = coefficient (coefs_of (slice_get rows i)) j
 
 -- the reduced cost of a column: what is left of q times its cost after the multipliers
 abbrev pub reduced : Parts → ℤ → List (ℕ × ℤ) → ℕ → ℤ
-reduced m q y j = q *ℤ at (costs_of m) j -ℤ sum_over (λ p. p.1 *ℤ entry m.rows p.0 j) y
+reduced m q y j = q *ℤ at (costs_of m) j -ℤ sum_over (λ p. p.1 *ℤ coefficient_of m.rows p.0 j) y
 
 -- the least that the columns can add over a box: for each the lesser of its reduced cost times its two ends
 abbrev pub column_part : Parts → List (ℤ × ℤ) → ℤ → List (ℕ × ℤ) → ℤ

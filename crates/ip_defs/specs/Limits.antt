@@ -16,8 +16,8 @@ use Rattle.ip_defs.specs.declared.limits.What.TheVariants.{Columns, Rows, Entrie
     Objective, Constant}
 
 -- a number is above a size
-abbrev pub above : ℕ → ℤ → Bool
-above most z = nat_lt most (unsigned_abs z)
+abbrev pub exceeds : ℕ → ℤ → Bool
+exceeds most z = nat_lt most (unsigned_abs z)
 
 abbrev pub limit_at : Bool → What → ℕ → List Limit
 limit_at test what index = when test (record { what = what; index = index })
@@ -26,12 +26,12 @@ abbrev pub is_long : List ℕ → Bool
 is_long name = nat_lt 255 (length name)
 
 abbrev pub column_limits : ℕ × Column → List Limit
-column_limits p = limit_at (is_long p.1.name) Name p.0 ++ limit_at (above (2 ^ 40) p.1.cost) Cost p.0
-    ++ limit_at (above (2 ^ 24) p.1.lo) Lower p.0 ++ limit_at (above (2 ^ 24) p.1.hi) Upper p.0
+column_limits p = limit_at (is_long p.1.name) Name p.0 ++ limit_at (exceeds (2 ^ 40) p.1.cost) Cost p.0
+    ++ limit_at (exceeds (2 ^ 24) p.1.lo) Lower p.0 ++ limit_at (exceeds (2 ^ 24) p.1.hi) Upper p.0
 
 abbrev pub row_limits : ℕ × Row → List Limit
-row_limits p = limit_at (is_long p.1.name) RowName p.0 ++ limit_at (list_any (λ c. above (2 ^ 40) c.1) p.1.coefs) Coef p.0
-    ++ limit_at (option_map_or (above (2 ^ 62)) p.1.low false || option_map_or (above (2 ^ 62)) p.1.high false) Side p.0
+row_limits p = limit_at (is_long p.1.name) RowName p.0 ++ limit_at (list_any (λ c. exceeds (2 ^ 40) c.1) p.1.coefs) Coef p.0
+    ++ limit_at (option_map_or (exceeds (2 ^ 62)) p.1.low false || option_map_or (exceeds (2 ^ 62)) p.1.high false) Side p.0
 
 -- the limits that a program passes, in the order in which they are tried
 abbrev pub limits_of : Parts → List Limit
@@ -39,19 +39,19 @@ limits_of m =
     limit_at (nat_lt 4096 (length m.columns)) Columns 0 ++ limit_at (nat_lt 1024 (length m.rows)) Rows 0
     ++ limit_at (nat_lt 200000 (sum_by (λ r. length r.coefs) m.rows)) Entries 0
     ++ flat_map column_limits (enumerate_from 0 m.columns) ++ flat_map row_limits (enumerate_from 0 m.rows)
-    ++ limit_at (is_long m.objective) Objective 0 ++ limit_at (above (2 ^ 62) m.constant) Constant 0
+    ++ limit_at (is_long m.objective) Objective 0 ++ limit_at (exceeds (2 ^ 62) m.constant) Constant 0
 
 -- the number and the value of a pair by its place
-abbrev pub number_at : List (ℕ × ℤ) → ℕ → ℕ
-number_at ps i = (slice_index_or ps i (0, pos 0)).0
+abbrev pub index_at : List (ℕ × ℤ) → ℕ → ℕ
+index_at ps i = (slice_index_or ps i (0, pos 0)).0
 
 abbrev pub value_at : List (ℕ × ℤ) → ℕ → ℤ
 value_at ps i = (slice_index_or ps i (0, pos 0)).1
 
 -- pairs of a number and a value: the numbers rise and are below n, and no value is 0
 pub record AreOrdered (n : ℕ) (ps : List (ℕ × ℤ)) : Type 0 where
-  pub rising : (i k : ℕ) → i < k → k < length ps → number_at ps i < number_at ps k
-  pub within : (i : ℕ) → i < length ps → number_at ps i < n
+  pub rising : (i k : ℕ) → i < k → k < length ps → index_at ps i < index_at ps k
+  pub within : (i : ℕ) → i < length ps → index_at ps i < n
   pub present : (i : ℕ) → i < length ps → value_at ps i ≢ pos 0
 
 -- no value of the pairs is above a size

@@ -6,7 +6,7 @@ use Rattle.std.specs.List.{enumerate_from, list_any}
 use Rattle.std.specs.Option.{ForSome, option_map_or}
 use Rattle.std.proofs.Common.{arith, ap, sym, ◌∙◌, get_or, subst}
 use Rattle.std.proofs.lemmas.Bool.{ltb-false}
-use Rattle.ip_defs.specs.Limits.{above, limit_at, is_long, column_limits, row_limits, limits_of, value_at, IsWellShaped, IsColumn, IsRow,
+use Rattle.ip_defs.specs.Limits.{exceeds, limit_at, is_long, column_limits, row_limits, limits_of, value_at, IsWellShaped, IsColumn, IsRow,
     IsWithinLimits}
 use Rattle.ip_defs.specs.declared.programs.Column.{Column}
 use Rattle.ip_defs.specs.declared.programs.Row.{Row}
@@ -44,11 +44,11 @@ none_passes p (x ∷ xs) d e (suc i) l = none_passes p xs d (neither_true (p x) 
 
 column_within : (j : ℕ) (c : Column) → column_limits (j, c) ≡ [] → IsColumn c
 column_within j c e =
-    let upper = none_append (limit_at (is_long c.name) Name j ++ limit_at (above (2 ^ 40) c.cost) Cost j
-            ++ limit_at (above (2 ^ 24) c.lo) Lower j) (limit_at (above (2 ^ 24) c.hi) Upper j) e in
-    let lower = none_append (limit_at (is_long c.name) Name j ++ limit_at (above (2 ^ 40) c.cost) Cost j)
-            (limit_at (above (2 ^ 24) c.lo) Lower j) upper.0 in
-    let first = none_append (limit_at (is_long c.name) Name j) (limit_at (above (2 ^ 40) c.cost) Cost j) lower.0 in
+    let upper = none_append (limit_at (is_long c.name) Name j ++ limit_at (exceeds (2 ^ 40) c.cost) Cost j
+            ++ limit_at (exceeds (2 ^ 24) c.lo) Lower j) (limit_at (exceeds (2 ^ 24) c.hi) Upper j) e in
+    let lower = none_append (limit_at (is_long c.name) Name j ++ limit_at (exceeds (2 ^ 40) c.cost) Cost j)
+            (limit_at (exceeds (2 ^ 24) c.lo) Lower j) upper.0 in
+    let first = none_append (limit_at (is_long c.name) Name j) (limit_at (exceeds (2 ^ 40) c.cost) Cost j) lower.0 in
     record {
       name = at_most 255 (length c.name) Name j first.0;
       cost = at_most (2 ^ 40) (unsigned_abs c.cost) Cost j first.1;
@@ -56,23 +56,23 @@ column_within j c e =
       hi = at_most (2 ^ 24) (unsigned_abs c.hi) Upper j upper.1;
     }
 
-side_within : (o : Option ℤ) → option_map_or (above (2 ^ 62)) o false ≡ false → ForSome o (λ side. unsigned_abs side ≤ 2 ^ 62)
+side_within : (o : Option ℤ) → option_map_or (exceeds (2 ^ 62)) o false ≡ false → ForSome o (λ side. unsigned_abs side ≤ 2 ^ 62)
 side_within None e = λ x g. absurd cc
 side_within (Some side) e = λ x g. let same : side ≡ x = cc in
     subst (λ (z : ℤ). unsigned_abs z ≤ 2 ^ 62) same (ltb-false (2 ^ 62) (unsigned_abs side) e)
 
 row_within : (i : ℕ) (r : Row) → row_limits (i, r) ≡ [] → IsRow r
 row_within i r e =
-    let coefs_pass = list_any (λ c. above (2 ^ 40) c.1) r.coefs in
-    let sides_pass = option_map_or (above (2 ^ 62)) r.low false || option_map_or (above (2 ^ 62)) r.high false in
+    let coefs_pass = list_any (λ c. exceeds (2 ^ 40) c.1) r.coefs in
+    let sides_pass = option_map_or (exceeds (2 ^ 62)) r.low false || option_map_or (exceeds (2 ^ 62)) r.high false in
     let side = none_append (limit_at (is_long r.name) RowName i ++ limit_at coefs_pass Coef i) (limit_at sides_pass Side i) e in
     let first = none_append (limit_at (is_long r.name) RowName i) (limit_at coefs_pass Coef i) side.0 in
-    let sides = neither_true (option_map_or (above (2 ^ 62)) r.low false) (option_map_or (above (2 ^ 62)) r.high false)
+    let sides = neither_true (option_map_or (exceeds (2 ^ 62)) r.low false) (option_map_or (exceeds (2 ^ 62)) r.high false)
             (none_when sides_pass (record { what = Side; index = i }) side.1) in
     let coefs = none_when coefs_pass (record { what = Coef; index = i }) first.1 in
     record {
       name = at_most 255 (length r.name) RowName i first.0;
-      coefs = λ k l. ltb-false (2 ^ 40) (unsigned_abs (value_at r.coefs k)) (none_passes (λ c. above (2 ^ 40) c.1) r.coefs (0,
+      coefs = λ k l. ltb-false (2 ^ 40) (unsigned_abs (value_at r.coefs k)) (none_passes (λ c. exceeds (2 ^ 40) c.1) r.coefs (0,
           pos 0) coefs k l);
       low = side_within r.low sides.0;
       high = side_within r.high sides.1;
@@ -86,7 +86,7 @@ within_limits m shape e =
     let columns = flat_map column_limits (enumerate_from 0 m.columns) in
     let rows = flat_map row_limits (enumerate_from 0 m.rows) in
     let objective = limit_at (is_long m.objective) Objective 0 in
-    let last = none_append (counts ++ entries ++ columns ++ rows ++ objective) (limit_at (above (2 ^ 62) m.constant) Constant 0) e in
+    let last = none_append (counts ++ entries ++ columns ++ rows ++ objective) (limit_at (exceeds (2 ^ 62) m.constant) Constant 0) e in
     let named = none_append (counts ++ entries ++ columns ++ rows) objective last.0 in
     let by_row = none_append (counts ++ entries ++ columns) rows named.0 in
     let by_column = none_append (counts ++ entries) columns by_row.0 in

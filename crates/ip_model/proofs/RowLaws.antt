@@ -7,7 +7,7 @@ use Rattle.std.proofs.lemmas.Int.{ints}
 use Rattle.std.proofs.lemmas.List.{take_more, get_or-take, length-take-le}
 use Rattle.std.proofs.lemmas.Grind.{common_steps}
 use Rattle.ip_defs.specs.Program.{coefficient}
-use Rattle.ip_defs.specs.Limits.{number_at, value_at, AreOrdered, AreSmall}
+use Rattle.ip_defs.specs.Limits.{index_at, value_at, AreOrdered, AreSmall}
 
 append_step : (t : Bool) (a x y z : ℤ) → x ≡ y +ℤ z → cond t (a +ℤ x) x ≡ cond t (a +ℤ y) y +ℤ z
 append_step true a x y z e = omega (arith, ints)
@@ -21,14 +21,14 @@ none_step : (a j : ℕ) (x y : ℤ) → a ≢ j → x ≡ pos 0 → cond (a == j
 none_step a j x y apart e = grind (arith, common_steps)
 
 -- no coefficient, where no place has the column
-pub coefficient_none : (ps : List (ℕ × ℤ)) (j : ℕ) → ((i : ℕ) → i < length ps → number_at ps i ≢ j) → coefficient ps j ≡ pos 0
+pub coefficient_none : (ps : List (ℕ × ℤ)) (j : ℕ) → ((i : ℕ) → i < length ps → index_at ps i ≢ j) → coefficient ps j ≡ pos 0
 coefficient_none [] j h = refl
 coefficient_none (p ∷ ps) j h = none_step p.0 j _ _ (h 0 (omega arith)) (coefficient_none ps j (λ i l. h (suc i) (omega arith)))
 
 -- the column at a place has no coefficient before it
-pub fresh : (ps : List (ℕ × ℤ)) (i : ℕ) → ((h k : ℕ) → h < k → k < length ps → number_at ps h < number_at ps k) → i < length ps →
-    coefficient (take i ps) (number_at ps i) ≡ pos 0
-fresh ps i rising l = coefficient_none (take i ps) (number_at ps i) (λ k small same.
+pub fresh : (ps : List (ℕ × ℤ)) (i : ℕ) → ((h k : ℕ) → h < k → k < length ps → index_at ps h < index_at ps k) → i < length ps →
+    coefficient (take i ps) (index_at ps i) ≡ pos 0
+fresh ps i rising l = coefficient_none (take i ps) (index_at ps i) (λ k small same.
     let short = length-take-le i ps (omega arith) in
     let before : k < i = omega arith in
     let rises = rising k i before l in
@@ -37,8 +37,8 @@ fresh ps i rising l = coefficient_none (take i ps) (number_at ps i) (λ k small 
 
 -- one more coefficient
 pub coefficient_more : (ps : List (ℕ × ℤ)) (i j : ℕ) → i < length ps → coefficient (take (i + 1) ps) j ≡ coefficient (take i ps) j
-    +ℤ cond (number_at ps i == j) (get_or ps i (0, pos 0)).1 (pos 0)
-coefficient_more ps i j l = rw (take_more ps i (0, pos 0) l, coefficient-append) (by (number_at ps i == j))
+    +ℤ cond (index_at ps i == j) (get_or ps i (0, pos 0)).1 (pos 0)
+coefficient_more ps i j l = rw (take_more ps i (0, pos 0) l, coefficient-append) (by (index_at ps i == j))
   where
     by : (t : Bool) → coefficient (take i ps) j +ℤ cond t ((get_or ps i (0, pos 0)).1 +ℤ pos 0) (pos 0) ≡ coefficient (take i ps) j
         +ℤ cond t (get_or ps i (0, pos 0)).1 (pos 0)
@@ -49,12 +49,12 @@ coefficient_more ps i j l = rw (take_more ps i (0, pos 0) l, coefficient-append)
 pub coefficient_small : (n s : ℕ) (ps : List (ℕ × ℤ)) (j i : ℕ) → AreOrdered n ps → AreSmall s ps → i ≤ length ps →
     unsigned_abs (coefficient (take i ps) j) ≤ s
 coefficient_small n s ps j zero ordered few l = omega arith
-coefficient_small n s ps j (suc i) ordered few l = by (number_at ps i == j) refl (coefficient_small n s ps j i ordered few (omega arith))
+coefficient_small n s ps j (suc i) ordered few l = by (index_at ps i == j) refl (coefficient_small n s ps j i ordered few (omega arith))
   where
-    by : (t : Bool) → (number_at ps i == j) ≡ t → unsigned_abs (coefficient (take i ps) j) ≤ s →
+    by : (t : Bool) → (index_at ps i == j) ≡ t → unsigned_abs (coefficient (take i ps) j) ≤ s →
         unsigned_abs (coefficient (take (suc i) ps) j) ≤ s
     by true e before =
-        let same : number_at ps i ≡ j = eqb-true (number_at ps i) j e in
+        let same : index_at ps i ≡ j = eqb-true (index_at ps i) j e in
         let none = fresh ps i ordered.rising (omega arith) in
         let none' : coefficient (take i ps) j ≡ pos 0 = ap (coefficient (take i ps)) (sym same) ∙ none in
         let more = coefficient_more ps i j (omega arith) in

@@ -12,7 +12,7 @@ use Rattle.std.proofs.Math.ListN.{get_or-eq_default}
 use Rattle.ring_laws.proofs.Products.{add_mul}
 use Rattle.ip_defs.specs.Sums.{sum_below, sum_over}
 use Rattle.ip_defs.specs.Program.{at, coefficient, row_sum}
-use Rattle.ip_defs.specs.Limits.{number_at}
+use Rattle.ip_defs.specs.Limits.{index_at}
 use Rattle.ip_defs.proofs.SumLaws.{sum_same, sum_add, sum_zero}
 
 pub sum_over-append : {A : Type 0} (f : A → ℤ) (xs ys : List A) → sum_over f (xs ++ ys) ≡ sum_over f xs +ℤ sum_over f ys
@@ -88,8 +88,8 @@ row_walk (p ∷ ps) x =
     omega (arith, ints)
 
 -- a place is at most the number there, where numbers rise
-pub place_below : (ps : List (ℕ × ℤ)) (i : ℕ) → ((h k : ℕ) → h < k → k < length ps → number_at ps h < number_at ps k) → i < length ps →
-    i ≤ number_at ps i
+pub place_below : (ps : List (ℕ × ℤ)) (i : ℕ) → ((h k : ℕ) → h < k → k < length ps → index_at ps h < index_at ps k) → i < length ps →
+    i ≤ index_at ps i
 place_below ps zero rising l = omega arith
 place_below ps (suc i) rising l =
     let before = place_below ps i rising (omega arith) in

@@ -3,7 +3,7 @@ ghost use Rattle.std.specs.Prelude.{◌≡◌, ◌^◌, ◌≤◌, false, length
 ghost use Rattle.std.specs.List.{enumerate_from, list_any};
 ghost use Rattle.std.specs.Option.{option_map_or};
 ghost use Rattle.ip_defs.specs.Lists.{first_of};
-ghost use Rattle.ip_defs.specs.Limits.{above, is_long, column_limits, row_limits, limits_of};
+ghost use Rattle.ip_defs.specs.Limits.{exceeds, is_long, column_limits, row_limits, limits_of};
 ghost use Rattle.ip_model.specs.Internal.LimitGroups.{count_limits, own_limits};
 
 use ip_defs::{Column, Limit, Name, Parts, Row, What};
@@ -35,7 +35,7 @@ fn is_long_name(name: &Name) -> bool
 
 /// A side, where there is one, that is above its size.
 fn is_above_side(side: Option<i64>) -> bool
-    ensures { result ≡ option_map_or (above (2 ^ 62)) side false }
+    ensures { result ≡ option_map_or (exceeds (2 ^ 62)) side false }
 {
     match side {
         Some(side) => side.unsigned_abs() > LARGEST_SIDE,
@@ -45,7 +45,7 @@ fn is_above_side(side: Option<i64>) -> bool
 
 /// A row with a coefficient that is above its size.
 fn has_large_coef(coefs: &[(u32, i64)]) -> bool
-    ensures { result ≡ list_any (λ c. above (2 ^ 40) c.1) coefs.now }
+    ensures { result ≡ list_any (λ c. exceeds (2 ^ 40) c.1) coefs.now }
 {
     coefs
         .iter()

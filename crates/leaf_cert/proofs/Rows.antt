@@ -6,25 +6,25 @@ use Rattle.std.proofs.lemmas.Int.{ints}
 use Rattle.std.proofs.lemmas.Grind.{get_or-set_at}
 use Rattle.std.proofs.lemmas.List.{get_or-set_other}
 use Rattle.ip_defs.specs.Program.{at, coefficient}
-use Rattle.ip_defs.specs.Limits.{number_at}
+use Rattle.ip_defs.specs.Limits.{index_at}
 use Rattle.ip_model.proofs.RowLaws.{coefficient_more}
 use Rattle.ip_model.proofs.WalkLaws.{place_below}
 use Rattle.ring_laws.proofs.Products.{mul_add}
 
 -- a multiple of a row is added at one more column
 pub row_step : (old d : List ℤ) (ps : List (ℕ × ℤ)) (k : ℕ) (m r : ℤ) → k < length ps →
-    ((j : ℕ) → j < length d → at d j ≡ at old j +ℤ m *ℤ coefficient (take k ps) j) → number_at ps k < length d →
-    r ≡ at d (number_at ps k) +ℤ m *ℤ (get_or ps k (0, pos 0)).1 → (j : ℕ) → j < length d →
-    at (set d (number_at ps k) r) j ≡ at old j +ℤ m *ℤ coefficient (take (k + 1) ps) j
-row_step old d ps k m r l before inside is j within = by (number_at ps k == j) refl
+    ((j : ℕ) → j < length d → at d j ≡ at old j +ℤ m *ℤ coefficient (take k ps) j) → index_at ps k < length d →
+    r ≡ at d (index_at ps k) +ℤ m *ℤ (get_or ps k (0, pos 0)).1 → (j : ℕ) → j < length d →
+    at (set d (index_at ps k) r) j ≡ at old j +ℤ m *ℤ coefficient (take (k + 1) ps) j
+row_step old d ps k m r l before inside is j within = by (index_at ps k == j) refl
   where
     col : ℕ
-    col = number_at ps k
+    col = index_at ps k
 
     a : ℤ
     a = (get_or ps k (0, pos 0)).1
 
-    by : (t : Bool) → (number_at ps k == j) ≡ t → at (set d (number_at ps k) r) j ≡ at old j +ℤ m *ℤ coefficient (take (k + 1) ps) j
+    by : (t : Bool) → (index_at ps k == j) ≡ t → at (set d (index_at ps k) r) j ≡ at old j +ℤ m *ℤ coefficient (take (k + 1) ps) j
     by true e =
         let same : col ≡ j = eqb-true col j e in
         let more = coefficient_more ps k j l in
@@ -46,8 +46,8 @@ row_step old d ps k m r l before inside is j within = by (number_at ps k == j) r
         omega (arith, ints)
 
 -- numbers that rise below n are at most n
-pub length_below : {A : Type 0} (ps : List (ℕ × ℤ)) (xs : List A) → ((h k : ℕ) → h < k → k < length ps → number_at ps h < number_at ps k) →
-    ((i : ℕ) → i < length ps → number_at ps i < length xs) → length ps ≤ length xs
+pub length_below : {A : Type 0} (ps : List (ℕ × ℤ)) (xs : List A) → ((h k : ℕ) → h < k → k < length ps → index_at ps h < index_at ps k) →
+    ((i : ℕ) → i < length ps → index_at ps i < length xs) → length ps ≤ length xs
 length_below [] xs rising within = omega arith
 length_below (p ∷ ps) xs rising within =
     let place = place_below (p ∷ ps) (length ps) rising (omega arith) in

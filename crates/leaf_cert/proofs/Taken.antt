@@ -11,8 +11,8 @@ use Rattle.ip_defs.specs.declared.programs.Parts.{Parts}
 use Rattle.ip_defs.specs.declared.programs.Row.{Row}
 use Rattle.ip_defs.specs.Sums.{sum_below}
 use Rattle.ip_defs.specs.Program.{at, costs_of, coefficient, low_at, high_at}
-use Rattle.ip_defs.specs.Certificates.{coefs_of, entry, reduced, column_part}
-use Rattle.ip_defs.specs.Limits.{number_at, value_at, AreOrdered, AreSmall, IsColumn, IsWithinLimits}
+use Rattle.ip_defs.specs.Certificates.{coefs_of, coefficient_of, reduced, column_part}
+use Rattle.ip_defs.specs.Limits.{index_at, value_at, AreOrdered, AreSmall, IsColumn, IsWithinLimits}
 use Rattle.ip_defs.proofs.SumLaws.{sum_same}
 use Rattle.ip_model.proofs.WalkLaws.{sum_over_more}
 use Rattle.leaf_cert.specs.Internal.Columns.{taken_of, least_part}
@@ -22,11 +22,11 @@ use Rattle.leaf_cert.proofs.Steps.{size_of_product}
 
 -- one more multiplier
 pub taken_more : (rows : List Row) (y : List (ℕ × ℤ)) (i j : ℕ) → i < length y →
-    taken_of rows (take (i + 1) y) j ≡ taken_of rows (take i y) j +ℤ value_at y i *ℤ entry rows (number_at y i) j
-taken_more rows y i j l = sum_over_more (λ p. p.1 *ℤ entry rows p.0 j) y i (0, pos 0) l
+    taken_of rows (take (i + 1) y) j ≡ taken_of rows (take i y) j +ℤ value_at y i *ℤ coefficient_of rows (index_at y i) j
+taken_more rows y i j l = sum_over_more (λ p. p.1 *ℤ coefficient_of rows p.0 j) y i (0, pos 0) l
 
 -- an entry of a program within its limits
-pub entry_small : (m : Parts) (i j : ℕ) → IsWithinLimits m → unsigned_abs (entry m.rows i j) ≤ 2 ^ 40
+pub entry_small : (m : Parts) (i j : ℕ) → IsWithinLimits m → unsigned_abs (coefficient_of m.rows i j) ≤ 2 ^ 40
 entry_small m i j limits = by (slice_get m.rows i) refl
   where
     by : (found : Option Row) → slice_get m.rows i ≡ found → unsigned_abs (coefficient (coefs_of found) j) ≤ 2 ^ 40
@@ -56,8 +56,8 @@ taken_small m y (suc i) j limits few l =
     let before = taken_small m y i j limits few (omega arith) in
     let more = taken_more m.rows y i j (omega arith) in
     let small = few i (omega arith) in
-    let product = size_of_product (value_at y i) (entry m.rows (number_at y i) j) (2 ^ 36) (2 ^ 40) small
-            (entry_small m (number_at y i) j limits) in
+    let product = size_of_product (value_at y i) (coefficient_of m.rows (index_at y i) j) (2 ^ 36) (2 ^ 40) small
+            (entry_small m (index_at y i) j limits) in
     let step : unsigned_abs (taken_of m.rows (take (i + 1) y) j) ≤ (i + 1) * 2 ^ 76 = omega (arith, ints) in
     rw (← add-one) (omega (arith, step))
 

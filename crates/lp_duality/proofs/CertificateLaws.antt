@@ -6,7 +6,7 @@ use Rattle.std.proofs.Common.{arith, refl, ap, sym, ◌∙◌, ◌⊎◌, inl, i
 use Rattle.std.proofs.lemmas.Int.{ints, clamps}
 use Rattle.ip_defs.specs.Sums.{sum_below, sum_over}
 use Rattle.ip_defs.specs.Program.{at, coefficient, low_at, high_at, costs_of}
-use Rattle.ip_defs.specs.Certificates.{side_for, payment, pay, entry as coefficient_of, reduced, column_part, dual_value}
+use Rattle.ip_defs.specs.Certificates.{side_for, payment, pay, coefficient_of, reduced, column_part, dual_value}
 use Rattle.ip_defs.specs.Limits.{AreOrdered}
 use Rattle.ip_defs.specs.declared.programs.Parts.{Parts}
 use Rattle.ip_defs.specs.declared.programs.Row.{Row}

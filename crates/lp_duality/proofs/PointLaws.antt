@@ -4,7 +4,7 @@ use Rattle.std.proofs.Common.{ap, sym, ◌∙◌}
 use Rattle.ring_laws.proofs.Sums.{sum, sum_same}
 use Rattle.ip_defs.specs.declared.programs.Parts.{Parts}
 use Rattle.ip_defs.specs.declared.programs.Row.{Row}
-use Rattle.ip_defs.specs.Certificates.{coefs_of, entry as coefficient_of}
+use Rattle.ip_defs.specs.Certificates.{coefs_of, coefficient_of}
 use Rattle.ip_defs.specs.Program.{at, coefficient, cost, costs_of, row_sum}
 use Rattle.ip_defs.specs.Sums.{sum_below}
 use Rattle.frac128.specs.Rationals.{Rational, of, add, mul}

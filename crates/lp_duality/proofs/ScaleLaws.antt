@@ -3,7 +3,7 @@ use Rattle.std.specs.Prelude.{◌≡◌, ℕ, zero, suc, ◌<◌, List, [], ◌�
 use Rattle.std.proofs.Common.{arith, refl, ap, sym, ◌∙◌, ◌⊎◌, inl, inr}
 use Rattle.std.proofs.lemmas.Int.{ints}
 use Rattle.ip_defs.specs.Program.{low_at, high_at}
-use Rattle.ip_defs.specs.Certificates.{entry as coefficient_of}
+use Rattle.ip_defs.specs.Certificates.{coefficient_of}
 use Rattle.ip_defs.specs.declared.programs.Parts.{Parts}
 use Rattle.ring_laws.proofs.Rings.{mul_zero}
 use Rattle.ring_laws.proofs.Normal.{var, ◌⊕◌, ◌⊖◌, ◌⊗◌, identity}

@@ -6,7 +6,7 @@ use Rattle.std.proofs.lemmas.Int.{ints}
 use Rattle.ring_laws.proofs.Products.{add_mul}
 use Rattle.ip_defs.specs.Sums.{sum_below, sum_over}
 use Rattle.ip_defs.specs.Program.{coefficient}
-use Rattle.ip_defs.specs.Limits.{AreOrdered, number_at}
+use Rattle.ip_defs.specs.Limits.{AreOrdered, index_at}
 use Rattle.ip_defs.proofs.SumLaws.{sum_same, sum_zero}
 
 pub ordered_tail : (n : ℕ) (p : ℕ × ℤ) (ps : List (ℕ × ℤ)) → AreOrdered n (p ∷ ps) → AreOrdered n ps
@@ -17,7 +17,7 @@ ordered_tail n p ps o = record {
 }
 
 -- what is not listed is 0
-pub coefficient_absent : (ps : List (ℕ × ℤ)) (k : ℕ) → ((i : ℕ) → i < length ps → number_at ps i ≢ k) → coefficient ps k ≡ pos 0
+pub coefficient_absent : (ps : List (ℕ × ℤ)) (k : ℕ) → ((i : ℕ) → i < length ps → index_at ps i ≢ k) → coefficient ps k ≡ pos 0
 coefficient_absent [] k h = refl
 coefficient_absent (p ∷ ps) k h = by (p.0 == k) refl (coefficient_absent ps k (λ i l. h (suc i) (omega arith)))
   where
@@ -64,7 +64,7 @@ sum_one f g i (suc n) l h = by (i == n) refl (λ m. sum_one f g i n m (λ k o. h
         omega (arith, ints)
 
 -- a sum over all numbers is the sum over what is listed
-pub coefficient_sum : (e : ℕ → ℤ) (n : ℕ) (ps : List (ℕ × ℤ)) → ((i : ℕ) → i < length ps → number_at ps i < n) →
+pub coefficient_sum : (e : ℕ → ℤ) (n : ℕ) (ps : List (ℕ × ℤ)) → ((i : ℕ) → i < length ps → index_at ps i < n) →
     sum_below (λ k. coefficient ps k *ℤ e k) n ≡ sum_over (λ p. p.1 *ℤ e p.0) ps
 coefficient_sum e n [] h = sum_same (λ k. pos 0 *ℤ e k) (λ k. pos 0) n (λ k l. omega (arith, ints)) ∙ sum_zero n
 coefficient_sum e n (p ∷ ps) h =

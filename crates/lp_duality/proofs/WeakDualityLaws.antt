@@ -4,7 +4,7 @@ use Rattle.std.specs.Prelude.{◌≡◌, ℕ, zero, suc, ◌<◌, List, [], ◌�
 use Rattle.std.proofs.Common.{arith, refl, ap, sym, ◌∙◌, subst, ◌⊎◌, inl, inr}
 use Rattle.std.proofs.lemmas.Int.{ints}
 use Rattle.ip_defs.specs.Program.{at, low_at, high_at, row_sum, Meets, IsIn, IsFeasible, cost}
-use Rattle.ip_defs.specs.Certificates.{entry as coefficient_of}
+use Rattle.ip_defs.specs.Certificates.{coefficient_of}
 use Rattle.ip_defs.specs.declared.programs.Parts.{Parts}
 use Rattle.ip_defs.specs.declared.programs.Row.{Row}
 use Rattle.ring_laws.proofs.Rings.{zero_mul}

@@ -4,7 +4,7 @@
 use Rattle.std.specs.Prelude.{ℕ, zero, suc, if◌then◌else◌, List, length, Option, Some, option_map, option_and_then, ℤ, pos, ◌*ℤ◌, Bool}
 use Rattle.std.specs.Int.Signed.{lt_z}
 use Rattle.ip_defs.specs.Program.{low_at, high_at}
-use Rattle.ip_defs.specs.Certificates.{entry as coefficient_of}
+use Rattle.ip_defs.specs.Certificates.{coefficient_of}
 use Rattle.ip_defs.specs.declared.programs.Parts.{Parts}
 use Rattle.frac128.specs.Rationals.{Rational, denominator, of, add, sub, mul, sum}
 use Rattle.lp_duality.specs.Relaxations.{row_low, row_high, cost_of}

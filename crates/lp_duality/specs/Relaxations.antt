@@ -1,7 +1,7 @@
 -- The relaxation of a node: its points may have fractions. The numbers of a point are rational, one for each column.
 use Rattle.std.specs.Prelude.{◌≡◌, ℕ, ◌<◌, length, Option, Some, slice_get, slice_index_or, option_and_then, ℤ, pos, List, ◌≤ℤ◌}
 use Rattle.ip_defs.specs.Program.{at, costs_of, low_at, high_at}
-use Rattle.ip_defs.specs.Certificates.{entry as coefficient_of}
+use Rattle.ip_defs.specs.Certificates.{coefficient_of}
 use Rattle.ip_defs.specs.declared.programs.Parts.{Parts}
 use Rattle.frac128.specs.Fractions.{Fraction}
 use Rattle.frac128.specs.Values.{value_of}

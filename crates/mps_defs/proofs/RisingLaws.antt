@@ -4,7 +4,7 @@ use Rattle.std.specs.Prelude.{ℕ, zero, suc, ◌+◌, ◌<◌, ◌≤◌, ◌==
 use Rattle.std.specs.Int.RustNames.{unsigned_abs}
 use Rattle.std.specs.List.{enumerate_from, cons_option}
 use Rattle.std.proofs.Common.{arith}
-use Rattle.ip_defs.specs.Limits.{number_at}
+use Rattle.ip_defs.specs.Limits.{index_at}
 use Rattle.mps_defs.specs.Records.{Entry}
 use Rattle.mps_defs.specs.TextModels.{units, written_at, written_in, placed, coefs_in}
 use Rattle.mps_defs.specs.declared.texts.Number.{Number}
@@ -33,7 +33,7 @@ filtered_rises {V} keeps lo hi (p ∷ ps) h = by (keeps p) (filtered_rises keeps
 -- ---- by place
 
 pub rises_within : (lo hi : ℕ) (ps : List (ℕ × ℤ)) → Rises lo hi ps → (i : ℕ) → i < length ps
-    → (lo ≤ number_at ps i) × (number_at ps i < hi)
+    → (lo ≤ index_at ps i) × (index_at ps i < hi)
 rises_within lo hi [] h i l = absurd (omega arith)
 rises_within lo hi (p ∷ ps) h zero l = h.0
 rises_within lo hi (p ∷ ps) h (suc i) l =
@@ -41,7 +41,7 @@ rises_within lo hi (p ∷ ps) h (suc i) l =
     let rest = rises_within (suc p.0) hi ps h.1 i (omega arith) in
     (omega (arith, first.0, rest.0), rest.1)
 
-pub rises_at : (lo hi : ℕ) (ps : List (ℕ × ℤ)) → Rises lo hi ps → (i k : ℕ) → i < k → k < length ps → number_at ps i < number_at ps k
+pub rises_at : (lo hi : ℕ) (ps : List (ℕ × ℤ)) → Rises lo hi ps → (i k : ℕ) → i < k → k < length ps → index_at ps i < index_at ps k
 rises_at lo hi [] h i k l m = absurd (omega arith)
 rises_at lo hi (p ∷ ps) h i zero l m = absurd (omega arith)
 rises_at lo hi (p ∷ ps) h zero (suc k) l m = let rest = rises_within (suc p.0) hi ps h.1 k (omega arith) in omega (arith, rest.0)

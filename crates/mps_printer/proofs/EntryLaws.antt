@@ -9,7 +9,7 @@ use Rattle.std.proofs.lemmas.Grind.{flat_map-append}
 use Rattle.std.proofs.lemmas.List.{append-nil, get_or-set_other, get_or-set_same}
 use Rattle.std.proofs.lemmas.List.FromFn.{get_or-enumerate_from, length-enumerate_from}
 use Rattle.std.proofs.lemmas.Option.{get_or_from_slice_get, slice_get-get_or, slice_get_within}
-use Rattle.ip_defs.specs.Limits.{number_at}
+use Rattle.ip_defs.specs.Limits.{index_at}
 use Rattle.mps_defs.specs.Numbers.{decimal_text}
 use Rattle.mps_defs.specs.CanonicalText.{Written, coef_line, triple}
 use Rattle.ip_defs.specs.declared.programs.Row.{Row}
@@ -87,22 +87,22 @@ entries_in j i n (r ∷ rows) h =
     join_below n (listed_for j i r.coefs) (column_entries j (suc i) rows) (listed_below j i n r.coefs (omega arith))
     (entries_in j (suc i) n rows (omega arith))
 
-number_below : (n : ℕ) (es : List (ℕ × ℤ)) (k : ℕ) → AreBelow n es → k < length es → number_at es k < n
+number_below : (n : ℕ) (es : List (ℕ × ℤ)) (k : ℕ) → AreBelow n es → k < length es → index_at es k < n
 number_below n [] k h l = absurd (omega arith)
 number_below n (e ∷ es) zero h l = h.0
 number_below n (e ∷ es) (suc k) h l = number_below n es k h.1 (omega arith)
 
 pub entries_below : (j : ℕ) (rows : List Row) (k : ℕ) → k < length (column_entries j 0 rows)
-    → number_at (column_entries j 0 rows) k < length rows
+    → index_at (column_entries j 0 rows) k < length rows
 entries_below j rows k l = number_below (length rows) (column_entries j 0 rows) k (entries_in j 0 (length rows) rows (omega arith)) l
 
 -- ---- the lines of a column's coefficients
 
 -- the numbers of pairs rise
 abbrev pub AreRising : List (ℕ × ℤ) → Type 0
-AreRising ps = (i k : ℕ) → i < k → k < length ps → number_at ps i < number_at ps k
+AreRising ps = (i k : ℕ) → i < k → k < length ps → index_at ps i < index_at ps k
 
-none_listed : (j i : ℕ) (ps : List (ℕ × ℤ)) → ((k : ℕ) → k < length ps → j < number_at ps k) → listed_for j i ps ≡ []
+none_listed : (j i : ℕ) (ps : List (ℕ × ℤ)) → ((k : ℕ) → k < length ps → j < index_at ps k) → listed_for j i ps ≡ []
 none_listed j i [] above = refl
 none_listed j i (p ∷ ps) above = by (p.0 == j) refl (none_listed j i ps (λ k l. above (suc k) (omega arith)))
   where
@@ -120,7 +120,7 @@ listed_line j i name all r (p ∷ ps) found rising =
     line : ℕ × ℤ → List Written
     line q = triple name r.name (decimal_text q.1 r.decimals) ∷ []
 
-    later : (p.0 == j) ≡ true → (k : ℕ) → k < length ps → j < number_at ps k
+    later : (p.0 == j) ≡ true → (k : ℕ) → k < length ps → j < index_at ps k
     later e k l = let same = eqb-true p.0 j e in let above = rising 0 (suc k) (omega arith) (omega arith) in omega arith
 
     by : (t : Bool) → (p.0 == j) ≡ t → flat_map (entry_line name all) (listed_for j i ps) ≡ option_map_or line (find (λ p. p.0 == j) ps) []

@@ -1,6 +1,6 @@
 ghost use Rattle.std.specs.Prelude.{◌≡◌, ◌<◌, ◌++◌, ◌∷◌, OnOk, flat_map, string_bytes, length, ℕ};
 ghost use Rattle.std.specs.List.{enumerate_from};
-ghost use Rattle.ip_defs.specs.Limits.{IsWithinLimits, number_at};
+ghost use Rattle.ip_defs.specs.Limits.{IsWithinLimits, index_at};
 ghost use Rattle.mps_defs.specs.CanonicalText.{column_block, triple, value_text};
 ghost use Rattle.mps_printer.specs.Internal.Entries.{column_entries, entry_line};
 ghost use Rattle.mps_printer.specs.Internal.Sections.{bound_lines, bound_section, column_section, lines_text};
@@ -18,7 +18,7 @@ fn push_entries(
     rows: &[Row],
     entries: &[(u32, i64)],
 ) -> Result<(), Memory>
-    requires { (i : ℕ) → i < length entries.now → number_at entries.now i < length rows.now }
+    requires { (i : ℕ) → i < length entries.now → index_at entries.now i < length rows.now }
     ensures { OnOk result (string_bytes text.new ≡ string_bytes text.old ++ lines_text (flat_map (entry_line name.now rows.now) entries.now)) }
 {
     for (i, coefficient) in entries {
@@ -37,7 +37,7 @@ fn push_block(
     column: &Column,
     entries: &[(u32, i64)],
 ) -> Result<(), Memory>
-    requires { (i : ℕ) → i < length entries.now → number_at entries.now i < length parts.now.rows }
+    requires { (i : ℕ) → i < length entries.now → index_at entries.now i < length parts.now.rows }
     ensures { OnOk result (string_bytes text.new ≡ string_bytes text.old ++ lines_text (triple column.now.name parts.now.objective (value_text parts.now column.now.cost) ∷ flat_map (entry_line column.now.name parts.now.rows) entries.now)) }
 {
     let name = column.name.as_str();

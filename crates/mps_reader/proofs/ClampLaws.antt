@@ -8,7 +8,7 @@ use Rattle.std.proofs.lemmas.Int.{ints, clamps}
 use Rattle.std.proofs.lemmas.List.Sums.{sum_by-cons}
 use Rattle.std.proofs.lemmas.Bool.{ltb-true, ltb-false}
 use Rattle.std.proofs.lemmas.Option.{slice_get-map}
-use Rattle.ip_defs.specs.Limits.{above, limit_at, is_long, column_limits, row_limits, limits_of, AreSmall, IsColumn, IsRow, IsWithinLimits}
+use Rattle.ip_defs.specs.Limits.{exceeds, limit_at, is_long, column_limits, row_limits, limits_of, AreSmall, IsColumn, IsRow, IsWithinLimits}
 use Rattle.ip_defs.specs.declared.programs.Column.{Column}
 use Rattle.ip_defs.specs.declared.programs.Row.{Row}
 use Rattle.ip_defs.specs.declared.programs.Parts.{Parts}
@@ -20,7 +20,7 @@ use Rattle.mps_defs.proofs.ListLaws.{map_same}
 use Rattle.std.proofs.lemmas.List.{length-map}
 
 -- a clamped number passes the same sizes
-pub clamp_above : (most : ℕ) (z : ℤ) → most ≤ 2 ^ 62 → above most (clamped z) ≡ above most z
+pub clamp_above : (most : ℕ) (z : ℤ) → most ≤ 2 ^ 62 → exceeds most (clamped z) ≡ exceeds most z
 clamp_above most z small = by (nat_lt most (unsigned_abs (clamped z))) (nat_lt most (unsigned_abs z)) refl refl
   where
     by : (t u : Bool) → nat_lt most (unsigned_abs (clamped z)) ≡ t → nat_lt most (unsigned_abs z) ≡ u
@@ -38,34 +38,34 @@ clamp_above most z small = by (nat_lt most (unsigned_abs (clamped z))) (nat_lt m
 pub clamp_stays : (z : ℤ) → unsigned_abs (clamped z) ≤ 2 ^ 62 → clamped z ≡ z
 clamp_stays z small = omega (arith, ints, clamps)
 
-side_above : (o : Option ℤ) → option_map_or (above (2 ^ 62)) (option_map clamped o) false ≡ option_map_or (above (2 ^ 62)) o false
+side_above : (o : Option ℤ) → option_map_or (exceeds (2 ^ 62)) (option_map clamped o) false ≡ option_map_or (exceeds (2 ^ 62)) o false
 side_above None = refl
 side_above (Some z) = clamp_above (2 ^ 62) z (omega arith)
 
-coefs_above : (ps : List (ℕ × ℤ)) → list_any (λ c. above (2 ^ 40) c.1) (clamped_coefs ps) ≡ list_any (λ c. above (2 ^ 40) c.1) ps
+coefs_above : (ps : List (ℕ × ℤ)) → list_any (λ c. exceeds (2 ^ 40) c.1) (clamped_coefs ps) ≡ list_any (λ c. exceeds (2 ^ 40) c.1) ps
 coefs_above [] = refl
 coefs_above (p ∷ ps) =
-    ap (λ t. t || list_any (λ c. above (2 ^ 40) c.1) (clamped_coefs ps)) (clamp_above (2 ^ 40) p.1 (omega arith))
-    ∙ ap (λ t. above (2 ^ 40) p.1 || t) (coefs_above ps)
+    ap (λ t. t || list_any (λ c. exceeds (2 ^ 40) c.1) (clamped_coefs ps)) (clamp_above (2 ^ 40) p.1 (omega arith))
+    ∙ ap (λ t. exceeds (2 ^ 40) p.1 || t) (coefs_above ps)
 
 column_same : (p : ℕ × Column) → column_limits (p.0, clamped_column p.1) ≡ column_limits p
 column_same p =
-    ap (λ t. limit_at (is_long p.1.name) Name p.0 ++ limit_at t Cost p.0 ++ limit_at (above (2 ^ 24) (clamped p.1.lo)) Lower p.0 ++ limit_at
-    (above (2 ^ 24) (clamped p.1.hi)) Upper p.0) (clamp_above (2 ^ 40) p.1.cost (omega arith))
-    ∙ ap (λ t. limit_at (is_long p.1.name) Name p.0 ++ limit_at (above (2 ^ 40) p.1.cost) Cost p.0 ++ limit_at t Lower p.0 ++ limit_at
-    (above (2 ^ 24) (clamped p.1.hi)) Upper p.0) (clamp_above (2 ^ 24) p.1.lo (omega arith))
-    ∙ ap (λ t. limit_at (is_long p.1.name) Name p.0 ++ limit_at (above (2 ^ 40) p.1.cost) Cost p.0 ++ limit_at
-    (above (2 ^ 24) p.1.lo) Lower p.0 ++ limit_at t Upper p.0) (clamp_above (2 ^ 24) p.1.hi (omega arith))
+    ap (λ t. limit_at (is_long p.1.name) Name p.0 ++ limit_at t Cost p.0 ++ limit_at (exceeds (2 ^ 24) (clamped p.1.lo)) Lower p.0 ++ limit_at
+    (exceeds (2 ^ 24) (clamped p.1.hi)) Upper p.0) (clamp_above (2 ^ 40) p.1.cost (omega arith))
+    ∙ ap (λ t. limit_at (is_long p.1.name) Name p.0 ++ limit_at (exceeds (2 ^ 40) p.1.cost) Cost p.0 ++ limit_at t Lower p.0 ++ limit_at
+    (exceeds (2 ^ 24) (clamped p.1.hi)) Upper p.0) (clamp_above (2 ^ 24) p.1.lo (omega arith))
+    ∙ ap (λ t. limit_at (is_long p.1.name) Name p.0 ++ limit_at (exceeds (2 ^ 40) p.1.cost) Cost p.0 ++ limit_at
+    (exceeds (2 ^ 24) p.1.lo) Lower p.0 ++ limit_at t Upper p.0) (clamp_above (2 ^ 24) p.1.hi (omega arith))
 
 row_same : (p : ℕ × Row) → row_limits (p.0, clamped_row p.1) ≡ row_limits p
 row_same p =
     ap (λ t. limit_at (is_long p.1.name) RowName p.0 ++ limit_at t Coef p.0 ++ limit_at
-    (option_map_or (above (2 ^ 62)) (option_map clamped p.1.low) false || option_map_or (above (2 ^ 62))
+    (option_map_or (exceeds (2 ^ 62)) (option_map clamped p.1.low) false || option_map_or (exceeds (2 ^ 62))
     (option_map clamped p.1.high) false) Side p.0) (coefs_above p.1.coefs)
-    ∙ ap (λ t. limit_at (is_long p.1.name) RowName p.0 ++ limit_at (list_any (λ c. above (2 ^ 40) c.1) p.1.coefs) Coef p.0 ++ limit_at
-    (t || option_map_or (above (2 ^ 62)) (option_map clamped p.1.high) false) Side p.0) (side_above p.1.low)
-    ∙ ap (λ t. limit_at (is_long p.1.name) RowName p.0 ++ limit_at (list_any (λ c. above (2 ^ 40) c.1) p.1.coefs) Coef p.0 ++ limit_at
-    (option_map_or (above (2 ^ 62)) p.1.low false || t) Side p.0) (side_above p.1.high)
+    ∙ ap (λ t. limit_at (is_long p.1.name) RowName p.0 ++ limit_at (list_any (λ c. exceeds (2 ^ 40) c.1) p.1.coefs) Coef p.0 ++ limit_at
+    (t || option_map_or (exceeds (2 ^ 62)) (option_map clamped p.1.high) false) Side p.0) (side_above p.1.low)
+    ∙ ap (λ t. limit_at (is_long p.1.name) RowName p.0 ++ limit_at (list_any (λ c. exceeds (2 ^ 40) c.1) p.1.coefs) Coef p.0 ++ limit_at
+    (option_map_or (exceeds (2 ^ 62)) p.1.low false || t) Side p.0) (side_above p.1.high)
 
 -- what is found of mapped elements by number, where each gives the same
 flat_same : {A B : Type 0} (f : ℕ × A → List B) (g : A → A) → ((p : ℕ × A) → f (p.0, g p.1) ≡ f p) → (n : ℕ) (xs : List A)
@@ -92,7 +92,7 @@ limits_same m =
     let gs = flat_map row_limits (enumerate_from 0 rs) in
     let fs_same = flat_same column_limits clamped_column column_same 0 m.columns in
     let gs_same = flat_same row_limits clamped_row row_same 0 m.rows in
-    let last = above (2 ^ 62) (clamped m.constant) in
+    let last = exceeds (2 ^ 62) (clamped m.constant) in
     ap (λ n. all n (length rs) (sum_by size rs) fs gs last) (length-map m.columns clamped_column)
     ∙ ap (λ n. all (length m.columns) n (sum_by size rs) fs gs last) (length-map m.rows clamped_row)
     ∙ ap (λ n. all (length m.columns) (length m.rows) n fs gs last) (entries_same m.rows)

@@ -7,7 +7,7 @@ use Rattle.std.specs.List.{list_all}
 use Rattle.std.proofs.Common.{refl, arith}
 use Rattle.std.proofs.lemmas.Int.{ints}
 use Rattle.ip_defs.specs.declared.certificates.Cert.{Cert}
-use Rattle.ip_defs.specs.Limits.{number_at, value_at, IsCert}
+use Rattle.ip_defs.specs.Limits.{index_at, value_at, IsCert}
 use Rattle.proof_tree.specs.Trees.{is_at_most, rise_from, is_multiplier, is_cert}
 use Rattle.ip_defs.proofs.BoolLaws.{both_true}
 use Rattle.ip_defs.proofs.OrderLaws.{lt_true, lt_is, less_false}
@@ -17,7 +17,7 @@ join true t e f = f
 join false t e f = absurd cc
 
 -- the numbers rise from a least one
-risen : (least : ℕ) (ps : List (ℕ × ℤ)) → rise_from least ps ≡ true → (i : ℕ) → i < length ps → least ≤ number_at ps i
+risen : (least : ℕ) (ps : List (ℕ × ℤ)) → rise_from least ps ≡ true → (i : ℕ) → i < length ps → least ≤ index_at ps i
 risen least [] e i l = absurd (omega arith)
 risen least (p ∷ ps) e zero l = let h = lt_is least (suc p.0) (both_true (is_at_most least p.0) (rise_from (suc p.0) ps) e).0 in omega arith
 risen least (p ∷ ps) e (suc i) l =
@@ -26,7 +26,7 @@ risen least (p ∷ ps) e (suc i) l =
     let g = risen (suc p.0) ps b.1 i (omega arith) in
     omega arith
 
-rising : (least : ℕ) (ps : List (ℕ × ℤ)) → rise_from least ps ≡ true → (i k : ℕ) → i < k → k < length ps → number_at ps i < number_at ps k
+rising : (least : ℕ) (ps : List (ℕ × ℤ)) → rise_from least ps ≡ true → (i k : ℕ) → i < k → k < length ps → index_at ps i < index_at ps k
 rising least [] e i k l h = absurd (omega arith)
 rising least (p ∷ ps) e i zero l h = absurd (omega arith)
 rising least (p ∷ ps) e zero (suc k) l h =
@@ -34,8 +34,8 @@ rising least (p ∷ ps) e zero (suc k) l h =
 rising least (p ∷ ps) e (suc i) (suc k) l h =
     rising (suc p.0) ps (both_true (is_at_most least p.0) (rise_from (suc p.0) ps) e).1 i k (omega arith) (omega arith)
 
-rises : (least : ℕ) (ps : List (ℕ × ℤ)) → ((i : ℕ) → i < length ps → least ≤ number_at ps i)
-    → ((i k : ℕ) → i < k → k < length ps → number_at ps i < number_at ps k) → rise_from least ps ≡ true
+rises : (least : ℕ) (ps : List (ℕ × ℤ)) → ((i : ℕ) → i < length ps → least ≤ index_at ps i)
+    → ((i k : ℕ) → i < k → k < length ps → index_at ps i < index_at ps k) → rise_from least ps ≡ true
 rises least [] h r = refl
 rises least (p ∷ ps) h r =
     let first : least ≤ p.0 = h 0 (omega arith) in
@@ -72,12 +72,12 @@ one_back rows p o =
     positive (negsuc k) n = omega (arith, ints)
 
 ones : (rows : ℕ) (ps : List (ℕ × ℤ)) → list_all (is_multiplier rows) ps ≡ true → (i : ℕ) → i < length ps
-    → IsOne rows (number_at ps i, value_at ps i)
+    → IsOne rows (index_at ps i, value_at ps i)
 ones rows [] e i l = absurd (omega arith)
 ones rows (p ∷ ps) e zero l = one_is rows p (both_true (is_multiplier rows p) (list_all (is_multiplier rows) ps) e).0
 ones rows (p ∷ ps) e (suc i) l = ones rows ps (both_true (is_multiplier rows p) (list_all (is_multiplier rows) ps) e).1 i (omega arith)
 
-ones_back : (rows : ℕ) (ps : List (ℕ × ℤ)) → ((i : ℕ) → i < length ps → IsOne rows (number_at ps i, value_at ps i))
+ones_back : (rows : ℕ) (ps : List (ℕ × ℤ)) → ((i : ℕ) → i < length ps → IsOne rows (index_at ps i, value_at ps i))
     → list_all (is_multiplier rows) ps ≡ true
 ones_back rows [] h = refl
 ones_back rows (p ∷ ps) h = join (is_multiplier rows p) (list_all (is_multiplier rows) ps) (one_back rows p (h 0 (omega arith)))

@@ -6,7 +6,7 @@ use Rattle.std.specs.List.{list_all}
 use Rattle.std.proofs.Common.{refl, arith}
 use Rattle.std.proofs.lemmas.Bool.{eqb-true}
 use Rattle.ip_defs.specs.declared.certificates.Cert.{Cert}
-use Rattle.ip_defs.specs.Limits.{number_at}
+use Rattle.ip_defs.specs.Limits.{index_at}
 use Rattle.ip_defs.specs.Lists.{Each}
 use Rattle.ip_defs.proofs.FirstLaws.{either_none}
 use Rattle.ip_defs.proofs.ListLaws.{each_left, each_right, each_append, each_weaker}
@@ -50,7 +50,7 @@ fits_by columns rows (split col cut y left right) h = (
 )
 
 -- all row numbers of a certificate are within
-in_rows : (rows : ℕ) (y : List (ℕ × ℤ)) → list_all (λ p. nat_lt p.0 rows) y ≡ true → (i : ℕ) → i < length y → number_at y i < rows
+in_rows : (rows : ℕ) (y : List (ℕ × ℤ)) → list_all (λ p. nat_lt p.0 rows) y ≡ true → (i : ℕ) → i < length y → index_at y i < rows
 in_rows rows [] e i l = absurd (omega arith)
 in_rows rows (p ∷ ps) e zero l = by (nat_lt p.0 rows) (list_all (λ q. nat_lt q.0 rows) ps) refl e
   where

@@ -12,7 +12,7 @@ use Rattle.ip_defs.specs.declared.certificates.Cert.{Cert}
 use Rattle.ip_defs.specs.declared.programs.Parts.{Parts}
 use Rattle.ip_defs.specs.Program.{box_of, IsFeasible, cost}
 use Rattle.ip_defs.specs.Certificates.{leaf_bound, IsAtMost}
-use Rattle.ip_defs.specs.Limits.{number_at}
+use Rattle.ip_defs.specs.Limits.{index_at}
 use Rattle.proof_tree.specs.LabelledTrees.{LabelledTree, leaf, split, LabelledNode, leaf_node, split_node, nodes, nodes_from, leaves}
 use Rattle.proof_tree.specs.declared.trees.Tree.{Tree, Leaf, Split'}
 use Rattle.proof_tree.specs.declared.faults.TreeLimit.{TreeLimit}
@@ -60,7 +60,7 @@ FitsColumns n (split col cut y left right) = (col < n) × FitsColumns n left × 
 
 -- each multiplier is of one of n rows
 abbrev pub FitsRows : ℕ → PlainTree → Type 0
-FitsRows n (leaf c) = (i : ℕ) → i < length c.y → number_at c.y i < n
+FitsRows n (leaf c) = (i : ℕ) → i < length c.y → index_at c.y i < n
 FitsRows n (split col cut y left right) = FitsRows n left × FitsRows n right
 
 -- what a tree names is there: each column and each row

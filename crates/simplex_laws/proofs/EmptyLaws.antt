@@ -10,7 +10,7 @@ use Rattle.ring_laws.proofs.Sums.{sum, sum_same, sum_add, sum_single}
 use Rattle.frac128.specs.Rationals.{Rational, of, add, sub, mul, neg, NotNegative, AtMost}
 use Rattle.frac128.proofs.Rationals.{rationals}
 use Rattle.frac128.proofs.Order.{at_most_antisym, zero_top, of_neg}
-use Rattle.ip_defs.specs.Certificates.{entry as coefficient_of}
+use Rattle.ip_defs.specs.Certificates.{coefficient_of}
 use Rattle.ip_defs.specs.declared.programs.Parts.{Parts}
 use Rattle.lp_duality.specs.Relaxations.{cost_of, total_cost, IsUncrossed}
 use Rattle.lp_duality.specs.Duals.{is_below, paid, left_of, dual}

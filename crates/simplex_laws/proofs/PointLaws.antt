@@ -7,7 +7,7 @@ use Rattle.ring_laws.proofs.Sums.{sum}
 use Rattle.frac128.specs.Rationals.{Rational, of, mul, neg}
 use Rattle.frac128.proofs.Rationals.{rationals}
 use Rattle.frac128.proofs.Order.{zero_top}
-use Rattle.ip_defs.specs.Certificates.{entry as coefficient_of}
+use Rattle.ip_defs.specs.Certificates.{coefficient_of}
 use Rattle.ip_defs.specs.declared.programs.Parts.{Parts}
 use Rattle.lp_duality.specs.Duals.{paid}
 use Rattle.lp_duality.specs.Relaxations.{IsBetween, IsUncrossed}

@@ -6,7 +6,7 @@ use Rattle.ring_laws.proofs.Sums.{sum_same}
 use Rattle.frac128.specs.Rationals.{Rational, of, add, mul, AtMost}
 use Rattle.frac128.proofs.Rationals.{rationals}
 use Rattle.ip_defs.specs.Program.{low_at, high_at}
-use Rattle.ip_defs.specs.Certificates.{entry as coefficient_of}
+use Rattle.ip_defs.specs.Certificates.{coefficient_of}
 use Rattle.ip_defs.specs.declared.programs.Parts.{Parts}
 use Rattle.lp_duality.specs.Relaxations.{row_low, row_high, cost_of, row_total, total_cost, IsBetween, IsRelaxed, IsUncrossed}
 use Rattle.lp_duality.specs.Duals.{dual}

@@ -13,7 +13,7 @@ use Rattle.ring_laws.proofs.Sums.{sum_same, sum_zero, sum_single}
 use Rattle.frac128.specs.Rationals.{Rational, of, mul, neg, absolute}
 use Rattle.frac128.proofs.Rationals.{rationals}
 use Rattle.frac128.proofs.Order.{zero_top}
-use Rattle.ip_defs.specs.Certificates.{entry as coefficient_of}
+use Rattle.ip_defs.specs.Certificates.{coefficient_of}
 use Rattle.ip_defs.specs.Program.{low_at, high_at}
 use Rattle.ip_defs.specs.declared.programs.Parts.{Parts}
 use Rattle.lp_duality.proofs.SignLaws.{top_zero, over_positive}

@@ -16,8 +16,8 @@ use Rattle.frac128.proofs.Order.{of_neg}
 use Rattle.frac128.proofs.WholeLaws.{IsFraction-whole}
 use Rattle.ip_defs.proofs.OrderLaws.{lt_true, lt_false}
 use Rattle.ip_defs.specs.Program.{coefficient}
-use Rattle.ip_defs.specs.Limits.{number_at, value_at, AreOrdered, IsWithinLimits}
-use Rattle.ip_defs.specs.Certificates.{coefs_of, entry as coefficient_of}
+use Rattle.ip_defs.specs.Limits.{index_at, value_at, AreOrdered, IsWithinLimits}
+use Rattle.ip_defs.specs.Certificates.{coefs_of, coefficient_of}
 use Rattle.ip_defs.specs.declared.programs.Row.{Row}
 use Rattle.ip_defs.specs.declared.programs.Parts.{Parts}
 use Rattle.ip_model.proofs.RowLaws.{coefficient_none, fresh, coefficient_more, coefficient_small}
@@ -34,27 +34,27 @@ use Rattle.tableau.proofs.PointLaws.{start_back}
 
 -- one more coefficient is written into a line
 pub put_step : (numbers : List Fraction) (coefs : List (ℕ × ℤ)) (i : ℕ) (y : Fraction) → i < length coefs →
-    ((h k : ℕ) → h < k → k < length coefs → number_at coefs h < number_at coefs k)
-    → number_at coefs i < length numbers → ((v : ℕ) → v < length numbers → at numbers v ≡ whole (neg_ℤ (coefficient (take i coefs) v))) →
+    ((h k : ℕ) → h < k → k < length coefs → index_at coefs h < index_at coefs k)
+    → index_at coefs i < length numbers → ((v : ℕ) → v < length numbers → at numbers v ≡ whole (neg_ℤ (coefficient (take i coefs) v))) →
         y ≡ whole (neg_ℤ (value_at coefs i))
-    → (v : ℕ) → v < length numbers → at (slice_set numbers (number_at coefs i) y) v ≡ whole (neg_ℤ (coefficient (take (i + 1) coefs) v))
-put_step numbers coefs i y l rising inside before is v k = by (number_at coefs i == v) refl
+    → (v : ℕ) → v < length numbers → at (slice_set numbers (index_at coefs i) y) v ≡ whole (neg_ℤ (coefficient (take (i + 1) coefs) v))
+put_step numbers coefs i y l rising inside before is v k = by (index_at coefs i == v) refl
   where
-    by : (t : Bool) → (number_at coefs i == v) ≡ t → at (slice_set numbers (number_at coefs i) y) v
+    by : (t : Bool) → (index_at coefs i == v) ≡ t → at (slice_set numbers (index_at coefs i) y) v
         ≡ whole (neg_ℤ (coefficient (take (i + 1) coefs) v))
     by true e =
-        let same : number_at coefs i ≡ v = eqb-true (number_at coefs i) v e in
+        let same : index_at coefs i ≡ v = eqb-true (index_at coefs i) v e in
         let none : coefficient (take i coefs) v ≡ pos 0 = ap (coefficient (take i coefs)) (sym same) ∙ fresh coefs i rising l in
         let more : coefficient (take (i + 1) coefs) v ≡ coefficient (take i coefs) v +ℤ value_at coefs i = coefficient_more coefs i v l
                 ∙ ap (λ t. coefficient (take i coefs) v +ℤ cond t (value_at coefs i) (pos 0)) e in
         let total : coefficient (take (i + 1) coefs) v ≡ value_at coefs i = omega (arith, ints) in
-        get_or-set_at numbers (number_at coefs i) v y (whole (pos 0)) (sym same) inside ∙ is ∙ ap (λ z. whole (neg_ℤ z)) (sym total)
+        get_or-set_at numbers (index_at coefs i) v y (whole (pos 0)) (sym same) inside ∙ is ∙ ap (λ z. whole (neg_ℤ z)) (sym total)
     by false e =
-        let apart : number_at coefs i ≢ v = eqb-false (number_at coefs i) v e in
+        let apart : index_at coefs i ≢ v = eqb-false (index_at coefs i) v e in
         let more : coefficient (take (i + 1) coefs) v ≡ coefficient (take i coefs) v +ℤ pos 0 = coefficient_more coefs i v l
                 ∙ ap (λ t. coefficient (take i coefs) v +ℤ cond t (value_at coefs i) (pos 0)) e in
         let total : coefficient (take (i + 1) coefs) v ≡ coefficient (take i coefs) v = omega (arith, ints) in
-        get_or-set_other numbers (number_at coefs i) v y (whole (pos 0)) (λ h. apart (sym h)) ∙ before v k
+        get_or-set_other numbers (index_at coefs i) v y (whole (pos 0)) (λ h. apart (sym h)) ∙ before v k
             ∙ ap (λ z. whole (neg_ℤ z)) (sym total)
 
 -- numbers that rise below n rise below more

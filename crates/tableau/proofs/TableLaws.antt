@@ -11,7 +11,7 @@ use Rattle.frac128.proofs.Rationals.{rationals}
 use Rattle.frac128.proofs.Order.{inverse-is}
 use Rattle.ring_laws.proofs.Sums.{sum_same}
 use Rattle.ip_defs.specs.declared.programs.Parts.{Parts}
-use Rattle.ip_defs.specs.Certificates.{entry as coefficient_of}
+use Rattle.ip_defs.specs.Certificates.{coefficient_of}
 use Rattle.tableau.specs.declared.rests.Rest.{Rest}
 use Rattle.tableau.specs.declared.rests.Rest.TheVariants.{Basic, Low, High, Zero}
 use Rattle.tableau.specs.Tables.{Table, entry, basic_at, rest_at, variable_at, CanRest, IsTable}

@@ -5,7 +5,7 @@ use Rattle.std.specs.List.{enumerate_from, cons_option}
 use Rattle.std.specs.Int.RustNames.{unsigned_abs}
 use Rattle.std.proofs.Common.{refl, arith, ap, sym, ◌∙◌, subst, leb-false}
 use Rattle.std.proofs.lemmas.Bool.{ne_eqb, eqb-true, eqb-false, leb-true}
-use Rattle.ip_defs.specs.Limits.{AreOrdered, AreSmall, number_at as place_at}
+use Rattle.ip_defs.specs.Limits.{AreOrdered, AreSmall, index_at as place_at}
 use Rattle.mps_defs.specs.Numbers.{decimal_text}
 use Rattle.mps_defs.specs.Records.{Entry}
 use Rattle.mps_defs.specs.TextModels.{units, written_at, number_or_zero}

@@ -1,6 +1,6 @@
 -- The limits of a program that are of neither a column nor a row, in the order in which they are tried.
 use Rattle.std.specs.Prelude.{◌^◌, nat_lt, List, ◌++◌, length, sum_by}
-use Rattle.ip_defs.specs.Limits.{above, limit_at, is_long}
+use Rattle.ip_defs.specs.Limits.{exceeds, limit_at, is_long}
 use Rattle.ip_defs.specs.declared.programs.Parts.{Parts}
 use Rattle.ip_defs.specs.declared.limits.Limit.{Limit}
 use Rattle.ip_defs.specs.declared.limits.What.TheVariants.{Columns, Rows, Entries, Objective, Constant}
@@ -12,4 +12,4 @@ count_limits m = limit_at (nat_lt 4096 (length m.columns)) Columns 0 ++ limit_at
 
 -- the objective's name and the constant, which come after them
 abbrev pub own_limits : Parts → List Limit
-own_limits m = limit_at (is_long m.objective) Objective 0 ++ limit_at (above (2 ^ 62) m.constant) Constant 0
+own_limits m = limit_at (is_long m.objective) Objective 0 ++ limit_at (exceeds (2 ^ 62) m.constant) Constant 0

@@ -4,7 +4,7 @@ use Rattle.std.specs.Int.{int_min}
 use Rattle.std.specs.Int.RustNames.{unsigned_abs}
 use Rattle.ip_defs.specs.Sums.{sum_over}
 use Rattle.ip_defs.specs.Program.{at, low_at, high_at}
-use Rattle.ip_defs.specs.Certificates.{entry}
+use Rattle.ip_defs.specs.Certificates.{coefficient_of}
 use Rattle.ip_defs.specs.declared.programs.Row.{Row}
 
 -- no number of a list is above a size
@@ -13,7 +13,7 @@ AllSmall most d = (j : ℕ) → j < length d → unsigned_abs (at d j) ≤ most
 
 -- what multipliers take from the cost of a column
 abbrev pub taken_of : List Row → List (ℕ × ℤ) → ℕ → ℤ
-taken_of rows y j = sum_over (λ p. p.1 *ℤ entry rows p.0 j) y
+taken_of rows y j = sum_over (λ p. p.1 *ℤ coefficient_of rows p.0 j) y
 
 -- the least that a column adds, by its cost, q, and what is taken
 abbrev pub least_part : List ℤ → ℤ → List ℤ → List (ℤ × ℤ) → ℕ → ℤ

@@ -2,12 +2,12 @@ use Rattle.std.proofs.Common.{rules, ◌≡◌, ◌∙◌, ap, sym, refl, to_z, 
 use Rattle.std.specs.Int.{w64}
 use Rattle.std.specs.Prelude.{map, take, ◌^◌}
 use Rattle.std.specs.List.{list_any}
-use Rattle.ip_defs.specs.Limits.{above}
+use Rattle.ip_defs.specs.Limits.{exceeds}
 use Rattle.frac128.specs.Values.{value_of}
 use Rattle.dual_rays.specs.Multiples.{multiple}
 use Rattle.dual_rays.specs.Certificates.{values}
 use Rattle.dual_rays.proofs.LimitLaws.{multiplier_past, multiplier_within}
-use Rattle.dual_rays.proofs.PresentLaws.{multiples-past, multiples-next, present-next, above-none}
+use Rattle.dual_rays.proofs.PresentLaws.{multiples-past, multiples-next, present-next, exceeds-none}
 use Rattle.dual_rays.proofs.multipliers.multipliers.Goals as goal
 
 pub returns-in-None : goal.returns-in-None
@@ -29,6 +29,6 @@ loop-row-preserved c =
     record {
       kept = c.in_ok-add-in-Some.ensures ∙ present-next q xs i x (to_z w64 (of_z w64 z)) i c.loop-row.y c.loop-row-test.true
           c.index-prices-row.is (read ∙ within.0) refl c.loop-row.invariant.kept;
-      small = ap (list_any (above (2 ^ 36))) next ∙ above-none (map (multiple q) (values (take i xs))) (multiple q (value_of x))
+      small = ap (list_any (exceeds (2 ^ 36))) next ∙ exceeds-none (map (multiple q) (values (take i xs))) (multiple q (value_of x))
           c.loop-row.invariant.small within.1;
     }

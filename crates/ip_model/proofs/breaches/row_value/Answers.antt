@@ -4,7 +4,7 @@ use mir.Val.{SFits}
 use Rattle.std.proofs.lemmas.Int.{ints, to_z-of_z}
 use Rattle.ip_defs.specs.Sums.{sum_over}
 use Rattle.ip_defs.specs.Program.{at}
-use Rattle.ip_defs.specs.Limits.{number_at, value_at}
+use Rattle.ip_defs.specs.Limits.{index_at, value_at}
 use Rattle.ip_model.proofs.WalkLaws.{place_below, row_walk, small_fits, sum_over_more}
 use Rattle.ip_model.proofs.breaches.row_value.Goals as goal
 
@@ -25,9 +25,9 @@ loop-column-preserved c =
     let i = c.loop-column.column-index in
     let f : ℕ × ℤ → ℤ = λ p. p.1 *ℤ at x p.0 in
     let fits : SFits w64 (value_at ps i) = small_fits (value_at ps i) (c.requires.small i c.loop-column-test.true) in
-    let fits' : SFits w64 (at x (number_at ps i)) = search rules in
-    let value : c.term.result ≡ value_at ps i *ℤ at x (number_at ps i) = rw (to_z-of_z w64 (value_at ps i) fits,
-            to_z-of_z w64 (at x (number_at ps i)) fits') at c.term.ensures.value in
+    let fits' : SFits w64 (at x (index_at ps i)) = search rules in
+    let value : c.term.result ≡ value_at ps i *ℤ at x (index_at ps i) = rw (to_z-of_z w64 (value_at ps i) fits,
+            to_z-of_z w64 (at x (index_at ps i)) fits') at c.term.ensures.value in
     let before : to_z w128 c.loop-column.total-bits ≡ sum_over f (take i ps) = c.loop-column.invariant.sum in
     let more = sum_over_more f ps i (0, pos 0) c.loop-column-test.true in
     let small = c.loop-column.invariant.small in

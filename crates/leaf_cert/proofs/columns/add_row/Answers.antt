@@ -3,7 +3,7 @@ use Rattle.std.specs.Int.{w128, w64}
 use Rattle.std.proofs.lemmas.Int.{ints, to_z-of_z}
 use mir.Val.{SFits}
 use Rattle.ip_defs.specs.Program.{at}
-use Rattle.ip_defs.specs.Limits.{number_at}
+use Rattle.ip_defs.specs.Limits.{index_at}
 use Rattle.ip_model.proofs.RowLaws.{fresh}
 use Rattle.leaf_cert.proofs.Rows.{row_step}
 use Rattle.leaf_cert.proofs.columns.add_row.Goals as goal
@@ -11,7 +11,7 @@ use Rattle.leaf_cert.proofs.columns.add_row.Goals as goal
 pub plus_product-requires : goal.plus_product-requires
 plus_product-requires c =
     let k = c.loop-column.column-index in
-    let j = number_at c.args.coefs.now k in
+    let j = index_at c.args.coefs.now k in
     let within : j < length c.loop-column.taken = omega (arith, c.requires.ordered.within k c.loop-column-test.true) in
     let none = fresh c.args.coefs.now k c.requires.ordered.rising c.loop-column-test.true in
     let same = rw none at (c.loop-column.invariant j within) in
@@ -21,7 +21,7 @@ plus_product-requires c =
 pub loop-column-preserved : goal.loop-column-preserved
 loop-column-preserved c = λ j l.
     let k = c.loop-column.column-index in
-    let col = number_at c.args.coefs.now k in
+    let col = index_at c.args.coefs.now k in
     let inside : col < length c.loop-column.taken = omega (arith, c.requires.ordered.within k c.loop-column-test.true) in
     let back : to_z w128 (of_z w128 c.plus_product.result) ≡ c.plus_product.result = omega (arith, ints) in
     let fits_d : SFits w128 (at c.loop-column.taken col) = search rules in

@@ -6,8 +6,8 @@ use Rattle.std.specs.Int.RustNames.{unsigned_abs}
 use mir.Val.{SFits}
 use Rattle.std.proofs.lemmas.Option.{slice_get_read}
 use Rattle.ip_defs.specs.Program.{coefficient}
-use Rattle.ip_defs.specs.Certificates.{entry, coefs_of}
-use Rattle.ip_defs.specs.Limits.{number_at, value_at}
+use Rattle.ip_defs.specs.Certificates.{coefficient_of, coefs_of}
+use Rattle.ip_defs.specs.Limits.{index_at, value_at}
 use Rattle.ip_model.proofs.WalkLaws.{place_below, small_fits}
 use Rattle.leaf_cert.proofs.Taken.{taken_small, taken_more}
 use Rattle.leaf_cert.proofs.columns.take_rows.Goals as goal
@@ -35,9 +35,9 @@ loop-row-preserved c = λ j l.
     let more = taken_more m.rows y i j test in
     let row = c.index-rows-row.result in
     let inside = c.requires.ordered.within i test in
-    let found : slice_get m.rows (number_at y i) ≡ Some row =
-            slice_get_read m.rows (length m.rows) (number_at y i) row refl inside (rw c.as_slice-rows.ensures at c.index-rows-row.is) in
-    let read : entry m.rows (number_at y i) j ≡ coefficient row.coefs j = ap (λ o. coefficient (coefs_of o) j) found in
+    let found : slice_get m.rows (index_at y i) ≡ Some row =
+            slice_get_read m.rows (length m.rows) (index_at y i) row refl inside (rw c.as_slice-rows.ensures at c.index-rows-row.is) in
+    let read : coefficient_of m.rows (index_at y i) j ≡ coefficient row.coefs j = ap (λ o. coefficient (coefs_of o) j) found in
     let fits : SFits w64 (value_at y i) = small_fits (value_at y i) (let small = (c.requires.multipliers i test) in omega (arith, ints)) in
     let back = to_z-of_z w64 (value_at y i) fits in
     let taken' = rw (back, c.as_slice.ensures, ← read) at taken in

@@ -3,7 +3,7 @@ use Rattle.std.specs.Prelude.{Some, flat_map, slice_get, string_bytes, ℤ}
 use Rattle.std.specs.List.{enumerate_from}
 use Rattle.std.proofs.lemmas.List.FromFn.{length-enumerate_from}
 use Rattle.std.proofs.lemmas.Option.{get_or_from_slice_get, slice_get_read}
-use Rattle.ip_defs.specs.Limits.{number_at}
+use Rattle.ip_defs.specs.Limits.{index_at}
 use Rattle.mps_defs.specs.CanonicalText.{column_block, triple, value_text}
 use Rattle.ip_defs.specs.declared.programs.Column.{Column}
 use Rattle.mps_printer.specs.Internal.Entries.{column_entries, entry_line}
@@ -24,7 +24,7 @@ push_block-requires c =
     slice_get_read lists (length lists) j c.index.result.now refl (omega arith) c.index.ensures in
     let is : c.as_slice.result.now ≡ column_entries j 0 rows =
     c.as_slice.ensures ∙ sym (get_or_from_slice_get lists j c.index.result.now [] here) ∙ c.in_ok-lists.ensures.lists j inside in
-    subst (λ (es : List (ℕ × ℤ)). (i : ℕ) → i < length es → number_at es i < length rows) (sym is) (entries_below j rows)
+    subst (λ (es : List (ℕ × ℤ)). (i : ℕ) → i < length es → index_at es i < length rows) (sym is) (entries_below j rows)
 
 pub loop-j-preserved : goal.loop-j-preserved
 loop-j-preserved c =

@@ -1,7 +1,7 @@
 use Rattle.std.proofs.Common.{arith, ◌≡◌, ◌<◌, ◌∙◌, ap, length, length-set, neg_ℤ, List}
 use Rattle.std.proofs.lemmas.Int.{ints}
 use Rattle.frac128.specs.Fractions.{Fraction, whole}
-use Rattle.ip_defs.specs.Limits.{number_at, value_at}
+use Rattle.ip_defs.specs.Limits.{index_at, value_at}
 use Rattle.tableau.specs.Tables.{at}
 use Rattle.tableau.proofs.StartLaws.{put_step}
 use Rattle.tableau.proofs.starts.put_coefs.Goals as goal
@@ -15,9 +15,9 @@ loop-column-preserved c =
     let small = c.requires.small i test in
     let size = c.loop-column.invariant.size in
     let value_is : c.from_whole.result ≡ whole (neg_ℤ (value_at coefs i)) = c.from_whole.ensures.exact ∙ ap whole (omega (arith, ints)) in
-    let inside : number_at coefs i < length numbers = omega (arith, c.requires.ordered.within i test) in
+    let inside : index_at coefs i < length numbers = omega (arith, c.requires.ordered.within i test) in
     let same : length c.set.new.self ≡ length numbers = ap length c.set.ensures
-            ∙ length-set numbers (number_at coefs i) c.from_whole.result in
+            ∙ length-set numbers (index_at coefs i) c.from_whole.result in
     record {
       size = same ∙ size;
       numbers = λ v l. ap (λ (z : List Fraction). at z v) c.set.ensures

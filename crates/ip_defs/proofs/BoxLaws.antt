@@ -1,6 +1,30 @@
--- Boxes and their points: the one point of a box, and its halves, which hold its points, are narrower and keep to the limits.
-use Rattle.std.specs.Prelude.{◌^◌, ◌≡◌, ◌≢◌, ℕ, suc, ◌+◌, ◌<◌, ◌≤◌, ◌==◌, Bool, true, false, List, [], ◌∷◌, length, map, ℤ, pos, negsuc,
-    ◌+ℤ◌, ◌-ℤ◌, ◌≤ℤ◌, ◌<ℤ◌}
+-- Boxes and their points: the one point of a box, and its halves, which cover its points, are narrower and stay within the limits.
+use Rattle.std.specs.Prelude.{
+  ◌^◌,
+  ◌≡◌,
+  ◌≢◌,
+  ℕ,
+  suc,
+  ◌+◌,
+  ◌<◌,
+  ◌≤◌,
+  ◌==◌,
+  Bool,
+  true,
+  false,
+  List,
+  [],
+  ◌∷◌,
+  length,
+  map,
+  ℤ,
+  pos,
+  negsuc,
+  ◌+ℤ◌,
+  ◌-ℤ◌,
+  ◌≤ℤ◌,
+  ◌<ℤ◌,
+}
 use Rattle.std.specs.Int.RustNames.{unsigned_abs}
 use Rattle.std.specs.Int.{int_gap, int_min, int_max}
 use Rattle.std.proofs.Common.{arith, refl, ap, sym, ◌∙◌, get_or, set, length-set}
@@ -21,7 +45,7 @@ use Rattle.std.proofs.lemmas.List.Elements.{All-from_get_or}
 use Rattle.std.proofs.lemmas.List.Folds.{list_any_at, list_any_none}
 use Rattle.ip_defs.proofs.OrderLaws.{less_false}
 
--- lists that agree at each place are equal
+-- lists of one length that agree at each index are equal
 pub same_lists : (xs ys : List ℤ) → length xs ≡ length ys → ((j : ℕ) → j < length ys → at xs j ≡ at ys j) → xs ≡ ys
 same_lists [] [] e h = refl
 same_lists [] (y ∷ ys) e h = absurd (omega arith)
@@ -31,7 +55,7 @@ same_lists (x ∷ xs) (y ∷ ys) e h =
     let rest = same_lists xs ys (omega arith) (λ j l. h (suc j) (omega arith)) in
     cc
 
--- the one point of a box whose sides meet
+-- the one point of a box whose bounds are equal in each column
 pub one_point : (b : List (ℤ × ℤ)) (x : List ℤ) → ((j : ℕ) → j < length b → high_at b j ≤ℤ low_at b j) → IsIn b x → x ≡ map (λ s. s.0) b
 one_point b x single inside = same_lists x (map (λ s. s.0) b) (omega (arith, length-map b (λ (s : ℤ × ℤ). s.0), inside.size)) (λ j l.
     let within : j < length b = omega (arith, length-map b (λ (s : ℤ × ℤ). s.0)) in
@@ -41,7 +65,7 @@ one_point b x single inside = same_lists x (map (λ s. s.0) b) (omega (arith, le
     let is : at x j ≡ low_at b j = omega (arith, ints) in
     is ∙ sym (get_or-map (λ (s : ℤ × ℤ). s.0) b j (pos 0, pos 0) (pos 0) within))
 
--- a box with another side for one column
+-- a box with other bounds for one column
 module _ (b : List (ℤ × ℤ)) (j : ℕ) (s : ℤ × ℤ) (l : j < length b) where
   side_at : (k : ℕ) → (k ≡ j → get_or (set b j s) k (pos 0, pos 0) ≡ s) × (k ≢ j →
       get_or (set b j s) k (pos 0, pos 0) ≡ get_or b k (pos 0, pos 0))
@@ -77,12 +101,12 @@ gap_is (pos a) (negsuc b) h = absurd (omega (arith, ints))
 gap_is (negsuc a) (pos b) h = omega (arith, ints)
 gap_is (negsuc a) (negsuc b) h = omega (arith, ints)
 
--- a box is narrower, where one column is
+-- a box is narrower where one of its columns is
 narrower : (b : List (ℤ × ℤ)) (j : ℕ) (lo hi : ℤ) → j < length b → lo ≤ℤ hi → low_at b j ≤ℤ high_at b j →
     (hi -ℤ lo) <ℤ (high_at b j -ℤ low_at b j) → width (set b j (lo, hi)) < width b
 narrower b j lo hi l p q r =
     let sum : width (set b j (lo, hi)) + int_gap (low_at b j) (high_at b j) ≡ width b + int_gap lo hi =
-            sum_by-set (λ (s : ℤ × ℤ). int_gap s.0 s.1) b j (lo, hi) (pos 0, pos 0) l in
+    sum_by-set (λ (s : ℤ × ℤ). int_gap s.0 s.1) b j (lo, hi) (pos 0, pos 0) l in
     let old = gap_is (low_at b j) (high_at b j) q in
     let new = gap_is lo hi p in
     let falls : int_gap lo hi < int_gap (low_at b j) (high_at b j) = omega (arith, ints) in
@@ -99,7 +123,7 @@ pub above_narrower : (b : List (ℤ × ℤ)) (j : ℕ) (cut : ℤ) → j < lengt
 above_narrower b j cut l p q = narrower b j (int_max (low_at b j) (cut +ℤ pos 1)) (high_at b j) l (omega (arith, ints, clamps))
     (omega (arith, ints)) (omega (arith, ints, clamps))
 
--- a box with another side for one column stays open, and within the limits, where that side is
+-- with other bounds for one column a box stays open, and within the limits, where these bounds are so
 module _ (b : List (ℤ × ℤ)) (j : ℕ) (lo hi : ℤ) (l : j < length b) where
   pub open_cut : lo ≤ℤ hi → IsOpen b → IsOpen (set b j (lo, hi))
   open_cut h open' = λ k within. by k (k == j) refl (omega (arith, length-set b j (lo, hi)))
@@ -161,13 +185,13 @@ open_from b none = λ j within. by j within (is_empty_side (get_or b j (pos 0, p
 
 -- and an open box has no empty column
 pub open_sides : (b : List (ℤ × ℤ)) → IsOpen b → list_any is_empty_side b ≡ false
-open_sides b open' = list_any_none is_empty_side b (All-from_get_or (λ s. is_empty_side s ≡ false) b (pos 0,
-    pos 0) (λ j within. less_false (high_at b j) (low_at b j) (open' j within)))
+open_sides b open' = list_any_none is_empty_side b (All-from_get_or (λ s. is_empty_side s ≡ false) b (pos 0, pos 0)
+    (λ j within. less_false (high_at b j) (low_at b j) (open' j within)))
 
 -- the box of columns within their limits is within the limits
 sides_small : (columns : List Column) → ((j : ℕ) (c : Column) → slice_get columns j ≡ Some c → IsColumn c) → (j : ℕ) → j < length columns
     → (unsigned_abs (low_at (map (λ c. (c.lo, c.hi)) columns) j) ≤ 2 ^ 24)
-        × (unsigned_abs (high_at (map (λ c. (c.lo, c.hi)) columns) j) ≤ 2 ^ 24)
+    × (unsigned_abs (high_at (map (λ c. (c.lo, c.hi)) columns) j) ≤ 2 ^ 24)
 sides_small [] all j within = absurd (omega arith)
 sides_small (c ∷ cs) all zero within = let one = all 0 c refl in (one.lo, one.hi)
 sides_small (c ∷ cs) all (suc j) within = sides_small cs (λ k d e. all (suc k) d e) j (omega arith)

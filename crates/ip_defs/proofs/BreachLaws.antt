@@ -1,6 +1,27 @@
 -- A point has no breach exactly where it is feasible.
-use Rattle.std.specs.Prelude.{◌≡◌, ℕ, zero, suc, [], ◌∷◌, ◌<◌, ℤ, ◌≤ℤ◌, List, length, slice_get, Bool, true, false, Option, Some, None,
-    IfSome, All, if◌then◌else◌}
+use Rattle.std.specs.Prelude.{
+  ◌≡◌,
+  ℕ,
+  zero,
+  suc,
+  [],
+  ◌∷◌,
+  ◌<◌,
+  ℤ,
+  ◌≤ℤ◌,
+  List,
+  length,
+  slice_get,
+  Bool,
+  true,
+  false,
+  Option,
+  Some,
+  None,
+  IfSome,
+  All,
+  if◌then◌else◌,
+}
 use Rattle.std.specs.Int.Signed.{lt_z}
 use Rattle.std.proofs.Common.{refl, arith}
 use Rattle.std.proofs.lemmas.List.{length-map}
@@ -49,15 +70,18 @@ row_back x i r h = rw (low_back (row_sum r.coefs x) r.low h.low, high_back (row_
 feasible_of : (m : Parts) (x : List ℤ) → length x ≡ length m.columns → first_breach m x ≡ None → IsFeasible m x
 feasible_of m x size e =
     let both = either_none (first (column_breach (box_of m) x) (length m.columns))
-            (first (λ i. row_breach x i (slice_get m.rows i)) (length m.rows)) e in
+    (first (λ i. row_breach x i (slice_get m.rows i)) (length m.rows)) e in
     let count : length (box_of m) ≡ length m.columns = length-map m.columns (λ (c : Column). (c.lo, c.hi)) in
     let sides : (j : ℕ) → j < length (box_of m) → (lt_z (at x j) (low_at (box_of m) j) ≡ false)
-            × (lt_z (high_at (box_of m) j) (at x j) ≡ false) =
-            λ j l. neither_true (lt_z (at x j) (low_at (box_of m) j)) (lt_z (high_at (box_of m) j) (at x j))
-            (none_of _ (Broken.Column j) (first-none (column_breach (box_of m) x) (length m.columns) both.0 j (omega arith))) in
+    × (lt_z (high_at (box_of m) j) (at x j) ≡ false) =
+    λ j l. neither_true (lt_z (at x j) (low_at (box_of m) j)) (lt_z (high_at (box_of m) j) (at x j))
+    (none_of _ (Broken.Column j) (first-none (column_breach (box_of m) x) (length m.columns) both.0 j (omega arith))) in
     record {
-      within = record { size = omega arith; low = λ j l. not_less (at x j) (low_at (box_of m) j) (sides j l).0;
-          high = λ j l. not_less (high_at (box_of m) j) (at x j) (sides j l).1 };
+      within = record {
+        size = omega arith;
+        low = λ j l. not_less (at x j) (low_at (box_of m) j) (sides j l).0;
+        high = λ j l. not_less (high_at (box_of m) j) (at x j) (sides j l).1;
+      };
       rows = by m.rows (first-none (λ i. row_breach x i (slice_get m.rows i)) (length m.rows) both.1);
     }
   where
@@ -80,8 +104,10 @@ none_from m x ok =
     let count : length (box_of m) ≡ length m.columns = length-map m.columns (λ (c : Column). (c.lo, c.hi)) in
     none_of_both (first (column_breach (box_of m) x) (length m.columns)) (first (λ i. row_breach x i (slice_get m.rows i)) (length m.rows))
     (none_first (column_breach (box_of m) x) (length m.columns)
-        (λ j l. rw (less_false (at x j) (low_at (box_of m) j) (ok.within.low j (omega arith)),
-        less_false (high_at (box_of m) j) (at x j) (ok.within.high j (omega arith))) refl))
+    (λ j l. rw (
+      less_false (at x j) (low_at (box_of m) j) (ok.within.low j (omega arith)),
+      less_false (high_at (box_of m) j) (at x j) (ok.within.high j (omega arith)),
+    ) refl))
     (none_first (λ i. row_breach x i (slice_get m.rows i)) (length m.rows) (λ i l. rows_back x m.rows ok.rows i i))
 
 pub breaches_are_exact : BreachesAreExact

@@ -1,6 +1,39 @@
 -- Weak duality over boxes.
-use Rattle.std.specs.Prelude.{◌≡◌, ℕ, zero, suc, ◌+◌, ◌-◌, ◌*◌, ◌/◌, ◌<◌, ◌≤◌, Bool, true, false, List, [], ◌∷◌, length, All, Option, Some,
-    None, IfSome, slice_get, option_map, option_and_then, ℤ, pos, negsuc, ◌+ℤ◌, ◌-ℤ◌, ◌*ℤ◌, ◌≤ℤ◌, cond}
+use Rattle.std.specs.Prelude.{
+  ◌≡◌,
+  ℕ,
+  zero,
+  suc,
+  ◌+◌,
+  ◌-◌,
+  ◌*◌,
+  ◌/◌,
+  ◌<◌,
+  ◌≤◌,
+  Bool,
+  true,
+  false,
+  List,
+  [],
+  ◌∷◌,
+  length,
+  All,
+  Option,
+  Some,
+  None,
+  IfSome,
+  slice_get,
+  option_map,
+  option_and_then,
+  ℤ,
+  pos,
+  negsuc,
+  ◌+ℤ◌,
+  ◌-ℤ◌,
+  ◌*ℤ◌,
+  ◌≤ℤ◌,
+  cond,
+}
 use Rattle.std.proofs.Common.{arith, refl, ap, subst}
 use Rattle.std.proofs.lemmas.Int.{ints, clamps}
 use Rattle.std.proofs.lemmas.Option.{get_or_from_slice_get, slice_get_within}
@@ -13,8 +46,22 @@ use Rattle.std.specs.Int.Signed.{lt_z}
 use Rattle.std.specs.List.{list_any}
 use Rattle.ip_defs.specs.Sums.{sum_below, sum_over}
 use Rattle.ip_defs.specs.Program.{at, coefficient, row_sum, Meets, IsIn, low_at, high_at, cost, costs_of}
-use Rattle.ip_defs.specs.Certificates.{side_for, payment, pay, coefs_of, coefficient_of, reduced, column_part, dual_value, box_sum, ceiling,
-    is_empty_side, bound_by, IsAtMost, WeakDuality}
+use Rattle.ip_defs.specs.Certificates.{
+  side_for,
+  payment,
+  pay,
+  coefs_of,
+  coefficient_of,
+  reduced,
+  column_part,
+  dual_value,
+  box_sum,
+  ceiling,
+  is_empty_side,
+  bound_by,
+  IsAtMost,
+  WeakDuality,
+}
 use Rattle.ip_defs.specs.declared.programs.Row.{Row}
 use Rattle.ip_defs.specs.declared.programs.Parts.{Parts}
 use Rattle.ip_defs.specs.declared.certificates.Bound.TheVariants.{At, Infinite}
@@ -22,7 +69,7 @@ use Rattle.ring_laws.proofs.Products.{add_mul, mul_add, sub_mul, mul_assoc, mul_
 use Rattle.ip_defs.proofs.SumLaws.{sum_same, sum_le, sum_sub, sum_scale, exchange}
 use Rattle.ip_defs.proofs.OrderLaws.{less_false}
 
--- a column adds at least the lesser of its two ends
+-- the lesser of reduced cost times the two bounds is at most reduced cost times the coordinate
 pub lesser_end : (d lo x hi : ℤ) → lo ≤ℤ x → x ≤ℤ hi → int_min (d *ℤ lo) (d *ℤ hi) ≤ℤ (d *ℤ x)
 lesser_end (pos n) lo x hi l h = let p = mul_up n lo x l in omega (arith, ints, clamps)
 lesser_end (negsuc n) lo x hi l h = let p = mul_down n x hi h in omega (arith, ints, clamps)
@@ -41,11 +88,11 @@ sum_over_same f g (y ∷ ys) h =
     let first = h y in
     omega (arith, ints)
 
--- the value of a row by its number
+-- the value of a row at a point, by row number
 abbrev activity : List Row → List ℤ → ℕ → ℤ
 activity rows x i = sum_below (λ j. coefficient_of rows i j *ℤ at x j) (length x)
 
--- one payment is at most the multiplier times the row's value
+-- a payment is at most multiplier times the value of the row
 one_pays : (x : List ℤ) (k : ℤ) (found : Option Row) (v : ℤ) → IfSome found (Meets x) →
     option_map (λ side. k *ℤ side) (option_and_then (side_for k) found) ≡ Some v →
     v ≤ℤ (k *ℤ sum_below (λ j. coefficient (coefs_of found) j *ℤ at x j) (length x))
@@ -73,7 +120,7 @@ meets_at rows x i all = by (slice_get rows i) refl
     by None e = tt
     by (Some r) e = subst (Meets x) (get_or_from_slice_get rows i r r e) (All-get_or (Meets x) rows i r (slice_get_within rows i r e) all)
 
--- all payments together
+-- the sum of all payments
 all_pay : (rows : List Row) (x : List ℤ) (y : List (ℕ × ℤ)) (v : ℤ) → All (Meets x) rows → pay rows y ≡ Some v →
     v ≤ℤ sum_over (λ p. p.1 *ℤ activity rows x p.0) y
 all_pay rows x [] v all e = let is : pos 0 ≡ v = cc in omega (arith, ints)
@@ -90,29 +137,30 @@ all_pay rows x (p ∷ ps) v all e = by (payment rows p) (pay rows ps) refl (λ w
         let is : one +ℤ rest ≡ v = cc in
         omega (arith, ints)
 
--- what the multipliers take from the costs is the multipliers times the rows' values
+-- the reduced costs at a point: q times the costs, less the multipliers times the values of the rows
 taken : (m : Parts) (x : List ℤ) (q : ℤ) (y : List (ℕ × ℤ)) → sum_below (λ j. reduced m q y j *ℤ at x j) (length x)
     ≡ q *ℤ sum_below (λ j. at (costs_of m) j *ℤ at x j) (length x) -ℤ sum_over (λ p. p.1 *ℤ activity m.rows x p.0) y
 taken m x q y =
     let n = length x in
     let F : ℕ × ℤ → ℕ → ℤ = λ p j. p.1 *ℤ (coefficient_of m.rows p.0 j *ℤ at x j) in
-    let each : (j : ℕ) → reduced m q y j *ℤ at x j ≡ q *ℤ (at (costs_of m) j *ℤ at x j) -ℤ sum_over (λ p. F p j) y = λ j.
+    let each : (j : ℕ) → reduced m q y j *ℤ at x j ≡ q *ℤ (at (costs_of m) j *ℤ at x j) -ℤ sum_over (λ p. F p j) y =
+    λ j.
     let apart = sub_mul (q *ℤ at (costs_of m) j) (sum_over (λ p. p.1 *ℤ coefficient_of m.rows p.0 j) y) (at x j) in
     let left = mul_assoc q (at (costs_of m) j) (at x j) in
     let right = sum_over_mul (λ p. p.1 *ℤ coefficient_of m.rows p.0 j) y (at x j) in
     let inner = sum_over_same (λ p. (p.1 *ℤ coefficient_of m.rows p.0 j) *ℤ at x j) (λ p. F p j) y
-            (λ p. mul_assoc p.1 (coefficient_of m.rows p.0 j) (at x j)) in
+    (λ p. mul_assoc p.1 (coefficient_of m.rows p.0 j) (at x j)) in
     omega (arith, ints) in
     let same = sum_same (λ j. reduced m q y j *ℤ at x j) (λ j. q *ℤ (at (costs_of m) j *ℤ at x j)
-            -ℤ sum_over (λ p. F p j) y) n (λ j l. each j) in
+    -ℤ sum_over (λ p. F p j) y) n (λ j l. each j) in
     let split = sum_sub (λ j. q *ℤ (at (costs_of m) j *ℤ at x j)) (λ j. sum_over (λ p. F p j) y) n in
     let scaled = sum_scale q (λ j. at (costs_of m) j *ℤ at x j) n in
     let swapped = exchange F y n in
     let rowwise = sum_over_same (λ p. sum_below (F p) n) (λ p. p.1 *ℤ activity m.rows x p.0) y
-            (λ p. sum_scale p.1 (λ j. coefficient_of m.rows p.0 j *ℤ at x j) n) in
+    (λ p. sum_scale p.1 (λ j. coefficient_of m.rows p.0 j *ℤ at x j) n) in
     omega (arith, ints)
 
--- the dual_value is at most q times the cost
+-- the dual value is at most q times the cost
 pub dual_value_below : (m : Parts) (b : List (ℤ × ℤ)) (q : ℤ) (y : List (ℕ × ℤ)) (x : List ℤ) (g : ℤ) → All (Meets x) m.rows → IsIn b x →
     dual_value m b q y ≡ Some g → g ≤ℤ (q *ℤ cost m x)
 dual_value_below m b q y x g all inside e = by (pay m.rows y) refl e
@@ -124,14 +172,14 @@ dual_value_below m b q y x g all inside e = by (pay m.rows y) refl e
         let is : paid +ℤ (q *ℤ m.constant) +ℤ column_part m b q y ≡ g = cc in
         let pays = all_pay m.rows x y paid all f in
         let columns = sum_le (λ j. int_min (reduced m q y j *ℤ low_at b j) (reduced m q y j *ℤ high_at b j))
-                (λ j. reduced m q y j *ℤ at x j) (length b) (λ j l. lesser_end (reduced m q y j) (low_at b j) (at x j) (high_at b j)
-                (inside.low j l) (inside.high j l)) in
+        (λ j. reduced m q y j *ℤ at x j) (length b) (λ j l. lesser_end (reduced m q y j) (low_at b j) (at x j) (high_at b j)
+        (inside.low j l) (inside.high j l)) in
         let sized = ap (sum_below (λ j. reduced m q y j *ℤ at x j)) inside.size in
         let all_taken = taken m x q y in
         let whole = mul_add q m.constant (sum_below (λ j. at (costs_of m) j *ℤ at x j) (length x)) in
         omega (arith, ints)
 
--- a quotient that is rounded up is at most a number whose multiple is not below
+-- g / (n + 1) rounded up is at most w where g is at most (n + 1) * w
 pub ceiling_below : (g w : ℤ) (n : ℕ) → g ≤ℤ (pos (suc n) *ℤ w) → ceiling g (suc n) ≤ℤ w
 ceiling_below (pos a) (pos k) n h =
     let le : a ≤ suc n * k = omega (arith, ints) in
@@ -147,10 +195,10 @@ ceiling_below (negsuc a) (negsuc k) n h =
     omega (arith, ints)
 
 pub no_empty : (b : List (ℤ × ℤ)) (x : List ℤ) → IsIn b x → list_any is_empty_side b ≡ false
-no_empty b x inside = list_any_none is_empty_side b (All-from_get_or (λ s. is_empty_side s ≡ false) b (pos 0,
-    pos 0) (λ j l. let low = inside.low j l in let high = inside.high j l in less_false (high_at b j) (low_at b j) (omega (arith, ints))))
+no_empty b x inside = list_any_none is_empty_side b (All-from_get_or (λ s. is_empty_side s ≡ false) b (pos 0, pos 0)
+    (λ j l. let low = inside.low j l in let high = inside.high j l in less_false (high_at b j) (low_at b j) (omega (arith, ints))))
 
--- the box sum is at most the cost
+-- the sum of a box is at most the cost
 pub box_sum_below : (m : Parts) (b : List (ℤ × ℤ)) (x : List ℤ) → All (Meets x) m.rows → IsIn b x → box_sum m b ≤ℤ cost m x
 box_sum_below m b x all inside =
     let g = dual_value_below m b (pos 1) [] x (pos 0 +ℤ (pos 1 *ℤ m.constant) +ℤ column_part m b (pos 1) []) all inside refl in

@@ -1,4 +1,4 @@
--- The least number at which something is answered.
+-- The first index at which a function has an answer.
 use Rattle.std.specs.Prelude.{◌≡◌, ℕ, zero, suc, ◌<◌, ◌==◌, Bool, true, false, Option, Some, None}
 use Rattle.std.proofs.Common.{refl, arith, sym, subst}
 use Rattle.std.proofs.lemmas.Bool.{eqb-true, eqb-false}
@@ -13,7 +13,7 @@ pub none_of_both : {A : Type 0} (a b : Option A) → a ≡ None → b ≡ None �
 none_of_both None b e f = f
 none_of_both (Some x) b e f = absurd cc
 
--- nothing is answered
+-- no answer below n
 pub first-none : {A : Type 0} (f : ℕ → Option A) (n : ℕ) → first f n ≡ None → (i : ℕ) → i < n → f i ≡ None
 first-none f zero e i l = absurd (omega arith)
 first-none f (suc n) e i l = by (either_none (first f n) (f n) e) (i == n) refl (λ p l. first-none f n p i l)

@@ -1,6 +1,27 @@
--- Lists: what holds of each element, lists joined, and options without an answer.
-use Rattle.std.specs.Prelude.{◌≡◌, ℕ, zero, suc, ◌+◌, Bool, true, false, cond, List, [], ◌∷◌, ◌++◌, length, filter, find, Option, Some,
-    None, option_map, slice_get}
+-- Lists: properties of each element, concatenated lists, and options that are none.
+use Rattle.std.specs.Prelude.{
+  ◌≡◌,
+  ℕ,
+  zero,
+  suc,
+  ◌+◌,
+  Bool,
+  true,
+  false,
+  cond,
+  List,
+  [],
+  ◌∷◌,
+  ◌++◌,
+  length,
+  filter,
+  find,
+  Option,
+  Some,
+  None,
+  option_map,
+  slice_get,
+}
 use Rattle.std.specs.List.{enumerate_from}
 use Rattle.std.specs.Option.{option_or}
 use Rattle.std.proofs.Common.{refl, ap, ◌∙◌, subst, arith}
@@ -33,14 +54,14 @@ pub each_numbered : {A : Type 0} (P : A → Type 0) (n : ℕ) (xs : List A) → 
 each_numbered P n [] all = tt
 each_numbered P n (x ∷ xs) all = (all.0, each_numbered P (n + 1) xs all.1)
 
--- ---- lists joined
+-- ---- concatenated lists
 
 -- both parts of an empty list are empty
 pub none_append : {A : Type 0} (xs ys : List A) → xs ++ ys ≡ [] → (xs ≡ []) × (ys ≡ [])
 none_append [] ys e = (refl, e)
 none_append (x ∷ xs) ys e = absurd cc
 
--- a test that adds nothing is false
+-- a test that selects nothing is false
 pub none_when : {A : Type 0} (t : Bool) (x : A) → when t x ≡ [] → t ≡ false
 none_when true x e = absurd cc
 none_when false x e = refl
@@ -55,7 +76,7 @@ filter-append test [] ys = refl
 filter-append test (x ∷ xs) ys =
     let rest = filter-append test xs ys in
     let P : Bool → Type 0 = λ b. cond b (x ∷ filter test (xs ++ ys)) (filter test (xs ++ ys))
-            ≡ cond b (x ∷ filter test xs) (filter test xs) ++ filter test ys in
+    ≡ cond b (x ∷ filter test xs) (filter test xs) ++ filter test ys in
     elim (test x) as P [ true ↦ ap (λ l. x ∷ l) rest | false ↦ rest ]
 
 pub find-append : {A : Type 0} (test : A → Bool) (xs ys : List A) → find test (xs ++ ys) ≡ option_or (find test xs) (find test ys)
@@ -77,7 +98,7 @@ pub or_none : {A : Type 0} (o : Option A) → option_or o None ≡ o
 or_none None = refl
 or_none (Some x) = refl
 
--- what is mapped to no answer is none
+-- an option that is mapped to none is none
 pub unmapped : {A B : Type 0} (f : A → B) (o : Option A) → option_map f o ≡ None → o ≡ None
 unmapped f None e = refl
 unmapped f (Some x) e = absurd cc

@@ -1,4 +1,4 @@
--- Laws of sums.
+-- Laws of sums of whole numbers.
 use Rattle.std.specs.Prelude.{◌≡◌, ℕ, zero, suc, ◌<◌, List, [], ◌∷◌, ℤ, pos, ◌+ℤ◌, ◌-ℤ◌, ◌*ℤ◌, ◌≤ℤ◌}
 use Rattle.std.proofs.Common.{arith, refl}
 use Rattle.std.proofs.lemmas.Int.{ints}

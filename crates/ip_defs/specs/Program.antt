@@ -1,18 +1,41 @@
--- Integer programs: points, rows, boxes, feasible points, costs, least points and values. Coefficients, costs and sides are whole
--- numbers in their units; what is not written is 0.
-use Rattle.std.specs.Prelude.{◌≡◌, ℕ, ◌<◌, ◌==◌, Bool, false, if◌then◌else◌, List, [], ◌∷◌, length, map, All, Option, Some, None, IfSome,
-    slice_index_or, ℤ, pos, ◌+ℤ◌, ◌*ℤ◌, ◌≤ℤ◌}
+-- Integer programs: points, rows, boxes, feasible points, costs, optimal points and optimal values. Coefficients, costs and sides are
+-- whole numbers in their units; a coefficient that is not listed is 0.
+use Rattle.std.specs.Prelude.{
+  ◌≡◌,
+  ℕ,
+  ◌<◌,
+  ◌==◌,
+  Bool,
+  false,
+  if◌then◌else◌,
+  List,
+  [],
+  ◌∷◌,
+  length,
+  map,
+  All,
+  Option,
+  Some,
+  None,
+  IfSome,
+  slice_index_or,
+  ℤ,
+  pos,
+  ◌+ℤ◌,
+  ◌*ℤ◌,
+  ◌≤ℤ◌,
+}
 use Rattle.std.specs.Int.Signed.{lt_z}
 use Rattle.std.specs.Option.{option_map_or}
 use Rattle.ip_defs.specs.Sums.{sum_below}
 use Rattle.ip_defs.specs.declared.programs.Row.{Row}
 use Rattle.ip_defs.specs.declared.programs.Parts.{Parts}
 
--- a coordinate of a point, 0 past its end
+-- the coordinate of a point at an index, 0 past its end
 abbrev pub at : List ℤ → ℕ → ℤ
 at x j = slice_index_or x j (pos 0)
 
--- what is written for a column, and 0 where nothing is
+-- the coefficient of a column: the sum of what is listed for it, 0 where nothing is
 abbrev pub coefficient : List (ℕ × ℤ) → ℕ → ℤ
 coefficient [] j = pos 0
 coefficient (p ∷ ps) j = if p.0 == j then p.1 +ℤ coefficient ps j else coefficient ps j
@@ -21,55 +44,55 @@ coefficient (p ∷ ps) j = if p.0 == j then p.1 +ℤ coefficient ps j else coeff
 abbrev pub row_sum : List (ℕ × ℤ) → List ℤ → ℤ
 row_sum coefs x = sum_below (λ j. coefficient coefs j *ℤ at x j) (length x)
 
--- a row's sides, where it has them, hold at a point
+-- a point satisfies a row: each side that the row has holds for its value
 pub record Meets (x : List ℤ) (r : Row) : Type 0 where
   pub low : IfSome r.low (λ side. side ≤ℤ row_sum r.coefs x)
   pub high : IfSome r.high (λ side. row_sum r.coefs x ≤ℤ side)
 
--- its low side is above its high side
+-- a row is crossed: its low side is above its high side, so no point satisfies it
 abbrev pub is_crossed : Row → Bool
 is_crossed r = option_map_or (λ low. option_map_or (λ high. lt_z high low) r.high false) r.low false
 
--- the box of a program: the two sides of each column
+-- the box of a program: the two bounds of each column
 abbrev pub box_of : Parts → List (ℤ × ℤ)
 box_of m = map (λ c. (c.lo, c.hi)) m.columns
 
--- the costs of its columns
+-- the costs of the columns of a program
 abbrev pub costs_of : Parts → List ℤ
 costs_of m = map (λ c. c.cost) m.columns
 
--- the lower and the upper side of a box by column number
+-- the lower and the upper bound of a column in a box, by column number
 abbrev pub low_at : List (ℤ × ℤ) → ℕ → ℤ
 low_at b j = (slice_index_or b j (pos 0, pos 0)).0
 
 abbrev pub high_at : List (ℤ × ℤ) → ℕ → ℤ
 high_at b j = (slice_index_or b j (pos 0, pos 0)).1
 
--- a point lies in a box: one coordinate for each column, between its sides
+-- a point lies in a box: one coordinate for each column, between the bounds of the column
 pub record IsIn (b : List (ℤ × ℤ)) (x : List ℤ) : Type 0 where
   pub size : length x ≡ length b
   pub low : (j : ℕ) → j < length b → low_at b j ≤ℤ at x j
   pub high : (j : ℕ) → j < length b → at x j ≤ℤ high_at b j
 
--- a feasible point lies in the box of the program and meets each row
+-- a feasible point lies in the box of the program and satisfies each row
 pub record IsFeasible (m : Parts) (x : List ℤ) : Type 0 where
   pub within : IsIn (box_of m) x
   pub rows : All (Meets x) m.rows
 
--- what a point costs: the constant, and the sum over the columns of cost times coordinate
+-- the cost of a point: the constant, and the sum over the columns of cost times coordinate
 abbrev pub cost : Parts → List ℤ → ℤ
 cost m x = m.constant +ℤ sum_below (λ j. at (costs_of m) j *ℤ at x j) (length x)
 
--- a least point: it is feasible, and no feasible point costs less
+-- a point is optimal: it is feasible, and no feasible point costs less
 pub record IsLeast (m : Parts) (x : List ℤ) : Type 0 where
   pub feasible : IsFeasible m x
   pub least : (y : List ℤ) → IsFeasible m y → cost m x ≤ℤ cost m y
 
--- no point is feasible
+-- a program is infeasible: no point is feasible
 abbrev pub IsEmpty : Parts → Type 0
 IsEmpty m = (x : List ℤ) → ¬ IsFeasible m x
 
--- the value of a program: the cost of a least point, or none where no point is feasible
+-- the optimal value of a program: the cost of an optimal point, or none where the program is infeasible
 abbrev pub IsValue : Parts → Option ℤ → Type 0
 IsValue m None = IsEmpty m
 IsValue m (Some v) = (x : List ℤ) × IsLeast m x × (cost m x ≡ v)

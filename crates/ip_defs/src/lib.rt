@@ -1,4 +1,4 @@
-//! The data of integer programs, and the definitions that every contract of the product speaks of.
+//! The data of integer programs, and the definitions that the contracts of all other crates use.
 //!
 //! The types are plain: contracts see their fields, a list type as its list and a name as its bytes. The definitions in `specs/`
 //! are what a reader must believe; the laws in `proofs/` are checked.

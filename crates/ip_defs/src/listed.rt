@@ -1,10 +1,12 @@
+//! Lists that contracts see as plain lists, and the list types of programs.
+
 ghost use Rattle.std.specs.Prelude.{◌≡◌, ◌<◌, ◌++◌, ◌∷◌, [], length, OnOk, OnErr, slice_set};
 
 use crate::{Column, Row};
 use std::alloc::AllocError;
 use std::marker::Model;
 
-/// A growing list that contracts see as the list of its elements, without the room that it has reserved.
+/// A growable list that contracts see as the list of its elements, without its capacity.
 #[derive(Debug, Drop)]
 pub struct Listed<T> {
     items: Vec<T>,
@@ -22,14 +24,14 @@ impl<T> Model for Listed<T> {
 }
 
 impl<T> Listed<T> {
-    /// The list of the elements of a vector. Takes no memory.
+    /// Makes a list of a vector's elements. Allocates nothing.
     pub fn from_vec(items: Vec<T>) -> Listed<T>
         ensures { result ≡ items.items }
     {
         Listed { items }
     }
 
-    /// Gives the vector back. Takes no memory.
+    /// Returns the vector of the elements. Allocates nothing.
     pub fn into_vec(self) -> Vec<T>
         ensures { result.items ≡ self }
     {
@@ -44,7 +46,7 @@ impl<T> Listed<T> {
         self.items.as_slice()
     }
 
-    /// Adds an element at the end. Where memory is wanting the list stays as it was.
+    /// Appends an element. If there is no memory for it, the list is unchanged.
     pub fn push(&mut self, item: T) -> Result<(), AllocError>
     where
         T: Drop,
@@ -57,7 +59,7 @@ impl<T> Listed<T> {
 }
 
 impl<T: Drop> Listed<T> {
-    /// Puts an element in place of another.
+    /// Replaces the element at an index of the list.
     pub fn set(&mut self, at: usize, item: T)
         requires { at < length self.old }
         ensures { self.new ≡ slice_set self.old at item }
@@ -66,20 +68,20 @@ impl<T: Drop> Listed<T> {
     }
 }
 
-/// A point: one whole number for each column.
+/// A point: one integer for each column, in the order of the columns.
 pub type Point = Listed<i64>;
 
-/// Coefficients of a row: pairs of a column number and a coefficient in the units of the row.
+/// The nonzero coefficients of a row: pairs of a column number and a coefficient, in units of the row.
 pub type Coefs = Listed<(u32, i64)>;
 
-/// Multipliers of a certificate: pairs of a row number and a multiplier.
+/// The nonzero multipliers of a certificate: pairs of a row number and a multiplier.
 pub type Multipliers = Listed<(u32, i64)>;
 
-/// A box: a pair of a lower and an upper side for each column.
+/// A box: for each column the pair of its lower and its upper bound, `(lo, hi)`.
 pub type Area = Listed<(i64, i64)>;
 
-/// The columns of a program, by number.
+/// The columns of a program; a column's number is its index.
 pub type ColumnList = Listed<Column>;
 
-/// The rows of a program, by number.
+/// The rows of a program; a row's number is its index.
 pub type RowList = Listed<Row>;

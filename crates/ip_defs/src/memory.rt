@@ -1,8 +1,10 @@
+//! The error that says that memory ran out.
+
 use std::alloc::{AllocError, AllocFailed};
 use std::error::Error;
 use std::fmt;
 
-/// Memory was wanting. Nothing is said of when it comes.
+/// Out of memory. No contract says when it comes.
 #[derive(Clone, Copy, Debug, PartialEq, Eq)]
 pub struct Memory;
 

@@ -1,9 +1,11 @@
+//! Names, which contracts see as their bytes.
+
 ghost use Rattle.std.specs.Prelude.{◌≡◌, string_bytes};
 
 use std::fmt;
 use std::marker::Model;
 
-/// A name of a column, a row or a file, seen as its bytes.
+/// The name of a column, a row or a file. Contracts see it as its UTF-8 bytes.
 #[derive(Debug, Drop)]
 pub struct Name {
     text: String,
@@ -18,7 +20,7 @@ impl Model for Name {
 }
 
 impl Name {
-    /// The name of a text. Takes no memory.
+    /// Makes a name of a text. Allocates nothing.
     pub fn new(text: String) -> Name
         ensures { result ≡ string_bytes text }
     {

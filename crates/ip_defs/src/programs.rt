@@ -1,8 +1,11 @@
+//! Integer programs: columns, rows, objective, and what a point can violate.
+
 ghost use Rattle.ip_defs.specs.Breaches.{BreachesAreExact};
 
 use crate::{Coefs, ColumnList, Name, RowList};
 
-/// A column: an integer variable with its cost, in units of the costs, and its two sides, which are whole.
+/// A column: an integer variable with its cost, in units of the costs, and its lower and upper bound. With `lo > hi` the program
+/// has no feasible point.
 #[derive(Debug, Drop)]
 pub struct Column {
     pub name: Name,
@@ -11,7 +14,8 @@ pub struct Column {
     pub hi: i64,
 }
 
-/// A row: its coefficients by column number, and the sides that it has. Coefficients and sides stand in units of 10^-decimals.
+/// A row: `low <= coefficients * point <= high`, where a side that is None does not bind. Coefficients and sides are whole numbers
+/// in units of 10^-decimals.
 #[derive(Debug, Drop)]
 pub struct Row {
     pub name: Name,
@@ -21,8 +25,8 @@ pub struct Row {
     pub high: Option<i64>,
 }
 
-/// A whole integer program: least cost over the points of a box that meet each row. Costs and constant stand in units of
-/// 10^-cost_decimals.
+/// An integer program: minimize constant plus costs over the points of the box that satisfy every row. Costs and constant are whole
+/// numbers in units of 10^-cost_decimals.
 #[derive(Debug, Drop)]
 pub struct Parts {
     pub objective: Name,
@@ -32,14 +36,14 @@ pub struct Parts {
     pub rows: RowList,
 }
 
-/// The column or row, by number, whose sides a point breaks.
+/// The column whose bounds a point violates, or the row whose sides it violates, by number.
 #[derive(Clone, Copy, Debug, PartialEq, Eq)]
 pub enum Breach {
     Column(u32),
     Row(u32),
 }
 
-/// A point with one coordinate for each column has no breach exactly where it is feasible.
+/// Law: a point with one coordinate for each column has no breach exactly where it is feasible.
 pub fn breaches_are_exact()
     ensures { BreachesAreExact }
 {}

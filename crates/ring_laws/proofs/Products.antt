@@ -1,4 +1,4 @@
--- Products of whole numbers: what `omega (arith, ints)` does not know of them.
+-- Laws of products of whole numbers, which `omega (arith, ints)` does not know.
 use Rattle.std.specs.Prelude.{◌≡◌, ℤ, pos, negsuc, ◌+ℤ◌, ◌-ℤ◌, ◌*ℤ◌, ◌≤ℤ◌, ℕ, ◌≤◌, ◌+◌, ◌*◌}
 use Rattle.std.proofs.Common.{arith, ap}
 use Rattle.std.proofs.lemmas.Int.{ints}
@@ -47,7 +47,7 @@ mul_assoc a b c =
     let w' = ap (λ n. down a * n) q.1 in
     omega (arith, ints)
 
--- a product keeps the order by a factor that is not negative, and turns it by a negative one
+-- a factor that is not negative keeps the order, and a negative factor reverses it
 pub mul_up : (n : ℕ) (b c : ℤ) → b ≤ℤ c → (pos n *ℤ b) ≤ℤ (pos n *ℤ c)
 mul_up n b c h =
     let p : up b + down c ≤ up c + down b = omega (arith, ints) in

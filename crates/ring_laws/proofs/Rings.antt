@@ -1,4 +1,4 @@
--- A commutative ring that the whole numbers are mapped into, as a record of operations and laws.
+-- Commutative rings with a map from the whole numbers: a record of operations and laws, and what follows from them.
 use Rattle.std.specs.Prelude.{◌≡◌, ℤ, pos, negsuc, neg_ℤ, ◌+ℤ◌, ◌-ℤ◌, ◌*ℤ◌}
 use Rattle.std.proofs.Common.{arith, refl, ap, sym, ◌∙◌}
 use Rattle.std.proofs.lemmas.Int.{ints}
@@ -88,7 +88,7 @@ module _ (R : Ring) where
   pub mul_four : (a b c d : carrier) → (a *r b) *r (c *r d) ≡ (a *r c) *r (b *r d)
   mul_four a b c d = mul_assoc a b (c *r d) ∙ ap (λ z. a *r z) (mul_swap b c d) ∙ sym (mul_assoc a c (b *r d))
 
-  -- a summand is cancelled
+  -- an equal summand cancels
   pub add_cancel : (a b c : carrier) → a +r c ≡ b +r c → a ≡ b
   add_cancel a b c e = sym (back a) ∙ ap (λ z. z +r neg c) e ∙ back b
     where

@@ -1,5 +1,5 @@
 //! The run of the simplex from the start to its answer.
-ghost use Rattle.std.specs.Prelude.{◌≡◌, ◌≤◌, ◌+◌, false, length, IfOk, OnOk, OnErr, None, Ok, Err};
+ghost use Rattle.std.specs.Prelude.{◌≡◌, ◌≤◌, ◌+◌, ◌-◌, false, length, IfOk, OnOk, OnErr, None, Ok, Err};
 ghost use Rattle.std.specs.List.{list_any};
 ghost use Rattle.ip_defs.specs.Certificates.{is_empty_side};
 ghost use Rattle.ip_model.specs.Sizes.{first_crossed};
@@ -63,7 +63,7 @@ fn solve<L: Ledger>(
     requires size { length area.now ≡ length model.now.columns }
     requires proper { list_any is_empty_side area.now ≡ false }
     requires uncrossed { first_crossed model.now ≡ None }
-    ensures answer { IfOk result (λ r. IsLpAnswer model.now area.now pivots r.0) }
+    ensures answer { IfOk result (λ r. IsLpAnswer model.now area.now (steps.new - steps.old) r.0) }
     ensures rises { steps.old ≤ steps.new }
     ensures steps { steps.new ≤ steps.old + pivots }
     ensures stopped { IfOk result (λ r. r.0 ≡ Stopped → steps.new ≡ steps.old + pivots) }
@@ -107,7 +107,7 @@ pub fn solve_lp<L: Ledger>(
     requires size { length area.now ≡ length model.now.columns }
     requires proper { list_any is_empty_side area.now ≡ false }
     requires uncrossed { first_crossed model.now ≡ None }
-    ensures answer { IfOk result (IsLpAnswer model.now area.now pivots) }
+    ensures answer { IfOk result (IsLpAnswer model.now area.now (steps.new - steps.old)) }
     ensures rises { steps.old ≤ steps.new }
     ensures steps { steps.new ≤ steps.old + pivots }
     ensures stopped { IfOk result (λ a. a ≡ Stopped → steps.new ≡ steps.old + pivots) }

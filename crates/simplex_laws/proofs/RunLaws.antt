@@ -15,7 +15,7 @@ use Rattle.tableau.proofs.TableLaws.{with_rows, with_rows-table, pivot_stands, p
 use Rattle.simplex_laws.specs.declared.next.Next.{Next}
 use Rattle.simplex_laws.specs.declared.next.Next.TheVariants.{Pivot, Flip, FinalRow, FinalPoint}
 use Rattle.simplex_laws.specs.Steps.{next, is_final}
-use Rattle.simplex_laws.specs.Runs.{step, after, IsNotFinal}
+use Rattle.simplex_laws.specs.Runs.{step, after, IsNotFinal, IsReached}
 use Rattle.simplex_laws.specs.Laws.{CanPivot, CanFlip, CanStep, IsTableOf, RunsStand, FinalsStay, RunsHaveBegun}
 use Rattle.simplex_laws.proofs.StepLaws.{steps_can_be_made}
 
@@ -67,6 +67,18 @@ after_next m b n T e = ap (λ (o : Result Table Wide). and_then o (λ T. step T 
 pub after_one_more : (m : Parts) (b : List (ℤ × ℤ)) (n : ℕ) (T U : Table) (s : Next) → after m b n ≡ Ok T → next T ≡ s → step T s ≡ Ok U →
     after m b (n + 1) ≡ Ok U
 after_one_more m b n T U s e f g = let q : n + 1 ≡ suc n = omega arith in ap (after m b) q ∙ after_next m b n T e ∙ ap (step T) f ∙ g
+
+-- the simplex comes from a tableau that is not final to the one after a step
+pub reached_one_more : (m : Parts) (b : List (ℤ × ℤ)) (n : ℕ) (T U : Table) (s : Next) → IsReached m b n T → next T ≡ s
+    → is_final s ≡ false → step T s ≡ Ok U → IsReached m b (n + 1) U
+reached_one_more m b n T U s here is unfinished made = record {
+  after = after_one_more m b n T U s here.after is made;
+  unfinished = λ k l. let within : k ≤ n = omega arith in by k (eq-or-lt_of_le within);
+}
+  where
+    by : (k : ℕ) → (k ≡ n) ⊎ (k < n) → IsNotFinal m b k
+    by k (inl q) = record { tableau = T; after = ap (after m b) q ∙ here.after; unfinished = ap is_final is ∙ unfinished }
+    by k (inr q) = here.unfinished k q
 
 -- where there is a tableau after a step, there was one before it
 pub after_before : (m : Parts) (b : List (ℤ × ℤ)) (n : ℕ) (U : Table) → after m b (suc n) ≡ Ok U → (T : Table) × (after m b n ≡ Ok T)

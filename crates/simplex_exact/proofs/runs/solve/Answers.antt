@@ -1,6 +1,7 @@
-use Rattle.std.proofs.Common.{arith, rules, ◌≡◌, ◌<◌, ◌+◌, ◌∙◌, sym, ap, subst, length, List, Ok}
+use Rattle.std.proofs.Common.{arith, rules, ◌≡◌, ◌<◌, ◌+◌, ◌-◌, ◌∙◌, sym, ap, subst, length, List, Ok}
 use Rattle.frac128.specs.Fractions.{Fraction}
 use Rattle.tableau.specs.Tables.{at}
+use Rattle.simplex_exact.specs.Answers.{IsLpAnswer}
 use Rattle.simplex_exact.specs.Internal.Numbers.{IsNumber}
 use Rattle.simplex_exact.specs.Internal.Reads.{IsRead}
 use Rattle.simplex_exact.proofs.ScanLaws.{written_back}
@@ -9,8 +10,8 @@ use Rattle.ip_defs.specs.declared.programs.Column.{Column}
 use Rattle.ip_defs.specs.declared.programs.Row.{Row}
 use Rattle.simplex_laws.specs.Laws.{CanStep, IsTableOf}
 use Rattle.simplex_laws.specs.Runs.{after, step}
-use Rattle.simplex_laws.specs.Wides.{wide_step, wide_number}
-use Rattle.simplex_laws.proofs.RunLaws.{runs_stand, after_one_more}
+use Rattle.simplex_laws.specs.Wides.{IsWideAfter, wide_step, wide_number}
+use Rattle.simplex_laws.proofs.RunLaws.{runs_stand, reached_one_more}
 use Rattle.simplex_laws.proofs.StepLaws.{steps_can_be_made}
 use Rattle.simplex_exact.proofs.AnswerLaws.{read_is}
 use Rattle.simplex_laws.proofs.UncrossedLaws.{uncrossed}
@@ -30,7 +31,7 @@ loop-next-init g c =
     record {
       within = omega arith;
       steps = omega arith;
-      after = reached;
+      reached = record { after = reached; unfinished = λ k l. absurd (omega arith) };
       node = node;
       places = search rules;
       values = search rules;
@@ -52,8 +53,10 @@ choose-requires-clause-small g c =
     omega arith
 
 pub returns-in-Err-clause-answer : goal.returns-in-Err-clause-answer
-returns-in-Err-clause-answer g c = wide_number c.loop-next.taken c.loop-next.tableau c.loop-next.invariant.within
-    c.loop-next.invariant.after c.in-Err.ensures.wide
+returns-in-Err-clause-answer g c =
+    let rose : c.loop-next.taken ≡ c.loop-next.steps - c.args.steps.now = omega arith in
+    subst (IsWideAfter c.args.model.now c.args.area.now) rose
+        (wide_number c.loop-next.tableau c.loop-next.invariant.reached c.in-Err.ensures.wide)
 
 pub read-requires-clause-count : goal.read-requires-clause-count
 read-requires-clause-count g c =
@@ -86,12 +89,14 @@ returns-then-ends-clause-answer g c =
             ∙ ap (λ (m : Parts). length m.rows) c.parts-parts.ensures.parts in
     let columns : length c.as_slice.result.now ≡ length m.columns = ap (λ (xs : List Column). length xs) c.as_slice.ensures
             ∙ ap (λ (m : Parts). length m.columns) c.parts-parts.ensures.parts in
-    read_is m b c.loop-next.taken c.args.pivots c.loop-next.tableau c.parts-parts.ensures.limits c.requires.size
-        (uncrossed m b c.requires.size c.requires.proper c.requires.uncrossed)
-    c.loop-next.invariant.within c.loop-next.invariant.after c.in-Ok.next c.in_ok-answer.answer c.in-Ok.ensures.next
-        (subst (λ n. IsRead c.loop-next.tableau (length m.columns) n c.in-Ok.next c.in_ok-answer.answer) rows
-        (subst (λ n. IsRead c.loop-next.tableau n (length c.as_slice-2.result.now) c.in-Ok.next c.in_ok-answer.answer) columns
-        c.in_ok-answer.ensures))
+    let read = subst (λ n. IsRead c.loop-next.tableau (length m.columns) n c.in-Ok.next c.in_ok-answer.answer) rows
+            (subst (λ n. IsRead c.loop-next.tableau n (length c.as_slice-2.result.now) c.in-Ok.next c.in_ok-answer.answer) columns
+            c.in_ok-answer.ensures) in
+    let answer = read_is m b c.loop-next.taken c.loop-next.tableau c.parts-parts.ensures.limits c.requires.size
+            (uncrossed m b c.requires.size c.requires.proper c.requires.uncrossed) c.loop-next.invariant.reached c.in-Ok.next
+            c.in_ok-answer.answer c.in-Ok.ensures.next read in
+    let rose : c.loop-next.taken ≡ c.loop-next.steps - c.args.steps.now = omega arith in
+    subst (λ n. IsLpAnswer m b n c.in_ok-answer.answer) rose answer
 
 pub take-requires-clause-step : goal.take-requires-clause-step
 take-requires-clause-step g c =
@@ -104,16 +109,16 @@ loop-next-preserved g c =
     let m = c.args.model.now in
     let b = c.args.area.now in
     let T = c.loop-next.tableau in
-    let reached = after_one_more m b c.loop-next.taken T c.take.new.tableau c.in-Ok.next c.loop-next.invariant.after
-            (sym c.in-Ok.ensures.next) c.in-Ok-take.ensures.taken in
-    let node : IsTableOf m b c.take.new.tableau = runs_stand m b (c.loop-next.taken
-            + 1) c.take.new.tableau c.parts-parts.ensures.limits c.requires.size reached in
+    let reached = reached_one_more m b c.loop-next.taken T c.take.new.tableau c.in-Ok.next c.loop-next.invariant.reached
+            (sym c.in-Ok.ensures.next) (sym c.if-ends.ensures) c.in-Ok-take.ensures.taken in
+    let node : IsTableOf m b c.take.new.tableau = runs_stand m b (c.loop-next.taken + 1) c.take.new.tableau
+            c.parts-parts.ensures.limits c.requires.size reached.after in
     let size = node.stands.size in
     let size_before = c.loop-next.invariant.node.stands.size in
     record {
       within = omega arith;
       steps = omega (arith, c.in-Ok-take.ensures.steps);
-      after = reached;
+      reached = reached;
       node = node;
       places = ap length (written_back c.loop-next.places.len c.choose.new.places c.loop-next.places.items (omega arith)) ∙ omega arith;
       values = ap length (written_back c.loop-next.values.len c.choose.new.values c.loop-next.values.items (omega arith)) ∙ omega arith;
@@ -121,6 +126,6 @@ loop-next-preserved g c =
 
 pub returns-in-Err-take-clause-answer : goal.returns-in-Err-take-clause-answer
 returns-in-Err-take-clause-answer g c =
-    let below : c.loop-next.taken < c.args.pivots = omega arith in
-    wide_step c.loop-next.taken c.loop-next.tableau below c.loop-next.invariant.after
+    let rose : c.take.new.steps - c.args.steps.now ≡ c.loop-next.taken + 1 = omega (arith, c.in-Err-take.ensures.steps) in
+    wide_step c.loop-next.taken c.loop-next.tableau rose c.loop-next.invariant.reached
         (ap (step c.loop-next.tableau) (sym c.in-Ok.ensures.next) ∙ c.in-Err-take.ensures.wide)

@@ -1,13 +1,13 @@
-use Rattle.std.proofs.Common.{◌≡◌, ◌+◌, ◌-◌, ◌≤◌, length, Ok}
+use Rattle.std.proofs.Common.{◌≡◌, ◌+◌, ◌-◌, ◌≤◌, length}
 use Rattle.simplex_laws.specs.Laws.{IsTableOf}
-use Rattle.simplex_laws.specs.Runs.{after}
+use Rattle.simplex_laws.specs.Runs.{IsReached}
 use Rattle.simplex_exact.proofs.runs.solve.Given as goal
 
 abbrev pub invariant-loop-next : goal.invariant-loop-next
 invariant-loop-next g l = record {
   within : l.taken ≤ l.pivots;
   steps : l.steps ≡ l.fn.steps + l.taken;
-  after : after l.model l.area l.taken ≡ Ok l.tableau;
+  reached : IsReached l.model l.area l.taken l.tableau;
   node : IsTableOf l.model l.area l.tableau;
   places : length l.places.items ≡ length l.tableau.variables;
   values : length l.values.items ≡ length l.tableau.variables;

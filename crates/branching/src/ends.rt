@@ -82,7 +82,7 @@ fn ray_of(
     requires single { IsSingle area.now }
     requires broken { BreaksRow model.now (lowest area.now) row }
     requires room { FitsScratch model.now scratch.old }
-    ensures ray { IfOk result (IsCert 1024) }
+    ensures ray { IfOk result (IsCert (length model.now.rows)) }
     ensures infinite { IfOk result (λ c. leaf_bound_of model.now area.now c ≡ Bound.Infinite) }
     ensures room { room_of scratch.new ≡ room_of scratch.old }
 {

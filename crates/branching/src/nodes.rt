@@ -99,6 +99,7 @@ fn visit_wide<L: Ledger>(
     requires room { FitsScratch model.now search.old.scratch }
     ensures visited { IfOk result (IsVisited model.now limits depth area.now search.old.nodes search.new.found) }
     ensures least { IfOk result (λ v. steps.old + stops_at v * limits.pivots ≤ steps.new) }
+    ensures rises { steps.old ≤ steps.new }
     ensures most { steps.new ≤ steps.old + limits.pivots }
     ensures sound { IsSound model.now search.new.found }
     ensures improves { Improves search.old.found search.new.found }
@@ -136,6 +137,7 @@ pub fn visit_node<L: Ledger>(
     requires room { FitsScratch model.now search.old.scratch }
     ensures visited { IfOk result (IsVisited model.now limits depth area.now search.old.nodes search.new.found) }
     ensures least { IfOk result (λ v. steps.old + stops_at v * limits.pivots ≤ steps.new) }
+    ensures rises { steps.old ≤ steps.new }
     ensures most { steps.new ≤ steps.old + limits.pivots }
     ensures sound { IsSound model.now search.new.found }
     ensures improves { Improves search.old.found search.new.found }

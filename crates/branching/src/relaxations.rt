@@ -164,6 +164,7 @@ pub fn relax<L: Ledger>(
     requires room { FitsScratch model.now search.old.scratch }
     ensures relaxed { IfOk result (IsRelaxedNode model.now pivots area.now search.new.found) }
     ensures least { IfOk result (λ r. steps.old + stops_by r * pivots ≤ steps.new) }
+    ensures rises { steps.old ≤ steps.new }
     ensures most { steps.new ≤ steps.old + pivots }
     ensures sound { IsSound model.now search.new.found }
     ensures improves { Improves search.old.found search.new.found }

@@ -70,6 +70,7 @@ fn grow<L: Ledger>(
         search.old.found search.new.found (plain_open g.tree) g.stop) }
     ensures counted { IfOk result (λ g. IsCounted limits (stopped_in (plain_open g.tree)) (node_count (plain_open g.tree))
         steps.old steps.new) }
+    ensures rises { steps.old ≤ steps.new }
     ensures restored { OnOk result (area.new ≡ area.old) }
     ensures room { OnOk result (FitsScratch model.now search.new.scratch) }
 {
@@ -147,6 +148,7 @@ fn search_box<L: Ledger>(
     ensures right { IfOk result (IsRightOutcome model.now limits) }
     ensures stuck { IfOk result HasOneStuck }
     ensures counted { IfOk result (λ o. IsCounted limits (stopped_of o) (nodes_of o) steps.old steps.new) }
+    ensures rises { steps.old ≤ steps.new }
 {
     let mut area = box_of(alloc, model)?;
     let mut search = Progress {
@@ -193,6 +195,7 @@ pub fn solve<L: Ledger>(
     ensures ends { IfOk result (λ o. AreAmple model.now limits → IsAnswer o) }
     ensures counts { IfOk result (AreCountsWithin limits) }
     ensures counted { IfOk result (λ o. IsCounted limits (stopped_of o) (nodes_of o) steps.old steps.new) }
+    ensures rises { steps.old ≤ steps.new }
 {
     search_box(alloc, model, limits, steps)
 }

@@ -36,7 +36,6 @@ unanswered g c =
     let within : j < length b = c.requires.widest.within in
     let area = c.requires.area.area in
     let size : length b ≡ length m.columns = area.size in
-    let few : length b ≤ 4096 = omega (arith, size, c.requires.limits.column_count) in
     let own : IsArea (length b) b = subst (λ (n : ℕ). IsArea n b) (sym size) area in
     let small_low = own.low j within in
     let small_high = own.high j within in
@@ -46,7 +45,7 @@ unanswered g c =
     let back : to_z w64 (of_z w64 c.middle-at.result) ≡ c.middle-at.result = search rules in
     let reason : IsUnanswered m c.args.limits.pivots b why = rw c.in-Unanswered.is at c.in_ok-cert.ensures.relaxed in
     let halved : IsSplit m c.args.limits.pivots b j (middle (low_at b j) (high_at b j)) why =
-    middle_splits m c.args.limits.pivots b j why own few c.requires.open c.requires.widest c.requires.wide reason in
+    middle_splits m c.args.limits.pivots b j why own size c.requires.open c.requires.widest c.requires.wide reason in
     (rw (back, is) at (c.split_at-in-Unanswered.ensures m b c.relax.new.search.found)) halved
 
 pub returns-in-Between-clause-visited : goal.returns-in-Between-clause-visited

@@ -62,8 +62,8 @@ module _ (m : Parts) (b : List (ℤ × ℤ)) (xs : List Fraction) (c : Cert) (h 
             certificate = h.certificate;
             positive = h.positive;
             dual = h.dual;
-            above = floor_below p cut least most broken;
-            below = below_next p cut least most broken;
+            more_than_cut = floor_below p cut least most broken;
+            less_than_next = below_next p cut least most broken;
           },
         );
         column = l';

@@ -76,7 +76,7 @@ IsStuckNode n = ⊥
 abbrev pub IsStuckAt : ℕ → OpenPlace → Type 0
 IsStuckAt d p = IsStuckNode p.node × (p.depth ≡ d)
 
--- the limit that stopped the search: a stuck node stands at the greatest depth; or none does, and there is no room for two more nodes
+-- the limit that stopped the search: a stuck node stands at the greatest depth; or none does, and two more nodes would exceed the limit
 abbrev pub IsCause : BudgetWhat → Limits → List OpenPlace → Type 0
 IsCause Depth l ps = SomeOf (IsStuckAt l.depth) ps
 IsCause Nodes l ps = Each (λ p. IsStuckAt l.depth p → ⊥) ps × (l.nodes < length ps + 2)

@@ -24,8 +24,8 @@ pub record IsFractional (m : Parts) (s : Split) (x : List Fraction) (c : Cert) :
   pub certificate : IsCert (length m.rows) c
   pub positive : pos 0 <ℤ c.q
   pub dual : option_map of (dual_value m s.box c.q c.y) ≡ Some (mul (of c.q) (total_cost m (numbers_of x)))
-  pub above : IsBelow (of s.cut) (numbers_of x s.col)
-  pub below : IsBelow (numbers_of x s.col) (of (s.cut +ℤ pos 1))
+  pub more_than_cut : IsBelow (of s.cut) (numbers_of x s.col)
+  pub less_than_next : IsBelow (numbers_of x s.col) (of (s.cut +ℤ pos 1))
 
 -- within a number of steps the linear program of a box leaves the range of fractions, or ends with prices or a ray that no certificate holds
 pub data IsWideAt (m : Parts) (b : List (ℤ × ℤ)) (pivots : ℕ) : Type 0 where
@@ -33,7 +33,7 @@ pub data IsWideAt (m : Parts) (b : List (ℤ × ℤ)) (pivots : ℕ) : Type 0 wh
   long_prices : (n : ℕ) (x y : List Fraction) → n ≤ pivots → IsBest m b n x y → certificate_of_prices y ≡ None → IsWideAt m b pivots
   long_ray : (n : ℕ) (y : List Fraction) → n ≤ pivots → IsInfeasible m b n y → certificate_of_ray y ≡ None → IsWideAt m b pivots
 
--- a reason for a split of a box of a program is true, where linear programs may take so many steps
+-- a reason for a split of a box of a program is true, where linear programs may take a number of steps
 abbrev pub IsTrueReason : Parts → ℕ → Split → Why → Type 0
 IsTrueReason m pivots s (Fractional x c) = IsFractional m s x c
 IsTrueReason m pivots s Stopped = IsHalving s × IsNotFinal m s.box pivots

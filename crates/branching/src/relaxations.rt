@@ -12,7 +12,7 @@ ghost use Rattle.branching.specs.Internal.Relaxed.{IsBounded, IsRelaxedNode, IsS
 ghost use Rattle.branching.specs.Internal.Search.{Improves, IsSearchArea, IsSound};
 
 use crate::Why;
-use crate::ends::is_closed;
+use crate::leaves::is_closed;
 use crate::nodes::Progress;
 use dual_rays::{cert_of_prices, cert_of_ray};
 use frac128::Frac;

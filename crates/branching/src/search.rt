@@ -10,8 +10,8 @@ ghost use Rattle.branching.specs.Outcomes.{HasOneStuck, IsRightOutcome, IsTrueOu
 ghost use Rattle.branching.specs.Internal.Search.{IsAnswerOf, IsGrown, IsSearchArea, IsSound};
 ghost use Rattle.branching.specs.Sizes.{AreAmple, IsAnswer};
 
-use crate::ends::best_point;
-use crate::finish::finish;
+use crate::leaves::best_point;
+use crate::finished_trees::finish;
 use crate::nodes::{Progress, Visit, visit_node};
 use crate::{BudgetWhat, Limits, OpenTree, Outcome, Why, Whys};
 use ip_defs::{Area, Memory, Point};
@@ -49,7 +49,7 @@ fn split(
     })
 }
 
-/// Grows the subtree over a box, the left side first. The area is changed on the way and is as it was in the end.
+/// Grows the subtree over a box, the left side first. The area is changed meanwhile and is as before in the end.
 fn grow<L: Ledger>(
     alloc: Global,
     model: &IntModel,
@@ -178,7 +178,7 @@ fn search_box<L: Ledger>(
 ///
 /// The search stops with `Budget` at the first node that must be split and may not be; the depth is tested first. That node is `Stuck`,
 /// and every other open node is `Pending`. It never stops where the limits are as large as the box asks. The counter of steps rises by
-/// `limits.pivots` at least for each node whose linear program was stopped. Want of memory is the one error.
+/// `limits.pivots` at least for each node whose linear program was stopped. It never falls, whatever the answer. Out of memory is the one error.
 pub fn solve<L: Ledger>(
     alloc: Global,
     model: &IntModel,

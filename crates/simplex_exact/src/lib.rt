@@ -5,15 +5,15 @@ mod answers;
 mod choices;
 mod finals;
 mod numbers;
-mod runs;
+mod solving;
 mod sides;
 mod signs;
-mod stops;
+mod blocking;
 #[cfg(test)]
 mod tests;
-mod ways;
+mod directions;
 
 pub use answers::LpAnswer;
 pub use lp_duality::Fracs;
-pub use runs::solve_lp;
+pub use solving::solve_lp;
 pub use tableau::Steps;

@@ -13,7 +13,7 @@ use Rattle.ip_defs.specs.declared.programs.Parts.{Parts}
 use Rattle.lp_duality.specs.Relaxations.{cost_of, row_total, total_cost, IsBetween, IsRelaxed, IsUncrossed}
 use Rattle.lp_duality.specs.Duals.{left_of, dual}
 use Rattle.lp_duality.proofs.WeakDualityLaws.{relaxed_weak_duality}
-use Rattle.tableau.specs.Tables.{Table, basic_at, rest_at, variable_at, IsTable}
+use Rattle.tableau.specs.Tables.{Table, basic_at, position_at, variable_at, IsTable}
 use Rattle.tableau.specs.Nodes.{number, StandsFor, AreRowsZero, HasItsPoints}
 use Rattle.tableau.specs.Meanings.{cost_number, price_number}
 use Rattle.tableau.proofs.PointLaws.{sum_split}
@@ -22,7 +22,7 @@ use Rattle.simplex_laws.specs.Finals.{point_of, slack_prices}
 use Rattle.simplex_laws.specs.Laws.{BestIsRight, BestIsLeast}
 use Rattle.simplex_laws.proofs.PriceLaws.{price, cost_by_prices, column_price, basic_price}
 use Rattle.simplex_laws.proofs.SideLaws.{column_low, column_high, column_cost, slack_low, slack_high, slack_cost}
-use Rattle.simplex_laws.proofs.RestLaws.{SignFits, sign_fits}
+use Rattle.simplex_laws.proofs.NonbasicLaws.{SignFits, sign_fits}
 use Rattle.simplex_laws.proofs.PointLaws.{point_zero, point_between, pays_at}
 use Rattle.simplex_laws.proofs.AnswerLaws.{IsSettled, final_point_is}
 use Rattle.simplex_laws.proofs.DualLaws.{dual_is}
@@ -82,9 +82,9 @@ module _ (m : Parts) (b : List (ℤ × ℤ)) (T : Table) (table : IsTable T) (st
           ∙ sum_zero rationals n)
       ∙ rationals.add_zero (sum rationals (λ j. mul (cost_of m j) (x j)) c)
 
-  -- where the sign of each price fits its rest, the dual value of the prices is what the point costs
+  -- where the sign of each reduced cost fits the position of its variable, the dual value of the prices is what the point costs
   prices_reach : IsUncrossed m b → ((v : ℕ) → v < length m.columns + length m.rows →
-      SignFits (price_number T v) (variable_at T.variables v).low (variable_at T.variables v).high (rest_at T.rests v)) →
+      SignFits (price_number T v) (variable_at T.variables v).low (variable_at T.variables v).high (position_at T.positions v)) →
       dual m b (of (pos 1)) (slack_prices m T) ≡ Some (total_cost m (point_of T))
   prices_reach ok fit =
       let x = point_of T in
@@ -100,7 +100,7 @@ module _ (m : Parts) (b : List (ℤ × ℤ)) (T : Table) (table : IsTable T) (st
       let size = stands.size in (
         relaxed has (point_between m b T table stands ok (λ v l. s.within v (omega arith))),
         prices_reach ok (λ v l. sign_fits (price_number T v) (variable_at T.variables v).low (variable_at T.variables v).high
-            (rest_at T.rests v) (s.ways v (omega arith))),
+            (position_at T.positions v) (s.directions v (omega arith))),
       )
 
 pub best_is_right : BestIsRight

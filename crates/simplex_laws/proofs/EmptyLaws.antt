@@ -16,16 +16,16 @@ use Rattle.lp_duality.specs.Relaxations.{cost_of, total_cost, IsUncrossed}
 use Rattle.lp_duality.specs.Duals.{is_below, paid, left_of, dual}
 use Rattle.lp_duality.proofs.SignLaws.{of_positive, of_negative, paid_up, paid_down, below_positive}
 use Rattle.lp_duality.proofs.WeakDualityLaws.{relaxed_weak_duality}
-use Rattle.tableau.specs.Tables.{Table, basic_at, rest_at, variable_at, IsTable}
+use Rattle.tableau.specs.Tables.{Table, basic_at, position_at, variable_at, IsTable}
 use Rattle.tableau.specs.Nodes.{number, StandsFor}
 use Rattle.tableau.specs.Meanings.{value_number}
 use Rattle.tableau.proofs.PointLaws.{sum_neg}
-use Rattle.simplex_laws.specs.Steps.{way, above, outside}
+use Rattle.simplex_laws.specs.Steps.{direction, over_high, outside}
 use Rattle.simplex_laws.specs.Finals.{point_of, slack_ray}
 use Rattle.simplex_laws.specs.Laws.{EmptyIsRight, EmptyHasNoPoint}
-use Rattle.simplex_laws.proofs.RestLaws.{sign_fits}
+use Rattle.simplex_laws.proofs.NonbasicLaws.{sign_fits}
 use Rattle.simplex_laws.proofs.PointLaws.{values, point_zero, pays_at}
-use Rattle.simplex_laws.proofs.StopLaws.{if_same, if_other}
+use Rattle.simplex_laws.proofs.BlockLaws.{if_same, if_other}
 use Rattle.simplex_laws.proofs.AnswerLaws.{ray, final_row_is}
 use Rattle.simplex_laws.proofs.DualLaws.{dual_is}
 
@@ -45,9 +45,9 @@ pub record IsBetter (x : Rational) (low high : Option ℤ) (up : Bool) : Type 0 
   pub pays : paid (unit up) low high ≡ Some (mul (unit up) side)
   pub more : pos 0 <ℤ (mul (unit up) (sub side x)).numerator
 
-above_pays : (x : Rational) (low high : Option ℤ) (up : Bool) → above x high ≡ Some up → IsBetter x low high up
-above_pays x low None up e = absurd cc
-above_pays x low (Some z) up e = by (is_below (of z) x) refl e
+over_high_pays : (x : Rational) (low high : Option ℤ) (up : Bool) → over_high x high ≡ Some up → IsBetter x low high up
+over_high_pays x low None up e = absurd cc
+over_high_pays x low (Some z) up e = by (is_below (of z) x) refl e
   where
     by : (t : Bool) → is_below (of z) x ≡ t → cond t (Some false) None ≡ Some up → IsBetter x low (Some z) up
     by false f g = absurd cc
@@ -61,11 +61,11 @@ above_pays x low (Some z) up e = by (is_below (of z) x) refl e
         })
 
 outside_pays : (x : Rational) (low high : Option ℤ) (up : Bool) → outside x low high ≡ Some up → IsBetter x low high up
-outside_pays x None high up e = above_pays x None high up e
+outside_pays x None high up e = over_high_pays x None high up e
 outside_pays x (Some z) high up e = by (is_below x (of z)) refl e
   where
-    by : (t : Bool) → is_below x (of z) ≡ t → cond t (Some true) (above x high) ≡ Some up → IsBetter x (Some z) high up
-    by false f g = above_pays x (Some z) high up g
+    by : (t : Bool) → is_below x (of z) ≡ t → cond t (Some true) (over_high x high) ≡ Some up → IsBetter x (Some z) high up
+    by false f g = over_high_pays x (Some z) high up g
     by true f g =
         let q : true ≡ up = cc in
         subst (λ (u : Bool). IsBetter x (Some z) high u) q (record {
@@ -121,10 +121,10 @@ module _ (m : Parts) (b : List (ℤ × ℤ)) (T : Table) (table : IsTable T) (st
     y v = if v == basic_at T.basics i then s else point_of T v
 
     ray_pays : paid (unit up) (variable_at T.variables (basic_at T.basics i)).low (variable_at T.variables (basic_at T.basics i)).high
-        ≡ Some (mul (unit up) s) → ((v : ℕ) → v < length m.columns + length m.rows → way T (ray T i up v) v ≡ None)
+        ≡ Some (mul (unit up) s) → ((v : ℕ) → v < length m.columns + length m.rows → direction T (ray T i up v) v ≡ None)
         → (v : ℕ) → v < length m.columns + length m.rows → paid (ray T i up v) (variable_at T.variables v).low
             (variable_at T.variables v).high ≡ Some (mul (ray T i up v) (y v))
-    ray_pays own ways v l = by (v == basic_at T.basics i) refl
+    ray_pays own directions v l = by (v == basic_at T.basics i) refl
       where
         by : (t : Bool) → (v == basic_at T.basics i) ≡ t → paid (ray T i up v) (variable_at T.variables v).low
             (variable_at T.variables v).high ≡ Some (mul (ray T i up v) (cond t s (point_of T v)))
@@ -139,7 +139,7 @@ module _ (m : Parts) (b : List (ℤ × ℤ)) (T : Table) (table : IsTable T) (st
             pays_at m b T table stands (ray T i up v) v l
             (λ k o q. ap (ray T i up) (sym q) ∙ ray_flat up k o (λ p. eqb-false v (basic_at T.basics i) e (sym q
                 ∙ ap (basic_at T.basics) (sym p))))
-            (sign_fits (ray T i up v) x.low x.high (rest_at T.rests v) (ways v l))
+            (sign_fits (ray T i up v) x.low x.high (position_at T.positions v) (directions v l))
 
     ray_total : sum rationals (λ v. mul (ray T i up v) (y v)) (length m.columns + length m.rows) ≡ mul (unit up) (sub s (value_number T i))
     ray_total =
@@ -161,10 +161,10 @@ module _ (m : Parts) (b : List (ℤ × ℤ)) (T : Table) (table : IsTable T) (st
 
     ray_gains : IsUncrossed m b → paid (unit up) (variable_at T.variables (basic_at T.basics i)).low
         (variable_at T.variables (basic_at T.basics i)).high ≡ Some (mul (unit up) s) →
-        ((v : ℕ) → v < length m.columns + length m.rows → way T (ray T i up v) v ≡ None)
+        ((v : ℕ) → v < length m.columns + length m.rows → direction T (ray T i up v) v ≡ None)
         → dual m b (of (pos 0)) (slack_ray m T i up) ≡ Some (mul (unit up) (sub s (value_number T i)))
-    ray_gains ok own ways =
-        dual_is m b T stands ok (of (pos 0)) (ray T i up) (λ v. mul (ray T i up v) (y v)) (ray_left up) (ray_pays own ways)
+    ray_gains ok own directions =
+        dual_is m b T stands ok (of (pos 0)) (ray T i up) (λ v. mul (ray T i up v) (y v)) (ray_left up) (ray_pays own directions)
         ∙ ap (λ z. Some (add z (mul (of (pos 0)) (of m.constant)))) ray_total
         ∙ ap Some (ring2 rationals (λ g c. g ⊕ num (pos 0) ⊗ c) (λ g c. g) refl (mul (unit up) (sub s (value_number T i))) (of m.constant))
 
@@ -177,15 +177,15 @@ empty_is_right m b T i up table stands ok e =
     let x = variable_at T.variables (basic_at T.basics i) in
     let better = outside_pays (value_number T i) x.low x.high up broken.outside in
     (mul (unit up) (sub better.side (value_number T i)), ray_gains m b T table stands i (omega arith) up better.side ok better.pays
-        (λ v k. broken.ways v (omega arith)), better.more)
+        (λ v k. broken.directions v (omega arith)), better.more)
 
 -- a positive number is not at most 0
 not_below_zero : (g c : Rational) → pos 0 <ℤ g.numerator → AtMost g (mul (of (pos 0)) c) → ⊥
 not_below_zero g c up h =
     let below : AtMost g (of (pos 0)) = subst (AtMost g) (ring2 rationals (λ g c. num (pos 0) ⊗ c) (λ g c. num (pos 0)) refl g c) h in
     let rises : NotNegative g = omega (arith, ints) in
-    let above : AtMost (of (pos 0)) g = subst NotNegative (ring2 rationals (λ g c. g) (λ g c. g ⊖ num (pos 0)) refl g c) rises in
-    let none : g.numerator ≡ pos 0 = ap (λ (p : Rational). p.numerator) (at_most_antisym g (of (pos 0)) below above) ∙ zero_top in
+    let over_high : AtMost (of (pos 0)) g = subst NotNegative (ring2 rationals (λ g c. g) (λ g c. g ⊖ num (pos 0)) refl g c) rises in
+    let none : g.numerator ≡ pos 0 = ap (λ (p : Rational). p.numerator) (at_most_antisym g (of (pos 0)) below over_high) ∙ zero_top in
     omega (arith, ints)
 
 pub empty_has_no_point : EmptyHasNoPoint

@@ -5,8 +5,8 @@ use Rattle.std.proofs.Math.Nat.{eq-or-lt_of_le}
 use Rattle.frac128.specs.declared.fraction.Wide.{Wide}
 use Rattle.frac128.specs.Fractions.{Fraction}
 use Rattle.ip_defs.specs.declared.programs.Parts.{Parts}
-use Rattle.tableau.specs.declared.rests.Rest.{Rest}
-use Rattle.tableau.specs.Tables.{Table, rest_at, IsTable}
+use Rattle.tableau.specs.declared.positions.Rest.{Rest}
+use Rattle.tableau.specs.Tables.{Table, position_at, IsTable}
 use Rattle.tableau.specs.Numbers.{and_then}
 use Rattle.tableau.specs.Pivots.{new_rows, after_pivot, other_side, after_flip}
 use Rattle.tableau.specs.Nodes.{start_of}
@@ -43,10 +43,10 @@ module _ (m : Parts) (b : List (ℤ × ℤ)) (T : Table) (of_node : IsTableOf m 
   flip_keeps v can =
       let t = of_node.table in
       record {
-        table = record { rows = t.rows; basics = t.basics; rests = length-set T.rests v (other_side (rest_at T.rests v)) ∙ t.rests;
+        table = record { rows = t.rows; basics = t.basics; positions = length-set T.positions v (other_side (position_at T.positions v)) ∙ t.positions;
             within = t.within };
-        stands = flip_stands T v can.rests can.low can.high can.variable t.rests m b of_node.stands;
-        points = flip_points T v can.rests can.low can.high m of_node.points;
+        stands = flip_stands T v can.position can.low can.high can.variable t.positions m b of_node.stands;
+        points = flip_points T v can.position can.low can.high m of_node.points;
       }
 
   step_keeps : (n : Next) (U : Table) → CanStep T n → step T n ≡ Ok U → IsTableOf m b U

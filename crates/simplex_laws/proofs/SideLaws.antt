@@ -50,8 +50,8 @@ covers (c ∷ cs) [] e = absurd (omega arith)
 covers (c ∷ cs) (s ∷ bs) e = let r = covers cs bs (omega arith) in omega arith
 
 -- a variable is a column or a slack
-pub place : (c n v : ℕ) → v < c + n → (v < c) ⊎ ((k : ℕ) × (k < n) × (v ≡ c + k))
-place c n v l = by (nat_lt v c) refl
+pub column_or_slack : (c n v : ℕ) → v < c + n → (v < c) ⊎ ((k : ℕ) × (k < n) × (v ≡ c + k))
+column_or_slack c n v l = by (nat_lt v c) refl
   where
     by : (t : Bool) → nat_lt v c ≡ t → (v < c) ⊎ ((k : ℕ) × (k < n) × (v ≡ c + k))
     by true e = inl (grind arith)
@@ -96,7 +96,7 @@ module _ (m : Parts) (b : List (ℤ × ℤ)) (T : Table) (stands : StandsFor m b
   -- the two sides of a variable are in order
   pub in_order : IsUncrossed m b → (v : ℕ) (low high : ℤ) → v < length m.columns + length m.rows →
       (variable_at T.variables v).low ≡ Some low → (variable_at T.variables v).high ≡ Some high → low ≤ℤ high
-  in_order ok v low high l p q = by (place (length m.columns) (length m.rows) v l)
+  in_order ok v low high l p q = by (column_or_slack (length m.columns) (length m.rows) v l)
     where
       some : (x y : ℤ) → Some x ≡ Some y → x ≡ y
       some x y e = cc

@@ -1,4 +1,4 @@
--- The tableau of a node after so many steps of the simplex, and the nodes at which it does not end so soon.
+-- The tableau of a node after a number of steps of the simplex, and the number of steps after which it is not final yet.
 use Rattle.std.specs.Prelude.{◌≡◌, ℕ, zero, suc, ◌<◌, false, List, Result, Ok, ℤ}
 use Rattle.frac128.specs.declared.fraction.Wide.{Wide}
 use Rattle.ip_defs.specs.declared.programs.Parts.{Parts}

@@ -1,9 +1,9 @@
 -- Where a step or a number of a tableau of a node leaves the range of fractions.
 use Rattle.std.specs.Prelude.{◌≡◌, ◌≢◌, ℕ, ◌+◌, ◌<◌, List, length, None, Err, ℤ, pos}
 use Rattle.ip_defs.specs.declared.programs.Parts.{Parts}
-use Rattle.tableau.specs.declared.rests.Rest.{Rest}
-use Rattle.tableau.specs.declared.rests.Rest.TheVariants.{Basic}
-use Rattle.tableau.specs.Tables.{Table, entry, basic_at, rest_at, variable_at}
+use Rattle.tableau.specs.declared.positions.Rest.{Rest}
+use Rattle.tableau.specs.declared.positions.Rest.TheVariants.{Basic}
+use Rattle.tableau.specs.Tables.{Table, entry, basic_at, position_at, variable_at}
 use Rattle.tableau.specs.Numbers.{value, price, ratio, side_at}
 use Rattle.simplex_laws.specs.Steps.{next}
 use Rattle.simplex_laws.specs.Runs.{step, IsReached}
@@ -12,7 +12,7 @@ use Rattle.simplex_laws.specs.Runs.{step, IsReached}
 pub data HasWideNumber (T : Table) : Type 0 where
   wide_value : (i : ℕ) → i < length T.rows → value T i ≡ Err (record {}) → HasWideNumber T
   wide_price : (v : ℕ) → v < length T.variables → price T v ≡ Err (record {}) → HasWideNumber T
-  wide_ratio : (i v : ℕ) (side : Rest) → i < length T.rows → v < length T.variables → rest_at T.rests v ≢ Basic →
+  wide_ratio : (i v : ℕ) (side : Rest) → i < length T.rows → v < length T.variables → position_at T.positions v ≢ Basic →
       (entry T.rows i v).num ≢ pos 0 → side_at (variable_at T.variables (basic_at T.basics i)) side ≢ None →
       ratio T i v side ≡ Err (record {}) → HasWideNumber T
 

@@ -102,7 +102,7 @@ pub record IsSplit (m : Parts) (pivots : ℕ) (b : List (ℤ × ℤ)) (col : ℕ
   pub column : col < length m.columns
   pub cut_small : unsigned_abs cut ≤ 2 ^ 24
 
--- why a node at a depth may not be split, where so many nodes were counted
+-- why a node at a depth may not be split, where a number of nodes were counted
 abbrev pub MayNotSplit : Limits → ℕ → ℕ → BudgetWhat → Type 0
 MayNotSplit l d count Depth = d ≡ l.depth
 MayNotSplit l d count Nodes = (d < l.depth) × (l.nodes < count + 2)
@@ -121,7 +121,7 @@ stops_at (Open col cut why) = stops why
 
 -- ---- subtrees
 
--- the nodes of a subtree: its own top node was counted before, those below it are counted on the way
+-- the nodes of a subtree: its root was counted before, those below it are counted as they are made
 pub record ArePlacesOf (m : Parts) (l : Limits) (ps : List OpenPlace) (before after : ℕ) (found : Found) : Type 0 where
   pub reasons : Each (λ p. HasReason m l.pivots p.box p.node) ps
   pub deep : Each (λ p. p.depth ≤ l.depth) ps
@@ -141,7 +141,7 @@ abbrev pub stuck_by : Option BudgetWhat → ℕ
 stuck_by None = 0
 stuck_by (Some what) = 1
 
--- a subtree was grown over a box whose top node has a depth
+-- a subtree was grown over a box, its root at a depth
 pub record IsGrown (m : Parts) (l : Limits) (d : ℕ) (b : List (ℤ × ℤ)) (before after : ℕ) (earlier found : Found) (t : PlainOpen)
     (stop : Option BudgetWhat) : Type 0 where
   pub places : ArePlacesOf m l (places_from d b t) before after found

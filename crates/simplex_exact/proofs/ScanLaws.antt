@@ -1,6 +1,37 @@
 -- What the loops of a step find.
-use Rattle.std.specs.Prelude.{◌≡◌, ◌≢◌, ℕ, suc, ◌+◌, ◌<◌, ◌==◌, Bool, true, false, if◌then◌else◌, List, [], ◌∷◌, ◌++◌, Option, Some, None,
-    option_map, length, slice_index_or, slice_set, nat_lt, cond, not, Result, Ok, Err, OnErr, ℤ, pos}
+use Rattle.std.specs.Prelude.{
+  ◌≡◌,
+  ◌≢◌,
+  ℕ,
+  suc,
+  ◌+◌,
+  ◌<◌,
+  ◌==◌,
+  Bool,
+  true,
+  false,
+  if◌then◌else◌,
+  List,
+  [],
+  ◌∷◌,
+  ◌++◌,
+  Option,
+  Some,
+  None,
+  option_map,
+  length,
+  slice_index_or,
+  slice_set,
+  nat_lt,
+  cond,
+  not,
+  Result,
+  Ok,
+  Err,
+  OnErr,
+  ℤ,
+  pos,
+}
 use Rattle.std.specs.List.{position, prefix_len}
 use Rattle.std.specs.Option.{is_some, option_or}
 use Rattle.std.specs.Int.Signed.{lt_z}
@@ -77,14 +108,14 @@ position_push p (x ∷ xs) y =
 pub row_step : (basic_rows new : List (Option ℕ)) (basics : List ℕ) (row v : ℕ) → row < length basics →
     slice_index_or basic_rows v None ≡ position (λ w. w == v) (take row basics)
     → (get_or basics row 0 ≡ v → slice_index_or new v None ≡ option_or (slice_index_or basic_rows v None) (Some row)) →
-        (get_or basics row 0 ≢ v → slice_index_or new v None ≡ slice_index_or basic_rows v None)
+    (get_or basics row 0 ≢ v → slice_index_or new v None ≡ slice_index_or basic_rows v None)
     → slice_index_or new v None ≡ position (λ w. w == v) (take (row + 1) basics)
 row_step basic_rows new basics row v l old here elsewhere =
     by (get_or basics row 0 == v) refl
     ∙ ap (λ n. option_or (position (λ w. w == v) (take row basics)) (if get_or basics row 0 == v then Some n else None))
-        (sym (length-take-le row basics (omega arith)))
+    (sym (length-take-le row basics (omega arith)))
     ∙ sym (position_push (λ w. w == v) (take row basics) (get_or basics row 0))
-        ∙ ap (position (λ w. w == v)) (sym (take_more basics row 0 l))
+    ∙ ap (position (λ w. w == v)) (sym (take_more basics row 0 l))
   where
     kept : (o : Option ℕ) → o ≡ option_or o None
     kept None = refl
@@ -101,7 +132,7 @@ pub placed_here : (basic_rows new : List (Option ℕ)) (b row v : ℕ) → new �
     → slice_index_or new v None ≡ option_or (slice_index_or basic_rows v None) (Some row)
 placed_here basic_rows new b row v is l none e =
     ap (λ xs. slice_index_or xs v None) is ∙ ap (λ w. slice_index_or (slice_set basic_rows b (Some row)) w None) (sym e)
-        ∙ get_or-set_same basic_rows b (Some row) None l
+    ∙ get_or-set_same basic_rows b (Some row) None l
     ∙ none_else (slice_index_or basic_rows b None) none ∙ ap (λ w. option_or (slice_index_or basic_rows w None) (Some row)) e
   where
     none_else : (o : Option ℕ) → is_some o ≡ false → Some row ≡ option_or o (Some row)
@@ -117,7 +148,7 @@ pub kept_here : (basic_rows new : List (Option ℕ)) (b row v : ℕ) → new ≡
     slice_index_or new v None ≡ option_or (slice_index_or basic_rows v None) (Some row)
 kept_here basic_rows new b row v is some e =
     ap (λ xs. slice_index_or xs v None) is ∙ ap (λ w. slice_index_or basic_rows w None) (sym e) ∙ some_else (slice_index_or basic_rows b None) some
-        ∙ ap (λ w. option_or (slice_index_or basic_rows w None) (Some row)) e
+    ∙ ap (λ w. option_or (slice_index_or basic_rows w None) (Some row)) e
   where
     some_else : (o : Option ℕ) → is_some o ≡ true → o ≡ option_or o (Some row)
     some_else None h = absurd cc
@@ -137,11 +168,11 @@ met up p side e h = let no = no_side up p (ap (λ (q : Rational). q.numerator) h
 pub ratio_wide : (T : Table) (x : Fraction) (i v : ℕ) (side : Rest) (there : ℤ) (o : Result Fraction Wide) (w : Wide) → value T i ≡ Ok x →
     side_at (variable_at T.variables (basic_at T.basics i)) side ≡ Some there
     → o ≡ and_then (difference_of x (whole there)) (λ direction. quotient_of direction (entry T.rows i v)) → o ≡ Err w →
-        ratio T i v side ≡ Err (record {})
+    ratio T i v side ≡ Err (record {})
 ratio_wide T x i v side there o w value side_is is wide =
     ap (λ (y : Result Fraction Wide). and_then y (λ x. and_then (difference_of x
-        (whole (side_or_zero (side_at (variable_at T.variables (basic_at T.basics i)) side))))
-        (λ direction. quotient_of direction (entry T.rows i v)))) value
+    (whole (side_or_zero (side_at (variable_at T.variables (basic_at T.basics i)) side))))
+    (λ direction. quotient_of direction (entry T.rows i v)))) value
     ∙ ap (λ s. and_then (difference_of x (whole (side_or_zero s))) (λ direction. quotient_of direction (entry T.rows i v))) side_is
     ∙ sym is ∙ is_wide o w wide
 

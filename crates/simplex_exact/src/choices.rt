@@ -7,10 +7,10 @@ ghost use Rattle.simplex_laws.specs.Steps.{entering as entering_at, improve as i
 ghost use Rattle.simplex_laws.specs.Wides.{HasWideNumber};
 ghost use Rattle.simplex_exact.specs.Internal.Numbers.{AreBasicRows, AreNumbersBelow};
 
-use crate::numbers::{first_infeasible, find_basic_rows};
-use crate::sides::side_towards;
 use crate::blocking::nearest;
 use crate::directions::{entering, row_entering};
+use crate::numbers::{find_basic_rows, first_infeasible};
+use crate::sides::side_towards;
 use simplex_laws::Next;
 use tableau::{Frac, Tableau, Wide};
 

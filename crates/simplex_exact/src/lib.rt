@@ -2,16 +2,16 @@
 #![tactic(auto)]
 
 mod answers;
+mod blocking;
 mod choices;
+mod directions;
 mod finals;
 mod numbers;
-mod solving;
 mod sides;
 mod signs;
-mod blocking;
+mod solving;
 #[cfg(test)]
 mod tests;
-mod directions;
 
 pub use answers::LpAnswer;
 pub use lp_duality::Fracs;

@@ -52,7 +52,12 @@ fn number(tableau: &Tableau, own_row: Option<u32>, var: u32) -> Result<Frac, Wid
 }
 
 /// The row of a variable that is outside its sides, and whether it has to rise.
-fn infeasible(tableau: &Tableau, own_row: Option<u32>, number: Frac, var: u32) -> Option<(u32, bool)>
+fn infeasible(
+    tableau: &Tableau,
+    own_row: Option<u32>,
+    number: Frac,
+    var: u32,
+) -> Option<(u32, bool)>
     requires variable { var < length tableau.now.variables }
     requires own_row { own_row ≡ row_of tableau.now var }
     requires number { IsNumber tableau.now var number }

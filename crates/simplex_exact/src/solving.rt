@@ -77,7 +77,12 @@ fn solve<L: Ledger>(
     let mut values = vec![in alloc; Frac::from_whole(0); count]?;
     let mut taken = 0;
     loop {
-        let next = match choose(&tableau, rows, basic_rows.as_mut_slice(), values.as_mut_slice()) {
+        let next = match choose(
+            &tableau,
+            rows,
+            basic_rows.as_mut_slice(),
+            values.as_mut_slice(),
+        ) {
             Ok(next) => next,
             Err(Wide) => return Ok((LpAnswer::Wide, tableau)),
         };

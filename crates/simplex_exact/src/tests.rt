@@ -96,7 +96,12 @@ fn one_row(alloc: Global, pivots: u32) -> Result<String, SampleError> {
 }
 
 /// Least -x with x from 0 to 1, and a row of x alone.
-fn one_column(alloc: Global, high: i64, side: Option<i64>, pivots: u32) -> Result<String, SampleError> {
+fn one_column(
+    alloc: Global,
+    high: i64,
+    side: Option<i64>,
+    pivots: u32,
+) -> Result<String, SampleError> {
     let columns = vec![in alloc; column(alloc, -1, 0, high)]?;
     let rows = vec![in alloc; row(alloc, &[(0, 1)], None, side)?]?;
     solved(alloc, columns, rows, pivots)
@@ -156,10 +161,30 @@ fn long_equations(alloc: Global, pivots: u32) -> Result<String, SampleError> {
         column(alloc, 846_546, -side, side),
         column(alloc, -252_070, -side, side),
     ]?;
-    let first = [(0, 994_336_076_226), (1, -280_062_031_789), (2, 863_692_683_667), (3, -475_438_271_359)];
-    let second = [(0, 644_168_615_732), (1, 893_201_833_400), (2, -822_364_340_554), (3, -944_637_035_053)];
-    let third = [(0, 337_000_032_430), (1, -236_899_971_603), (2, -70_784_822_944), (3, 196_023_560_269)];
-    let fourth = [(0, -1_080_185_249_239), (1, -723_004_273_937), (2, 688_389_467_932), (3, -730_830_709_286)];
+    let first = [
+        (0, 994_336_076_226),
+        (1, -280_062_031_789),
+        (2, 863_692_683_667),
+        (3, -475_438_271_359),
+    ];
+    let second = [
+        (0, 644_168_615_732),
+        (1, 893_201_833_400),
+        (2, -822_364_340_554),
+        (3, -944_637_035_053),
+    ];
+    let third = [
+        (0, 337_000_032_430),
+        (1, -236_899_971_603),
+        (2, -70_784_822_944),
+        (3, 196_023_560_269),
+    ];
+    let fourth = [
+        (0, -1_080_185_249_239),
+        (1, -723_004_273_937),
+        (2, 688_389_467_932),
+        (3, -730_830_709_286),
+    ];
     let rows = vec![in alloc;
         row(alloc, &first, Some(1), Some(1))?,
         row(alloc, &second, Some(1), Some(1))?,

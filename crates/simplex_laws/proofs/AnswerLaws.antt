@@ -1,6 +1,24 @@
 -- What a final answer of `next` says of the searches before it.
-use Rattle.std.specs.Prelude.{◌≡◌, ◌≢◌, ℕ, ◌<◌, ◌==◌, Bool, true, false, cond, if◌then◌else◌, List, length, Option, Some, None, option_map,
-    option_and_then, ℤ}
+use Rattle.std.specs.Prelude.{
+  ◌≡◌,
+  ◌≢◌,
+  ℕ,
+  ◌<◌,
+  ◌==◌,
+  Bool,
+  true,
+  false,
+  cond,
+  if◌then◌else◌,
+  List,
+  length,
+  Option,
+  Some,
+  None,
+  option_map,
+  option_and_then,
+  ℤ,
+}
 use Rattle.std.specs.List.{position}
 use Rattle.std.proofs.Common.{refl, ap, sym, ◌∙◌, subst}
 use Rattle.frac128.specs.Rationals.{Rational, neg, absolute}
@@ -12,8 +30,24 @@ use Rattle.tableau.specs.Nodes.{number, StandsFor, HasItsPoints}
 use Rattle.tableau.specs.Meanings.{value_number, price_number, ratio_number}
 use Rattle.simplex_laws.specs.declared.next.Next.{Next}
 use Rattle.simplex_laws.specs.declared.next.Next.TheVariants.{Pivot, Flip, FinalRow, FinalPoint}
-use Rattle.simplex_laws.specs.Steps.{direction, infeasible, outside, row_entering, restore, side_met, block_at, block, nearest, move_by, move, entering,
-    improve, by_infeasible, next, is_final}
+use Rattle.simplex_laws.specs.Steps.{
+  direction,
+  infeasible,
+  outside,
+  row_entering,
+  restore,
+  side_met,
+  block_at,
+  block,
+  nearest,
+  move_by,
+  move,
+  entering,
+  improve,
+  by_infeasible,
+  next,
+  is_final,
+}
 use Rattle.ip_defs.proofs.FirstLaws.{first-none}
 use Rattle.simplex_laws.proofs.ChoiceLaws.{paired, first_is, nearest_is}
 use Rattle.simplex_laws.proofs.StepLaws.{direction_is, first_infeasible_is}

@@ -56,9 +56,9 @@ module _ (m : Parts) (b : List (ℤ × ℤ)) (T : Table) (table : IsTable T) (st
       let f : ℕ → Rational = λ k. mul (price_number T (c + k)) (of (coefficient_of m.rows k j)) in
       ap (λ z. sub z (sum rationals f (length m.rows))) (one_mul rationals (cost_of m j) ∙ sym (column_cost m b T stands j l))
       ∙ ap (sub (cost_number T j)) (sum_same rationals f (λ k. mul (P (c + k)) (of (coefficient_of m.rows k j))) (length m.rows)
-          (λ k o. ap (λ z. mul z (of (coefficient_of m.rows k j))) (price_is (c + k))))
+      (λ k o. ap (λ z. mul z (of (coefficient_of m.rows k j))) (price_is (c + k))))
       ∙ sym (column_price rationals (length m.rows) c (coefficient_of m.rows) (number T) (basic_at T.basics) (system_of m b T stands)
-          (cost_number T) (λ k o. slack_cost m b T stands k) j l)
+      (cost_number T) (λ k o. slack_cost m b T stands k) j l)
       ∙ sym (price_is j)
 
   price_flat : (v i : ℕ) → i < length m.rows → basic_at T.basics i ≡ v → price_number T v ≡ of (pos 0)
@@ -75,11 +75,11 @@ module _ (m : Parts) (b : List (ℤ × ℤ)) (T : Table) (table : IsTable T) (st
       ∙ sym (cost_by_prices rationals n c (coefficient_of m.rows) (number T) (basic_at T.basics) (cost_number T) x hold)
       ∙ sum_split rationals (λ v. mul (cost_number T v) (x v)) c n
       ∙ ap (λ z. add z (sum rationals (λ k. mul (cost_number T (c + k)) (x (c + k))) n))
-          (sum_same rationals (λ j. mul (cost_number T j) (x j)) (λ j. mul (cost_of m j) (x j)) c
-          (λ j l. ap (λ z. mul z (x j)) (column_cost m b T stands j l)))
+      (sum_same rationals (λ j. mul (cost_number T j) (x j)) (λ j. mul (cost_of m j) (x j)) c
+      (λ j l. ap (λ z. mul z (x j)) (column_cost m b T stands j l)))
       ∙ ap (add (sum rationals (λ j. mul (cost_of m j) (x j)) c)) (sum_same rationals (λ k. mul (cost_number T (c + k)) (x (c + k)))
-          (λ k. of (pos 0)) n (λ k l. ap (λ z. mul z (x (c + k))) (slack_cost m b T stands k) ∙ zero_mul rationals (x (c + k)))
-          ∙ sum_zero rationals n)
+      (λ k. of (pos 0)) n (λ k l. ap (λ z. mul z (x (c + k))) (slack_cost m b T stands k) ∙ zero_mul rationals (x (c + k)))
+      ∙ sum_zero rationals n)
       ∙ rationals.add_zero (sum rationals (λ j. mul (cost_of m j) (x j)) c)
 
   -- where the sign of each reduced cost fits the position of its variable, the dual value of the prices is what the point costs
@@ -90,7 +90,7 @@ module _ (m : Parts) (b : List (ℤ × ℤ)) (T : Table) (table : IsTable T) (st
       let x = point_of T in
       let total = sum rationals (λ j. mul (cost_of m j) (x j)) (length m.columns) in
       dual_is m b T stands ok (of (pos 1)) (price_number T) (λ v. mul (price_number T v) (x v)) price_left
-          (λ v l. pays_at m b T table stands (price_number T v) v l (λ i k e. price_flat v i k e) (fit v l))
+      (λ v l. pays_at m b T table stands (price_number T v) v l (λ i k e. price_flat v i k e) (fit v l))
       ∙ ap (λ z. Some (add z (mul (of (pos 1)) (of m.constant)))) (cost_is x (point_zero m b T table stands))
       ∙ ap Some (ring2 rationals (λ s t. s ⊕ num (pos 1) ⊗ t) (λ s t. t ⊕ s) refl total (of m.constant))
 
@@ -110,4 +110,4 @@ pub best_is_least : BestIsLeast
 best_is_least m b T table stands has ok e x relaxed =
     let r = best_is_right m b T table stands has ok e in
     subst (AtMost (total_cost m (point_of T))) (one_mul rationals (total_cost m x))
-        (relaxed_weak_duality m b (of (pos 1)) (slack_prices m T) x (total_cost m (point_of T)) relaxed r.1)
+    (relaxed_weak_duality m b (of (pos 1)) (slack_prices m T) x (total_cost m (point_of T)) relaxed r.1)

@@ -1,7 +1,29 @@
 -- Something always blocks a nonbasic variable: a column at its other side, and a slack by a column of the rows, for else the
 -- slack would move where no column does.
-use Rattle.std.specs.Prelude.{◌≡◌, ◌≢◌, ℕ, ◌+◌, ◌<◌, ◌==◌, not, Bool, true, false, cond, if◌then◌else◌, List, [], length, Option, Some,
-    None, option_map, option_and_then, ℤ, pos}
+use Rattle.std.specs.Prelude.{
+  ◌≡◌,
+  ◌≢◌,
+  ℕ,
+  ◌+◌,
+  ◌<◌,
+  ◌==◌,
+  not,
+  Bool,
+  true,
+  false,
+  cond,
+  if◌then◌else◌,
+  List,
+  [],
+  length,
+  Option,
+  Some,
+  None,
+  option_map,
+  option_and_then,
+  ℤ,
+  pos,
+}
 use Rattle.std.specs.List.{position}
 use Rattle.std.specs.Int.Signed.{lt_z}
 use Rattle.std.proofs.Common.{arith, refl, ap, sym, ◌∙◌, subst, ◌⊎◌, inl, inr}
@@ -117,8 +139,8 @@ module _ (m : Parts) (b : List (ℤ × ℤ)) (T : Table) (table : IsTable T) (st
       (λ u l. by u (x_is u))
       (λ i l. q_other (basic_at T.basics i) (not_basic i l))
       (λ i l. x_basic i l ∙ ap neg (sym (sum_single rationals (λ w. mul (number T i w) (q w)) v (length m.columns
-          + length m.rows) inside (λ w k n. ap (λ z. mul (number T i w) z) (q_other w n) ∙ mul_zero rationals (number T i w))
-          ∙ ap (λ z. mul (number T i v) z) q_own ∙ rationals.mul_one (number T i v))))
+      + length m.rows) inside (λ w k n. ap (λ z. mul (number T i w) z) (q_other w n) ∙ mul_zero rationals (number T i w))
+      ∙ ap (λ z. mul (number T i v) z) q_own ∙ rationals.mul_one (number T i v))))
     where
       by : (u : ℕ) → ((k : ℕ) × (k < length m.rows) × (basic_at T.basics k ≡ u) × (x u ≡ neg (number T k v))) ⊎ (x u ≡ q u) →
           ((k : ℕ) × (k < length m.rows) × (basic_at T.basics k ≡ u)) ⊎ (x u ≡ q u)
@@ -140,13 +162,13 @@ module _ (m : Parts) (b : List (ℤ × ℤ)) (T : Table) (table : IsTable T) (st
 
       by : (t : Bool) → (basic_at T.basics i == v) ≡ t → (o : Option ℕ) → position (λ z. z == basic_at T.basics i) T.basics ≡ o
           → cond t (option_map {U = Rational × Next} (λ far. (far, Flip v)) (range (variable_at T.variables v)))
-              (option_and_then (λ k. option_and_then (block_at T v k) (side_met up (number T k v))) o) ≡ None → number T i v ≡ of (pos 0)
+          (option_and_then (λ k. option_and_then (block_at T v k) (side_met up (number T k v))) o) ≡ None → number T i v ≡ of (pos 0)
       by true f o g h = absurd (not_basic i l (eqb-true (basic_at T.basics i) v f))
       by false f None g h = absurd (has_position m b T table stands i (basic_at T.basics i) l refl g)
       by false f (Some k) g h =
           let same = own_place m b T table stands i k l g in
           flat_entry T v i up low_there high_there (subst (λ (k : ℕ). option_and_then (block_at T v k) (side_met up (number T k v))
-              ≡ None) same h)
+          ≡ None) same h)
 
   own_range : range (variable_at T.variables v) ≡ None
   own_range = by (v == v) (same_number v) (loose v inside)
@@ -175,13 +197,13 @@ module _ (m : Parts) (b : List (ℤ × ℤ)) (T : Table) (table : IsTable T) (st
       by : (v < length m.columns) ⊎ ((k : ℕ) × (k < length m.rows) × (v ≡ length m.columns + k)) → ⊥
       by (inl c) =
           let first = subst (λ (o : Option ℤ). range_between o (variable_at T.variables v).high
-                  ≡ None) (column_low m b T stands v c) own_range in
+          ≡ None) (column_low m b T stands v c) own_range in
           let second = subst (λ (o : Option ℤ). range_between (Some (low_at b v)) o ≡ None) (column_high m b T stands v c) first in
           absurd cc
       by (inr (k, s, e)) =
           let total = sum_same rationals (λ j. mul (of (coefficient_of m.rows k j)) (x j)) (λ j. of (pos 0)) (length m.columns)
-                  (λ j l. ap (λ z. mul (of (coefficient_of m.rows k j)) z) (at_column k e j l)
-                  ∙ mul_zero rationals (of (coefficient_of m.rows k j))) ∙ sum_zero rationals (length m.columns) in
+          (λ j l. ap (λ z. mul (of (coefficient_of m.rows k j)) z) (at_column k e j l)
+          ∙ mul_zero rationals (of (coefficient_of m.rows k j))) ∙ sum_zero rationals (length m.columns) in
           one_apart (sym (at_own (x_is v)) ∙ ap x e ∙ has x x_zero k s ∙ total)
 
 -- something blocks a nonbasic variable in each direction
@@ -189,4 +211,4 @@ pub something_blocks : (m : Parts) (b : List (ℤ × ℤ)) (T : Table) → IsTab
     v < length T.variables → position_at T.positions v ≢ Basic → nearest (block T v up) (length T.variables) ≢ None
 something_blocks m b T table stands has v up inside free e =
     never_loose m b T table stands v up (let s = stands.size in
-        omega arith) free (λ w l. nearest_none (block T v up) (length T.variables) e w (let s = stands.size in omega arith)) has
+    omega arith) free (λ w l. nearest_none (block T v up) (length T.variables) e w (let s = stands.size in omega arith)) has

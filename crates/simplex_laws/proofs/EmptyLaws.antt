@@ -1,6 +1,27 @@
 -- A tableau that is final by a row: the row's slack entries, or their negations, pay more than 0.
-use Rattle.std.specs.Prelude.{◌≡◌, ◌≢◌, ℕ, ◌+◌, ◌<◌, ◌==◌, Bool, true, false, cond, if◌then◌else◌, List, [], length, Option, Some, None, ℤ,
-    pos, negsuc, ◌<ℤ◌}
+use Rattle.std.specs.Prelude.{
+  ◌≡◌,
+  ◌≢◌,
+  ℕ,
+  ◌+◌,
+  ◌<◌,
+  ◌==◌,
+  Bool,
+  true,
+  false,
+  cond,
+  if◌then◌else◌,
+  List,
+  [],
+  length,
+  Option,
+  Some,
+  None,
+  ℤ,
+  pos,
+  negsuc,
+  ◌<ℤ◌,
+}
 use Rattle.std.proofs.Common.{arith, refl, ap, sym, ◌∙◌, subst}
 use Rattle.std.proofs.lemmas.Int.{ints}
 use Rattle.std.proofs.lemmas.Bool.{eqb-true, eqb-false}
@@ -83,14 +104,14 @@ module _ (m : Parts) (b : List (ℤ × ℤ)) (T : Table) (table : IsTable T) (st
   ray_left true j l =
       let c = length m.columns in
       ring2 rationals (λ a s. num (pos 0) ⊗ a ⊖ s) (λ a s. minus s) refl (cost_of m j)
-          (sum rationals (λ k. mul (number T i (c + k)) (of (coefficient_of m.rows k j))) (length m.rows))
+      (sum rationals (λ k. mul (number T i (c + k)) (of (coefficient_of m.rows k j))) (length m.rows))
       ∙ sym (stands.combination i j inside l)
   ray_left false j l =
       let c = length m.columns in
       let f : ℕ → Rational = λ k. mul (number T i (c + k)) (of (coefficient_of m.rows k j)) in
       let turned = sum_same rationals (λ k. mul (neg (number T i (c + k))) (of (coefficient_of m.rows k j))) (λ k. neg (f k))
-              (length m.rows) (λ k o. ring2 rationals (λ a d. minus a ⊗ d) (λ a d. minus (a ⊗ d)) refl (number T i (c + k))
-              (of (coefficient_of m.rows k j)))
+      (length m.rows) (λ k o. ring2 rationals (λ a d. minus a ⊗ d) (λ a d. minus (a ⊗ d)) refl (number T i (c + k))
+      (of (coefficient_of m.rows k j)))
       ∙ sum_neg rationals f (length m.rows) in
       ap (λ z. sub (mul (of (pos 0)) (cost_of m j)) z) turned
       ∙ ring2 rationals (λ a s. num (pos 0) ⊗ a ⊖ minus s) (λ a s. minus (minus s)) refl (cost_of m j) (sum rationals f (length m.rows))
@@ -110,7 +131,7 @@ module _ (m : Parts) (b : List (ℤ × ℤ)) (T : Table) (table : IsTable T) (st
       let all = length m.columns + length m.rows in
       let f : ℕ → Rational = λ v. mul (number T i v) (point_of T v) in
       sum_same rationals (λ v. mul (neg (number T i v)) (point_of T v)) (λ v. neg (f v)) all
-          (λ v l. ring2 rationals (λ a d. minus a ⊗ d) (λ a d. minus (a ⊗ d)) refl (number T i v) (point_of T v))
+      (λ v l. ring2 rationals (λ a d. minus a ⊗ d) (λ a d. minus (a ⊗ d)) refl (number T i v) (point_of T v))
       ∙ sum_neg rationals f all
       ∙ ap neg (point_zero m b T table stands i inside) ∙ identity rationals [] (minus (num (pos 0))) (num (pos 0)) refl
 
@@ -123,7 +144,7 @@ module _ (m : Parts) (b : List (ℤ × ℤ)) (T : Table) (table : IsTable T) (st
     ray_pays : paid (unit up) (variable_at T.variables (basic_at T.basics i)).low (variable_at T.variables (basic_at T.basics i)).high
         ≡ Some (mul (unit up) s) → ((v : ℕ) → v < length m.columns + length m.rows → direction T (ray T i up v) v ≡ None)
         → (v : ℕ) → v < length m.columns + length m.rows → paid (ray T i up v) (variable_at T.variables v).low
-            (variable_at T.variables v).high ≡ Some (mul (ray T i up v) (y v))
+        (variable_at T.variables v).high ≡ Some (mul (ray T i up v) (y v))
     ray_pays own directions v l = by (v == basic_at T.basics i) refl
       where
         by : (t : Bool) → (v == basic_at T.basics i) ≡ t → paid (ray T i up v) (variable_at T.variables v).low
@@ -132,13 +153,13 @@ module _ (m : Parts) (b : List (ℤ × ℤ)) (T : Table) (table : IsTable T) (st
             let w = basic_at T.basics i in
             let x = variable_at T.variables w in
             subst (λ (z : ℕ). paid (ray T i up z) (variable_at T.variables z).low (variable_at T.variables z).high
-                ≡ Some (mul (ray T i up z) s)) (sym (eqb-true v w e))
+            ≡ Some (mul (ray T i up z) s)) (sym (eqb-true v w e))
             (ap (λ p. paid p x.low x.high) (ray_own up) ∙ own ∙ ap (λ p. Some (mul p s)) (sym (ray_own up)))
         by false e =
             let x = variable_at T.variables v in
             pays_at m b T table stands (ray T i up v) v l
             (λ k o q. ap (ray T i up) (sym q) ∙ ray_flat up k o (λ p. eqb-false v (basic_at T.basics i) e (sym q
-                ∙ ap (basic_at T.basics) (sym p))))
+            ∙ ap (basic_at T.basics) (sym p))))
             (sign_fits (ray T i up v) x.low x.high (position_at T.positions v) (directions v l))
 
     ray_total : sum rationals (λ v. mul (ray T i up v) (y v)) (length m.columns + length m.rows) ≡ mul (unit up) (sub s (value_number T i))
@@ -149,14 +170,14 @@ module _ (m : Parts) (b : List (ℤ × ℤ)) (T : Table) (table : IsTable T) (st
         let x = point_of T in
         let f : ℕ → Rational = λ v. mul (p v) (sub (y v) (x v)) in
         let apart = sum_same rationals (λ v. mul (p v) (y v)) (λ v. add (mul (p v) (x v)) (f v)) all
-                (λ v l. ring3 rationals (λ a c d. a ⊗ c) (λ a c d. a ⊗ d ⊕ a ⊗ (c ⊖ d)) refl (p v) (y v) (x v))
+        (λ v l. ring3 rationals (λ a c d. a ⊗ c) (λ a c d. a ⊗ d ⊕ a ⊗ (c ⊖ d)) refl (p v) (y v) (x v))
         ∙ sum_add rationals (λ v. mul (p v) (x v)) f all in
         let single = sum_single rationals f w all (stands.within i inside) (λ v l n. ap (λ z. mul (p v) (sub z (x v)))
-                (if_other v w s (x v) n) ∙ ring2 rationals (λ a c. a ⊗ (c ⊖ c)) (λ a c. num (pos 0)) refl (p v) (x v)) in
+        (if_other v w s (x v) n) ∙ ring2 rationals (λ a c. a ⊗ (c ⊖ c)) (λ a c. num (pos 0)) refl (p v) (x v)) in
         apart ∙ ap (λ z. add z (sum rationals f all)) (ray_zero up)
         ∙ ap (add (of (pos 0))) (single ∙ ap (λ z. mul z (sub (y w) (x w))) (ray_own up)
-            ∙ ap (λ z. mul (unit up) (sub z (x w))) (if_same w w s (x w) refl)
-            ∙ ap (λ z. mul (unit up) (sub s z)) (values m b T table stands i inside))
+        ∙ ap (λ z. mul (unit up) (sub z (x w))) (if_same w w s (x w) refl)
+        ∙ ap (λ z. mul (unit up) (sub s z)) (values m b T table stands i inside))
         ∙ ring2 rationals (λ a c. num (pos 0) ⊕ a) (λ a c. a) refl (mul (unit up) (sub s (value_number T i))) s
 
     ray_gains : IsUncrossed m b → paid (unit up) (variable_at T.variables (basic_at T.basics i)).low
@@ -175,9 +196,12 @@ empty_is_right m b T i up table stands ok e =
     let size = stands.size in
     let l = broken.row in
     let x = variable_at T.variables (basic_at T.basics i) in
-    let better = outside_pays (value_number T i) x.low x.high up broken.outside in
-    (mul (unit up) (sub better.side (value_number T i)), ray_gains m b T table stands i (omega arith) up better.side ok better.pays
-        (λ v k. broken.directions v (omega arith)), better.more)
+    let better = outside_pays (value_number T i) x.low x.high up broken.outside in (
+      mul (unit up) (sub better.side (value_number T i)),
+      ray_gains m b T table stands i (omega arith) up better.side ok better.pays
+          (λ v k. broken.directions v (omega arith)),
+      better.more,
+    )
 
 -- a positive number is not at most 0
 not_below_zero : (g c : Rational) → pos 0 <ℤ g.numerator → AtMost g (mul (of (pos 0)) c) → ⊥

@@ -39,8 +39,11 @@ half_last = record {
   rows = (whole (pos 1) ∷ ratio (negsuc 0) (pos 2) ∷ []) ∷ [];
   basics = 0 ∷ [];
   positions = Basic ∷ High ∷ [];
-  variables = record { low = Some (pos 0); high = Some (pos 2); cost = negsuc 0 } ∷ record { low = None; high = Some (pos 3);
-      cost = pos 0 } ∷ [];
+  variables = record { low = Some (pos 0); high = Some (pos 2); cost = negsuc 0 } ∷ record {
+    low = None;
+    high = Some (pos 3);
+    cost = pos 0;
+  } ∷ [];
 }
 
 pub half_pivots : next (start_of half half_box) ≡ Pivot 0 0 High
@@ -98,8 +101,11 @@ far_at x y slack basic = record {
   rows = (whole (pos 1) ∷ whole (pos 1) ∷ whole (negsuc 0) ∷ []) ∷ [];
   basics = basic ∷ [];
   positions = x ∷ y ∷ slack ∷ [];
-  variables = record { low = Some (pos 0); high = Some (pos 1); cost = pos 0 } ∷ record { low = Some (pos 0); high = Some (pos 1);
-      cost = pos 0 } ∷ record { low = Some (pos 3); high = None; cost = pos 0 } ∷ [];
+  variables = record { low = Some (pos 0); high = Some (pos 1); cost = pos 0 } ∷ record {
+    low = Some (pos 0);
+    high = Some (pos 1);
+    cost = pos 0;
+  } ∷ record { low = Some (pos 3); high = None; cost = pos 0 } ∷ [];
 }
 
 pub far_first : next (start_of far far_box) ≡ Pivot 0 0 Low
@@ -160,8 +166,12 @@ two_costs = record {
   objective = [];
   cost_decimals = 0;
   constant = pos 0;
-  columns = record { name = []; cost = negsuc 0; lo = pos 0; hi = pos 9 } ∷ record { name = []; cost = negsuc 4; lo = pos 0;
-      hi = pos 9 } ∷ [];
+  columns = record { name = []; cost = negsuc 0; lo = pos 0; hi = pos 9 } ∷ record {
+    name = [];
+    cost = negsuc 4;
+    lo = pos 0;
+    hi = pos 9;
+  } ∷ [];
   rows = record { name = []; decimals = 0; coefs = (0, pos 1) ∷ (1, pos 1) ∷ []; low = None; high = Some (pos 4) } ∷ [];
 }
 

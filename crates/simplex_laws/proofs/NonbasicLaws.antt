@@ -9,8 +9,20 @@ use Rattle.frac128.proofs.Rationals.{rationals}
 use Rattle.frac128.proofs.Order.{zero_top}
 use Rattle.lp_duality.specs.Duals.{is_below, paid}
 use Rattle.lp_duality.specs.Relaxations.{IsBetween}
-use Rattle.lp_duality.proofs.SignLaws.{top_zero, Sign, up, down, none, sign_of, below_false, of_at_most, at_most_self, paid_up, paid_down,
-    paid_zero}
+use Rattle.lp_duality.proofs.SignLaws.{
+  top_zero,
+  Sign,
+  up,
+  down,
+  none,
+  sign_of,
+  below_false,
+  of_at_most,
+  at_most_self,
+  paid_up,
+  paid_down,
+  paid_zero,
+}
 use Rattle.tableau.specs.declared.positions.Rest.{Rest}
 use Rattle.tableau.specs.declared.positions.Rest.TheVariants.{Basic, Low, High, Zero}
 use Rattle.tableau.specs.declared.variables.Variable.{Variable}
@@ -98,7 +110,7 @@ paid_nonbasic p low high Zero s f =
     let free : is_fixed_between low high ≡ false = ap (λ o. is_fixed_between o high) s.0 in
     let z = f free in
     paid_zero p low high (ap (λ w. w.numerator) z ∙ zero_top)
-        ∙ ap Some (sym (ap (λ w. mul w (of (pos 0))) z ∙ zero_mul rationals (of (pos 0))))
+    ∙ ap Some (sym (ap (λ w. mul w (of (pos 0))) z ∙ zero_mul rationals (of (pos 0))))
 
 -- ---- no direction
 split_none : (s : Bool) (o : Option Bool) (u : Bool) → cond s (Some u) o ≡ None → (s ≡ false) × (o ≡ None)
@@ -118,7 +130,7 @@ pub sign_fits : (p : Rational) (low high : Option ℤ) (rest : Rest) →
     SignFits p low high rest
 sign_fits p low high rest e =
     by rest (split_none (lt_z p.numerator (pos 0) && (allows true rest && not (is_fixed_between low high)))
-        (cond (lt_z (pos 0) p.numerator && (allows false rest && not (is_fixed_between low high))) (Some false) None) true e)
+    (cond (lt_z (pos 0) p.numerator && (allows false rest && not (is_fixed_between low high))) (Some false) None) true e)
   where
     rise : (rest : Rest) → (lt_z p.numerator (pos 0) && (allows true rest && not (is_fixed_between low high))) ≡ false →
         is_fixed_between low high ≡ false → allows true rest ≡ true → pos 0 ≤ℤ p.numerator
@@ -147,13 +159,19 @@ pub nonbasic_between : (low high : Option ℤ) (rest : Rest) → ((x y : ℤ) �
     IsBetween low high (nonbasic low high rest)
 nonbasic_between low high Basic o s = absurd s
 nonbasic_between None high Low o s = absurd (s refl)
-nonbasic_between (Some x) high Low o s = record { low = λ z e. subst (λ (w : ℤ). AtMost (of w) (of x)) (some_is x z e) (at_most_self (of x));
-    high = λ z e. of_at_most x z (o x z refl e) }
+nonbasic_between (Some x) high Low o s = record {
+  low = λ z e. subst (λ (w : ℤ). AtMost (of w) (of x)) (some_is x z e) (at_most_self (of x));
+  high = λ z e. of_at_most x z (o x z refl e);
+}
 nonbasic_between low None High o s = absurd (s refl)
-nonbasic_between low (Some y) High o s = record { low = λ z e. of_at_most z y (o z y e refl);
-    high = λ z e. subst (λ (w : ℤ). AtMost (of y) (of w)) (some_is y z e) (at_most_self (of y)) }
-nonbasic_between low high Zero o s = record { low = λ z e. absurd (let q : None ≡ Some z = sym s.0 ∙ e in cc);
-    high = λ z e. absurd (let q : None ≡ Some z = sym s.1 ∙ e in cc) }
+nonbasic_between low (Some y) High o s = record {
+  low = λ z e. of_at_most z y (o z y e refl);
+  high = λ z e. subst (λ (w : ℤ). AtMost (of y) (of w)) (some_is y z e) (at_most_self (of y));
+}
+nonbasic_between low high Zero o s = record {
+  low = λ z e. absurd (let q : None ≡ Some z = sym s.0 ∙ e in cc);
+  high = λ z e. absurd (let q : None ≡ Some z = sym s.1 ∙ e in cc);
+}
 
 over_high_none : (x : Rational) (high : Option ℤ) → over_high x high ≡ None → (z : ℤ) → high ≡ Some z → AtMost x (of z)
 over_high_none x None e z q = absurd cc
@@ -170,5 +188,7 @@ outside_none x (Some y) high e = by (is_below x (of y)) refl e
   where
     by : (t : Bool) → is_below x (of y) ≡ t → cond t (Some true) (over_high x high) ≡ None → IsBetween (Some y) high x
     by true f g = absurd cc
-    by false f g = record { low = λ z q. subst (λ (w : ℤ). AtMost (of w) x) (some_is y z q) (below_false x (of y) f);
-        high = over_high_none x high g }
+    by false f g = record {
+      low = λ z q. subst (λ (w : ℤ). AtMost (of w) x) (some_is y z q) (below_false x (of y) f);
+      high = over_high_none x high g;
+    }

@@ -112,9 +112,9 @@ module _ (m : Parts) (b : List (ℤ × ℤ)) (T : Table) (table : IsTable T) (st
       by None e =
           let x = variable_at T.variables v in
           paid_nonbasic p x.low x.high (position_at T.positions v) (no_position v l e) f
-              ∙ ap (λ z. Some (mul p z)) (sym (nonbasic_is x (position_at T.positions v)))
+          ∙ ap (λ z. Some (mul p z)) (sym (nonbasic_is x (position_at T.positions v)))
       by (Some i) e =
           let k = basic_position v i e in
           let z = flat i k.0 k.1 in
           paid_zero p (variable_at T.variables v).low (variable_at T.variables v).high (ap (λ w. w.numerator) z ∙ zero_top)
-              ∙ ap Some (sym (ap (λ w. mul w (value_number T i)) z ∙ zero_mul rationals (value_number T i)))
+          ∙ ap Some (sym (ap (λ w. mul w (value_number T i)) z ∙ zero_mul rationals (value_number T i)))

@@ -43,8 +43,12 @@ module _ (m : Parts) (b : List (ℤ × ℤ)) (T : Table) (of_node : IsTableOf m 
   flip_keeps v can =
       let t = of_node.table in
       record {
-        table = record { rows = t.rows; basics = t.basics; positions = length-set T.positions v (other_side (position_at T.positions v)) ∙ t.positions;
-            within = t.within };
+        table = record {
+          rows = t.rows;
+          basics = t.basics;
+          positions = length-set T.positions v (other_side (position_at T.positions v)) ∙ t.positions;
+          within = t.within;
+        };
         stands = flip_stands T v can.position can.low can.high can.variable t.positions m b of_node.stands;
         points = flip_points T v can.position can.low can.high m of_node.points;
       }
@@ -101,8 +105,11 @@ pub runs_stand : RunsStand
 unfolding after
 runs_stand m b zero T limits size e =
     let is : start_of m b ≡ T = cc in
-    subst (IsTableOf m b) is (record { table = start-table m b limits size; stands = start-stands m b limits size;
-        points = start-points m b limits size })
+    subst (IsTableOf m b) is (record {
+      table = start-table m b limits size;
+      stands = start-stands m b limits size;
+      points = start-points m b limits size;
+    })
 runs_stand m b (suc n) T limits size e = let r = after_before m b n T e in next_keeps m b r.0 (runs_stand m b n r.0 limits size r.1) T r.2
 
 -- a final step changes nothing

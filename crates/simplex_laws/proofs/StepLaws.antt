@@ -1,6 +1,29 @@
 -- The next step of a tableau can be made.
-use Rattle.std.specs.Prelude.{◌≡◌, ◌≢◌, ℕ, ◌-◌, ◌<◌, ◌==◌, ◌&&◌, not, Bool, true, false, cond, if◌then◌else◌, List, length, Option, Some,
-    None, option_map, option_and_then, ℤ, pos, unsigned_abs}
+use Rattle.std.specs.Prelude.{
+  ◌≡◌,
+  ◌≢◌,
+  ℕ,
+  ◌-◌,
+  ◌<◌,
+  ◌==◌,
+  ◌&&◌,
+  not,
+  Bool,
+  true,
+  false,
+  cond,
+  if◌then◌else◌,
+  List,
+  length,
+  Option,
+  Some,
+  None,
+  option_map,
+  option_and_then,
+  ℤ,
+  pos,
+  unsigned_abs,
+}
 use Rattle.std.specs.List.{position}
 use Rattle.std.specs.Int.Signed.{lt_z}
 use Rattle.std.proofs.Common.{arith, refl, ap, sym, ◌∙◌, subst}
@@ -25,8 +48,27 @@ use Rattle.tableau.specs.Nodes.{number, IsWellPlaced, StandsFor}
 use Rattle.tableau.specs.Meanings.{value_number, price_number, ratio_number}
 use Rattle.simplex_laws.specs.declared.next.Next.{Next}
 use Rattle.simplex_laws.specs.declared.next.Next.TheVariants.{Pivot, Flip, FinalRow}
-use Rattle.simplex_laws.specs.Steps.{allows, can_move, direction, over_high, outside, infeasible, side_towards, row_entering, restore, side_met, block_at, block,
-    nearest, move_by, move, entering, improve, by_infeasible, next}
+use Rattle.simplex_laws.specs.Steps.{
+  allows,
+  can_move,
+  direction,
+  over_high,
+  outside,
+  infeasible,
+  side_towards,
+  row_entering,
+  restore,
+  side_met,
+  block_at,
+  block,
+  nearest,
+  move_by,
+  move,
+  entering,
+  improve,
+  by_infeasible,
+  next,
+}
 use Rattle.simplex_laws.specs.Laws.{CanPivot, CanFlip, CanStep, StepsCanBeMade}
 use Rattle.simplex_laws.proofs.ChoiceLaws.{paired, first_is, nearest_is}
 use Rattle.ip_defs.proofs.BoolLaws.{both_true}
@@ -144,8 +186,12 @@ module _ (T : Table) (table : IsTable T) where
           let q : k ≡ i = ap (λ (z : ℕ × Bool). z.0) same in
           let r : u ≡ up = ap (λ (z : ℕ × Bool). z.1) same in
           subst (λ (k : ℕ). (k < length T.rows) × (basic_at T.basics k ≡ w)
-              × (outside (value_number T k) (variable_at T.variables w).low (variable_at T.variables w).high ≡ Some up)) q (l, p, g
-              ∙ ap Some r)
+          × (outside (value_number T k) (variable_at T.variables w).low (variable_at T.variables w).high ≡ Some up)) q (
+            l,
+            p,
+            g
+                ∙ ap Some r,
+          )
 
       by : (o : Option ℕ) → position (λ z. z == w) T.basics ≡ o →
           option_and_then (λ i. option_map {U = ℕ × Bool} (λ up. (i, up)) (outside (value_number T i) (variable_at T.variables w).low
@@ -161,9 +207,11 @@ module _ (T : Table) (table : IsTable T) where
       (variable_at T.variables (basic_at T.basics x.0)).high ≡ Some x.1)
   first_infeasible_is x e =
       let r = first_is (infeasible T) (length T.variables) x e in
-      let s = infeasible_is r.0 x.0 x.1 r.2 in
-      (s.0, subst (λ (w : ℕ). outside (value_number T x.0) (variable_at T.variables w).low (variable_at T.variables w).high
-          ≡ Some x.1) (sym s.1) s.2)
+      let s = infeasible_is r.0 x.0 x.1 r.2 in (
+        s.0,
+        subst (λ (w : ℕ). outside (value_number T x.0) (variable_at T.variables w).low (variable_at T.variables w).high
+            ≡ Some x.1) (sym s.1) s.2,
+      )
 
   module _ (positions : (v : ℕ) → v < length T.variables → IsWellPlaced T v (position_at T.positions v)) where
     restores : (i : ℕ) (up : Bool) (o : Option ℕ) → i < length T.rows →
@@ -183,8 +231,13 @@ module _ (T : Table) (table : IsTable T) where
         at w k (Some go) g h =
             let q : w ≡ v = cc in
             let x = direction_is T (if up then number T i w else neg (number T i w)) w go g in
-            subst (λ (z : ℕ). CanPivot T i z (side_towards (not up))) q (record { row = l; variable = k; pivot = pivot_of up w x.0;
-                enters = x.1; leaves = leaves })
+            subst (λ (z : ℕ). CanPivot T i z (side_towards (not up))) q (record {
+              row = l;
+              variable = k;
+              pivot = pivot_of up w x.0;
+              enters = x.1;
+              leaves = leaves;
+            })
 
         by : (w : ℕ) × (w < length T.variables) × (option_map (λ go. w) (direction T (if up then number T i w else neg (number T i w)) w)
             ≡ Some v) → CanPivot T i v (side_towards (not up))
@@ -229,7 +282,7 @@ module _ (T : Table) (table : IsTable T) where
               let sides = range_is (variable_at T.variables v).low (variable_at T.variables v).high far g in
               subst (λ (z : Rational × Next). CanStep T z.1) q (record {
                 variable = inside;
-                positions = can_rest T v (position_at T.positions v) free (positions v inside);
+                position = can_rest T v (position_at T.positions v) free (positions v inside);
                 low = sides.0;
                 high = sides.1;
               })

@@ -1,7 +1,25 @@
 -- One step of the simplex for variables with sides, by the least-number rule: first a basic variable outside its sides is brought back,
 -- then the cost is lowered. Each choice is the first one by number.
-use Rattle.std.specs.Prelude.{ℕ, zero, suc, ◌==◌, ◌&&◌, not, Bool, true, false, if◌then◌else◌, length, Option, Some, None, option_map,
-    option_and_then, ℤ, pos}
+use Rattle.std.specs.Prelude.{
+  ℕ,
+  zero,
+  suc,
+  ◌==◌,
+  ◌&&◌,
+  not,
+  Bool,
+  true,
+  false,
+  if◌then◌else◌,
+  length,
+  Option,
+  Some,
+  None,
+  option_map,
+  option_and_then,
+  ℤ,
+  pos,
+}
 use Rattle.std.specs.List.{position}
 use Rattle.ip_defs.specs.Lists.{first}
 use Rattle.std.specs.Int.Signed.{lt_z}

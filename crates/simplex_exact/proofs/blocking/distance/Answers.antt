@@ -14,7 +14,7 @@ returns-in-Err-clause-wide c =
     let there = c.args.there in
     let named = c.requires.side in
     let has : side_at (variable_at T.variables (basic_at T.basics c.args.row)) c.args.side ≢ None =
-            λ e. let no : None ≡ Some there = sym e ∙ named in absurd cc in
+    λ e. let no : None ≡ Some there = sym e ∙ named in absurd cc in
     let back : to_z w64 (of_z w64 there) ≡ there = omega (arith, ints) in
     wide_ratio c.args.row c.args.var c.args.side c.requires.row c.requires.variable c.requires.free c.requires.pivot has
     (ratio_wide T c.args.value c.args.row c.args.var c.args.side there c.ratio.result c.in-Err.field-0 c.requires.value named

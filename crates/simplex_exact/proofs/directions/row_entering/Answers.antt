@@ -11,5 +11,5 @@ returns-in-Some c =
     let v = c.loop-var.var in
     let inside : v < length T.variables = omega arith in
     sym (first_here (λ v. option_map (λ advance. v) (direction T (turned c.args.up (number T c.args.row v)) v)) (length T.variables) v v
-        c.loop-var.invariant
+    c.loop-var.invariant
     (ap (option_map (λ advance. v)) (sym c.row_direction.ensures ∙ c.in-Some.is)) inside)

@@ -14,8 +14,13 @@ loop-row-preserved c = λ v h.
     let inside : row < length T.basics = omega arith in
     let range : basic < length basic_rows = omega arith in
     row_step basic_rows c.if-is_none.basic_rows T.basics row v inside (c.loop-row.invariant v h)
-    (λ e. elim c.if-is_none.branch [ then-is_none w ↦ placed_here basic_rows c.if-is_none.basic_rows basic row v w.basic_rows-is range
-        w.if-is_none.ensures (is ∙ e) | else-is_none w ↦ kept_here basic_rows c.if-is_none.basic_rows basic row v w.basic_rows-is w.if-is_none.ensures
-        (is ∙ e) ])
-    (λ n. elim c.if-is_none.branch [ then-is_none w ↦ placed_there basic_rows c.if-is_none.basic_rows basic row v w.basic_rows-is (λ e. n (sym is ∙ e))
-        | else-is_none w ↦ ap (λ (xs : List (Option ℕ)). slice_index_or xs v None) w.basic_rows-is ])
+    (λ e. elim c.if-is_none.branch [
+      | then-is_none w ↦ placed_here basic_rows c.if-is_none.basic_rows basic row v w.basic_rows-is range
+          w.if-is_none.ensures (is ∙ e)
+      | else-is_none w ↦ kept_here basic_rows c.if-is_none.basic_rows basic row v w.basic_rows-is w.if-is_none.ensures
+          (is ∙ e)
+    ])
+    (λ n. elim c.if-is_none.branch [
+      | then-is_none w ↦ placed_there basic_rows c.if-is_none.basic_rows basic row v w.basic_rows-is (λ e. n (sym is ∙ e))
+      | else-is_none w ↦ ap (λ (xs : List (Option ℕ)). slice_index_or xs v None) w.basic_rows-is
+    ])

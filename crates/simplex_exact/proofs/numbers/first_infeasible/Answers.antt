@@ -8,4 +8,4 @@ returns-in-Some-clause-infeasible c =
     let T = c.args.tableau.now in
     let inside : c.loop-v.v < length T.variables = omega arith in
     sym (first_here (infeasible T) (length T.variables) c.loop-v.v c.in-Some.found c.loop-v.invariant.none (sym c.infeasible.ensures
-        ∙ c.in-Some.is) inside)
+    ∙ c.in-Some.is) inside)

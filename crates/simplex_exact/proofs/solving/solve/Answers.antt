@@ -22,7 +22,7 @@ unfolding after
 loop-next-init g c =
     let reached = ap Ok (sym c.in_ok-tableau.ensures.start) in
     let node : IsTableOf c.args.model.now c.args.area.now c.in_ok-tableau.tableau =
-            runs_stand c.args.model.now c.args.area.now 0 c.in_ok-tableau.tableau c.parts-parts.ensures.limits c.requires.size reached in
+    runs_stand c.args.model.now c.args.area.now 0 c.in_ok-tableau.tableau c.parts-parts.ensures.limits c.requires.size reached in
     let size = node.stands.size in
     let rows = ap (λ (xs : List Row). length xs) c.as_slice-2.ensures in
     let columns = ap (λ (xs : List Column). length xs) c.as_slice.ensures in
@@ -56,7 +56,7 @@ pub returns-in-Err-clause-answer : goal.returns-in-Err-clause-answer
 returns-in-Err-clause-answer g c =
     let rose : c.loop-next.taken ≡ c.loop-next.steps - c.args.steps.now = omega arith in
     subst (IsWideAfter c.args.model.now c.args.area.now) rose
-        (wide_number c.loop-next.tableau c.loop-next.invariant.reached c.in-Err.ensures.wide)
+    (wide_number c.loop-next.tableau c.loop-next.invariant.reached c.in-Err.ensures.wide)
 
 pub read-requires-clause-count : goal.read-requires-clause-count
 read-requires-clause-count g c =
@@ -71,14 +71,14 @@ pub read-requires-clause-step : goal.read-requires-clause-step
 read-requires-clause-step g c =
     let T = c.loop-next.tableau in
     subst (CanStep T) (sym c.in-Ok.ensures.next) (steps_can_be_made c.args.model.now c.args.area.now T c.loop-next.invariant.node.table
-        c.loop-next.invariant.node.stands)
+    c.loop-next.invariant.node.stands)
 
 pub read-requires-clause-values : goal.read-requires-clause-values
 read-requires-clause-values g c = λ e v l.
     let T = c.loop-next.tableau in
     let whole : c.loop-next.values.len ≡ length c.choose.new.values = omega arith in
     let is : c.as_slice-then-is_last.result.now ≡ c.choose.new.values = c.as_slice-then-is_last.ensures.value
-            ∙ written_back c.loop-next.values.len c.choose.new.values c.loop-next.values.items whole in
+    ∙ written_back c.loop-next.values.len c.choose.new.values c.loop-next.values.items whole in
     subst (λ (xs : List Fraction). IsNumber T v (at xs v)) (sym is) (c.in-Ok.ensures.numbers (ap Ok e) v l)
 
 pub returns-then-is_last-clause-answer : goal.returns-then-is_last-clause-answer
@@ -86,15 +86,15 @@ returns-then-is_last-clause-answer g c =
     let m = c.args.model.now in
     let b = c.args.area.now in
     let rows : length c.as_slice-2.result.now ≡ length m.rows = ap (λ (xs : List Row). length xs) c.as_slice-2.ensures
-            ∙ ap (λ (m : Parts). length m.rows) c.parts-parts.ensures.parts in
+    ∙ ap (λ (m : Parts). length m.rows) c.parts-parts.ensures.parts in
     let columns : length c.as_slice.result.now ≡ length m.columns = ap (λ (xs : List Column). length xs) c.as_slice.ensures
-            ∙ ap (λ (m : Parts). length m.columns) c.parts-parts.ensures.parts in
+    ∙ ap (λ (m : Parts). length m.columns) c.parts-parts.ensures.parts in
     let read = subst (λ n. IsRead c.loop-next.tableau (length m.columns) n c.in-Ok.next c.in_ok-answer.answer) rows
-            (subst (λ n. IsRead c.loop-next.tableau n (length c.as_slice-2.result.now) c.in-Ok.next c.in_ok-answer.answer) columns
-            c.in_ok-answer.ensures) in
+    (subst (λ n. IsRead c.loop-next.tableau n (length c.as_slice-2.result.now) c.in-Ok.next c.in_ok-answer.answer) columns
+    c.in_ok-answer.ensures) in
     let answer = read_is m b c.loop-next.taken c.loop-next.tableau c.parts-parts.ensures.limits c.requires.size
-            (uncrossed m b c.requires.size c.requires.proper c.requires.uncrossed) c.loop-next.invariant.reached c.in-Ok.next
-            c.in_ok-answer.answer c.in-Ok.ensures.next read in
+    (uncrossed m b c.requires.size c.requires.proper c.requires.uncrossed) c.loop-next.invariant.reached c.in-Ok.next
+    c.in_ok-answer.answer c.in-Ok.ensures.next read in
     let rose : c.loop-next.taken ≡ c.loop-next.steps - c.args.steps.now = omega arith in
     subst (λ n. IsLpAnswer m b n c.in_ok-answer.answer) rose answer
 
@@ -102,7 +102,7 @@ pub take-requires-clause-step : goal.take-requires-clause-step
 take-requires-clause-step g c =
     let T = c.loop-next.tableau in
     subst (CanStep T) (sym c.in-Ok.ensures.next) (steps_can_be_made c.args.model.now c.args.area.now T c.loop-next.invariant.node.table
-        c.loop-next.invariant.node.stands)
+    c.loop-next.invariant.node.stands)
 
 pub loop-next-preserved : goal.loop-next-preserved
 loop-next-preserved g c =
@@ -110,9 +110,9 @@ loop-next-preserved g c =
     let b = c.args.area.now in
     let T = c.loop-next.tableau in
     let reached = reached_one_more m b c.loop-next.taken T c.take.new.tableau c.in-Ok.next c.loop-next.invariant.reached
-            (sym c.in-Ok.ensures.next) (sym c.if-is_last.ensures) c.in-Ok-take.ensures.taken in
+    (sym c.in-Ok.ensures.next) (sym c.if-is_last.ensures) c.in-Ok-take.ensures.taken in
     let node : IsTableOf m b c.take.new.tableau = runs_stand m b (c.loop-next.taken + 1) c.take.new.tableau
-            c.parts-parts.ensures.limits c.requires.size reached.after in
+    c.parts-parts.ensures.limits c.requires.size reached.after in
     let size = node.stands.size in
     let size_before = c.loop-next.invariant.node.stands.size in
     record {
@@ -128,4 +128,4 @@ pub returns-in-Err-take-clause-answer : goal.returns-in-Err-take-clause-answer
 returns-in-Err-take-clause-answer g c =
     let rose : c.take.new.steps - c.args.steps.now ≡ c.loop-next.taken + 1 = omega (arith, c.in-Err-take.ensures.steps) in
     wide_step c.loop-next.taken c.loop-next.tableau rose c.loop-next.invariant.reached
-        (ap (step c.loop-next.tableau) (sym c.in-Ok.ensures.next) ∙ c.in-Err-take.ensures.wide)
+    (ap (step c.loop-next.tableau) (sym c.in-Ok.ensures.next) ∙ c.in-Err-take.ensures.wide)

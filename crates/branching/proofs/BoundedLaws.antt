@@ -9,7 +9,6 @@ use Rattle.ip_defs.specs.declared.certificates.Cert.{Cert}
 use Rattle.ip_defs.specs.declared.programs.Parts.{Parts}
 use Rattle.ip_defs.specs.Boxes.{IsOpen}
 use Rattle.ip_defs.specs.Certificates.{box_sum, bound_by, dual_value, leaf_bound}
-use Rattle.ip_defs.specs.Limits.{IsWithinLimits}
 use Rattle.ip_defs.specs.Program.{at, cost, low_at, high_at, IsFeasible}
 use Rattle.ip_defs.proofs.BoxLaws.{below_open, above_open}
 use Rattle.frac128.specs.Fractions.{Fraction}
@@ -21,7 +20,7 @@ use Rattle.proof_tree.specs.Verdicts.{IsAtLeast}
 use Rattle.branching.specs.declared.reasons.Why.TheVariants.{Fractional}
 use Rattle.branching.specs.Internal.Relaxed.{IsBounded, IsSmallNumber, IsWholeNumber}
 use Rattle.branching.specs.Internal.Search.{Found, Improves, IsBelow, IsEnd, IsSearchArea, IsSplit}
-use Rattle.branching.proofs.LeafLaws.{cert_within, ceiling_one, open_bound}
+use Rattle.branching.proofs.LeafLaws.{ceiling_one, open_bound}
 use Rattle.branching.proofs.PointLaws.{whole_feasible}
 use Rattle.lp_duality.proofs.PointLaws.{whole_cost}
 use Rattle.branching.proofs.WholeLaws.{below_next, floor_below, floor_from, floor_to, of_injective, small_between, small_floor}
@@ -45,10 +44,10 @@ module _ (m : Parts) (b : List (ℤ × ℤ)) (xs : List Fraction) (c : Cert) (h 
       (h.relaxed.high j l')
 
   -- ---- a number that is not whole
-  pub fraction_splits : (pivots : ℕ) (col : ℕ) (cut : ℤ) → IsWithinLimits m → IsOpen b → col < length xs
+  pub fraction_splits : (pivots : ℕ) (col : ℕ) (cut : ℤ) → IsOpen b → col < length xs
       → (IsWholeNumber (numbers_of xs col) → ⊥) → AtMost (of cut) (numbers_of xs col) → AtMost (numbers_of xs col) (of (cut +ℤ pos 1))
       → IsSplit m pivots b col cut (Fractional xs c)
-  fraction_splits pivots col cut limits open' l broken least most =
+  fraction_splits pivots col cut open' l broken least most =
       let l' : col < length m.columns = omega (arith, l, h.size) in
       let inside : col < length b = omega (arith, l', within.area.size) in
       let p = numbers_of xs col in
@@ -60,13 +59,14 @@ module _ (m : Parts) (b : List (ℤ × ℤ)) (xs : List Fraction) (c : Cert) (h 
           record {
             size = h.size;
             relaxed = h.relaxed;
+            certificate = h.certificate;
             positive = h.positive;
             dual = h.dual;
-            above = floor_below p cut least most broken;
-            below = below_next p cut least most broken;
+            more_than_cut = floor_below p cut least most broken;
+            less_than_next = below_next p cut least most broken;
           },
         );
-        col_small = omega (arith, l', limits.column_count);
+        column = l';
         cut_small = small_floor p cut least most broken (number_small col l);
       }
 
@@ -85,9 +85,9 @@ module _ (m : Parts) (b : List (ℤ × ℤ)) (xs : List Fraction) (c : Cert) (h 
         open_bound m b c open' ∙ bound_whole c.q (box_sum m b) (cost m x) (dual_value m b c.q c.y) h.positive
         (h.dual ∙ ap (λ w. Some (mul (of c.q) w)) costs)
 
-    pub point_closes : (w : ℤ) → IsWithinLimits m → IsOpen b → IsEnd m b (Some (x, w)) c
-    point_closes w limits open' = record {
-      cert = cert_within m c limits h.certificate;
+    pub point_closes : (w : ℤ) → IsOpen b → IsEnd m b (Some (x, w)) c
+    point_closes w open' = record {
+      cert = h.certificate;
       closed = let least : IsAtLeast (At (cost m x)) (cost m x) = omega (arith, ints) in
           subst (λ (v : Bound). IsAtLeast v (cost m x)) (sym (point_bound open')) least;
     }

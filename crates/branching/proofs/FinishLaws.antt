@@ -1,5 +1,5 @@
 -- A grown tree without open nodes is a proof, and what is closed stays closed.
-use Rattle.std.specs.Prelude.{ℕ, ◌+◌, ◌≤◌, ℤ, ◌≤ℤ◌, List, [], ◌∷◌, Option, Some, None}
+use Rattle.std.specs.Prelude.{ℕ, ◌+◌, ◌≤◌, ℤ, ◌≤ℤ◌, List, [], ◌∷◌, length, Option, Some, None}
 use Rattle.std.proofs.Common.{arith, ap, sym, ◌∙◌, subst}
 use Rattle.std.proofs.lemmas.Int.{ints, clamps}
 use Rattle.ip_defs.specs.declared.certificates.Bound.{Bound}
@@ -7,17 +7,18 @@ use Rattle.ip_defs.specs.declared.certificates.Bound.TheVariants.{At, Infinite}
 use Rattle.ip_defs.specs.declared.programs.Parts.{Parts}
 use Rattle.ip_defs.specs.Boxes.{below, above}
 use Rattle.ip_defs.specs.Certificates.{leaf_bound}
+use Rattle.ip_defs.specs.Limits.{IsWithinLimits}
 use Rattle.ip_defs.specs.Program.{cost}
 use Rattle.proof_tree.proofs.TreeLaws.{bound_split, bound_min-infinite}
 use Rattle.proof_tree.proofs.LabelledTreeLaws.{deepest_place, relabelled_depth}
 use Rattle.proof_tree.specs.LabelledTrees.{leaf, split, leaf_node, split_node, depth, places_from, splits_over, split_labels, no_label}
-use Rattle.proof_tree.specs.Trees.{bound_min, bound_over}
+use Rattle.proof_tree.specs.Trees.{bound_min, bound_over, FitsColumns, FitsRows, FitsModel}
 use Rattle.proof_tree.specs.Verdicts.{IsAtLeast}
 use Rattle.proof_tree.specs.Within.{AreNumbersWithin}
 use Rattle.branching.specs.OpenTrees.{PlainOpen, pending, stuck, ended, OpenNode, OpenPlace, cert_of, IsDone, tree_of}
-use Rattle.branching.specs.Outcomes.{Pairwise, HasReason, IsClosedBy, IsClosedNode}
-use Rattle.branching.specs.Internal.Search.{IsSmallNode}
+use Rattle.branching.specs.Outcomes.{Pairwise, HasReason, IsClosedBy, IsClosedNode, FitsNode}
 use Rattle.branching.specs.Reasons.{IsReasoned}
+use Rattle.branching.proofs.LeafLaws.{cert_within}
 use Rattle.branching.proofs.OutcomeLaws.{pair_join}
 use Rattle.ip_defs.proofs.ListLaws.{each_left, each_right}
 use Rattle.ip_defs.specs.Lists.{Each}
@@ -25,17 +26,48 @@ use Rattle.ip_defs.specs.Lists.{Each}
 pub done_depth : (k d : ℕ) (b : List (ℤ × ℤ)) (t : PlainOpen) → Each (λ p. p.depth ≤ k) (places_from d b t) → d + depth (tree_of t) ≤ k
 done_depth k d b t h = let deep = deepest_place k d b t h in omega (arith, relabelled_depth cert_of no_label t)
 
-pub done_numbers : (d : ℕ) (b : List (ℤ × ℤ)) (t : PlainOpen) → IsDone t → Each (λ p. IsSmallNode p.node) (places_from d b t)
-    → AreNumbersWithin (tree_of t)
-done_numbers d b (leaf pending) done h = absurd done
-done_numbers d b (leaf (stuck why)) done h = absurd done
-done_numbers d b (leaf (ended c)) done h = h.0
-done_numbers d b (split col cut why left right) done h =
-    let ps = places_from (d + 1) (below b col cut) left in
-    let qs = places_from (d + 1) (above b col cut) right in
-    let first = done_numbers (d + 1) (below b col cut) left done.0 (each_left _ ps qs h.1) in
-    let second = done_numbers (d + 1) (above b col cut) right done.1 (each_right _ ps qs h.1) in
-    (h.0.0, h.0.1, first, second)
+module _ (m : Parts) where
+  done_columns : (d : ℕ) (b : List (ℤ × ℤ)) (t : PlainOpen) → IsDone t → Each (λ p. FitsNode m p.node) (places_from d b t)
+      → FitsColumns (length m.columns) (tree_of t)
+  done_columns d b (leaf pending) done h = absurd done
+  done_columns d b (leaf (stuck why)) done h = absurd done
+  done_columns d b (leaf (ended c)) done h = tt
+  done_columns d b (split col cut why left right) done h =
+      let ps = places_from (d + 1) (below b col cut) left in
+      let qs = places_from (d + 1) (above b col cut) right in
+      let first = done_columns (d + 1) (below b col cut) left done.0 (each_left _ ps qs h.1) in
+      let second = done_columns (d + 1) (above b col cut) right done.1 (each_right _ ps qs h.1) in
+      (h.0.0, first, second)
+
+  done_rows : (d : ℕ) (b : List (ℤ × ℤ)) (t : PlainOpen) → IsDone t → Each (λ p. FitsNode m p.node) (places_from d b t)
+      → FitsRows (length m.rows) (tree_of t)
+  done_rows d b (leaf pending) done h = absurd done
+  done_rows d b (leaf (stuck why)) done h = absurd done
+  done_rows d b (leaf (ended c)) done h = h.0.ordered.within
+  done_rows d b (split col cut why left right) done h =
+      let ps = places_from (d + 1) (below b col cut) left in
+      let qs = places_from (d + 1) (above b col cut) right in
+      let first = done_rows (d + 1) (below b col cut) left done.0 (each_left _ ps qs h.1) in
+      let second = done_rows (d + 1) (above b col cut) right done.1 (each_right _ ps qs h.1) in
+      (first, second)
+
+  -- a tree whose nodes fit the program does
+  pub done_fits : (d : ℕ) (b : List (ℤ × ℤ)) (t : PlainOpen) → IsDone t → Each (λ p. FitsNode m p.node) (places_from d b t)
+      → FitsModel m (tree_of t)
+  done_fits d b t done h = record { columns = done_columns d b t done h; rows = done_rows d b t done h }
+
+  -- and its numbers are within the limits of trees
+  pub done_numbers : IsWithinLimits m → (d : ℕ) (b : List (ℤ × ℤ)) (t : PlainOpen) → IsDone t
+      → Each (λ p. FitsNode m p.node) (places_from d b t) → AreNumbersWithin (tree_of t)
+  done_numbers limits d b (leaf pending) done h = absurd done
+  done_numbers limits d b (leaf (stuck why)) done h = absurd done
+  done_numbers limits d b (leaf (ended c)) done h = cert_within m c limits h.0
+  done_numbers limits d b (split col cut why left right) done h =
+      let ps = places_from (d + 1) (below b col cut) left in
+      let qs = places_from (d + 1) (above b col cut) right in
+      let first = done_numbers limits (d + 1) (below b col cut) left done.0 (each_left _ ps qs h.1) in
+      let second = done_numbers limits (d + 1) (above b col cut) right done.1 (each_right _ ps qs h.1) in
+      (omega (arith, h.0.0, limits.column_count), h.0.1, first, second)
 
 both_closed : (m : Parts) (x : Option (List ℤ)) (u v : Bound) → IsClosedBy m x u → IsClosedBy m x v → IsClosedBy m x (bound_min u v)
 both_closed m None u v p q = ap (λ w. bound_min w v) p ∙ q

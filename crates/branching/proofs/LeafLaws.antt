@@ -136,9 +136,9 @@ module _ (b : List (ℤ × ℤ)) (single : IsSingle b) (open' : IsOpen b) where
       let by_ray : bound_by (pos 0) (box_sum m b) (Some g) ≡ Infinite = ap (λ t. if t then Infinite else At (box_sum m b)) positive in
       open_bound m b (ray_on i k) open' ∙ ap (bound_by (pos 0) (box_sum m b)) dual ∙ by_ray
 
--- the certificate without multipliers is within the limits
-plain_cert_ok : IsCert 1024 plain_cert
-plain_cert_ok = record {
+-- the certificate without multipliers is one for any number of rows
+plain_cert_ok : (rows : ℕ) → IsCert rows plain_cert
+plain_cert_ok rows = record {
   not_negative = omega (arith, ints);
   divisor = omega (arith, ints);
   ordered = record { rising = λ i k p q. absurd (omega arith); within = λ i p. absurd (omega arith);
@@ -146,7 +146,7 @@ plain_cert_ok = record {
   multipliers = λ i p. absurd (omega arith);
 }
 
--- and so is one for the rows of a program
+-- a certificate for the rows of a program is within the limits of trees
 pub cert_within : (m : Parts) (c : Cert) → IsWithinLimits m → IsCert (length m.rows) c → IsCert 1024 c
 cert_within m c limits ok = record {
   not_negative = ok.not_negative;
@@ -157,7 +157,7 @@ cert_within m c limits ok = record {
 }
 
 -- a box with a bound that the best point closes ends with the certificate that bounds so
-pub closed_end : (m : Parts) (b : List (ℤ × ℤ)) (found : Found) (c : Cert) (v : Bound) → IsSound m found → IsCert 1024 c →
+pub closed_end : (m : Parts) (b : List (ℤ × ℤ)) (found : Found) (c : Cert) (v : Bound) → IsSound m found → IsCert (length m.rows) c →
     v ≡ leaf_bound m b c → Closes found v → IsEnd m b found c
 closed_end m b found c v sound ok bound closes = record {
   cert = ok;
@@ -171,13 +171,14 @@ closed_end m b found c v sound ok bound closes = record {
 -- so does one with the certificate without multipliers
 pub plain_end : (m : Parts) (b : List (ℤ × ℤ)) (found : Found) (c : Cert) (v : Bound) → IsSound m found → c ≡ plain_cert →
     v ≡ leaf_bound m b c → Closes found v → IsEnd m b found c
-plain_end m b found c v sound is bound closes = closed_end m b found c v sound (subst (IsCert 1024) (sym is) plain_cert_ok) bound closes
+plain_end m b found c v sound is bound closes = closed_end m b found c v sound
+    (subst (IsCert (length m.rows)) (sym is) (plain_cert_ok (length m.rows))) bound closes
 
 module _ (m : Parts) (b : List (ℤ × ℤ)) (p : List ℤ) (w : ℤ) (single : IsSingle b) (open' : IsOpen b) (is : p ≡ lowest b) where
   -- the one point of a box closes it, once it is kept
   pub point_end : (c : Cert) → c ≡ plain_cert → IsEnd m b (Some (p, w)) c
   point_end c plain = record {
-    cert = subst (IsCert 1024) (sym plain) plain_cert_ok;
+    cert = subst (IsCert (length m.rows)) (sym plain) (plain_cert_ok (length m.rows));
     closed =
         let sum = point_sum b single open' m in
         let same = ap (cost m) is in

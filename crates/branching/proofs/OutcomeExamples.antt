@@ -38,7 +38,7 @@ grown = split 0 (pos 0) Stopped (leaf (ended (ray_on 0 (pos 1)))) (leaf (ended (
 pub rays_close : tree_bound (odd (pos 1)) (tree_of grown) ≡ Infinite
 rays_close = refl
 
--- with the signs turned a ray closes nothing, and the sum of the box is left
+-- a negated ray closes nothing, and the sum of the box is left
 pub turned_ray : leaf_bound (odd (pos 1)) ((pos 1, pos 1) ∷ []) (ray_on 0 (pos 1)) ≡ At (negsuc 0)
 turned_ray = refl
 

@@ -18,9 +18,9 @@ use Rattle.simplex_exact.specs.Answers.{IsBest}
 use Rattle.branching.specs.Internal.Relaxed.{IsBounded}
 use Rattle.branching.specs.Internal.Search.{IsSearchArea}
 
-pub prices_bound : (m : Parts) (b : List (ℤ × ℤ)) (pivots : ℕ) (xs ys : List Fraction) (c : Cert) → IsSearchArea m b
-    → IsBest m b pivots xs ys → IsOfPrices ys c → IsBounded m b xs c
-prices_bound m b pivots xs ys c within best prices =
+pub prices_bound : (m : Parts) (b : List (ℤ × ℤ)) (n : ℕ) (xs ys : List Fraction) (c : Cert) → IsSearchArea m b
+    → IsBest m b n xs ys → IsOfPrices ys c → IsBounded m b xs c
+prices_bound m b n xs ys c within best prices =
     let q = of c.q in
     let y = numbers_of ys in
     let ok : IsCert (length m.rows) c = subst (λ (n : ℕ). IsCert n c) best.prices.size prices.certificate in

@@ -16,7 +16,7 @@ use Rattle.ip_defs.specs.declared.programs.Row.{Row}
 use Rattle.ip_defs.specs.Boxes.{IsOpen}
 use Rattle.ip_defs.specs.Breaches.{column_breach, is_below_side, is_above_side, row_breach, first_breach}
 use Rattle.ip_defs.specs.Certificates.{leaf_bound}
-use Rattle.ip_defs.specs.Limits.{IsCert, IsWithinLimits, index_at, value_at}
+use Rattle.ip_defs.specs.Limits.{IsCert, index_at, value_at}
 use Rattle.ip_defs.specs.Lists.{first}
 use Rattle.std.specs.Option.{option_or}
 use Rattle.ip_defs.specs.Program.{at, box_of, low_at, high_at, row_sum, IsIn}
@@ -101,15 +101,15 @@ broken_side m x i broken = by (slice_get m.rows i) refl broken
         test false g = absurd cc
 
 -- a certificate of one multiplier of 1 or -1
-pub ray_cert : (i : ℕ) (k : ℤ) → i < 1024 → k ≢ pos 0 → unsigned_abs k ≤ 2 ^ 36 → IsCert 1024 (ray_on i k)
-ray_cert i k l other small = record {
+pub ray_cert : (rows i : ℕ) (k : ℤ) → i < rows → k ≢ pos 0 → unsigned_abs k ≤ 2 ^ 36 → IsCert rows (ray_on i k)
+ray_cert rows i k l other small = record {
   not_negative = omega (arith, ints);
   divisor = omega (arith, ints);
   ordered = record { rising = λ a c p q. absurd (omega arith); within = λ a p. at_first a p; present = λ a p. present_first a p };
   multipliers = λ a p. small_first a p;
 }
   where
-    at_first : (a : ℕ) → a < 1 → index_at ((i, k) ∷ []) a < 1024
+    at_first : (a : ℕ) → a < 1 → index_at ((i, k) ∷ []) a < rows
     at_first zero p = l
     at_first (suc a) p = absurd (omega arith)
 
@@ -133,9 +133,5 @@ other_ray m b i v single open' broken low_is = by (broken_side m (lowest b) i br
     by (r, is, inr (h, high, more)) = ray_infinite b single open' m i r (negsuc 0) h is high (omega (arith, ints))
 
 -- a broken row is one of the rows
-pub broken_within : (m : Parts) (x : List ℤ) (i : ℕ) → IsWithinLimits m → BreaksRow m x i → i < 1024
-broken_within m x i limits broken =
-    let found = broken_side m x i broken in
-    let within = slice_get_within m.rows i found.0 found.1 in
-    let few = limits.row_count in
-    omega arith
+pub broken_within : (m : Parts) (x : List ℤ) (i : ℕ) → BreaksRow m x i → i < length m.rows
+broken_within m x i broken = let found = broken_side m x i broken in slice_get_within m.rows i found.0 found.1

@@ -4,21 +4,23 @@ use Rattle.std.specs.Prelude.{◌≡◌, ℕ, suc, ◌+◌, ◌*◌, ◌≤◌, 
 use Rattle.std.proofs.Math.Nat.{add-mul}
 use Rattle.std.specs.Int.{int_min, int_max}
 use Rattle.std.specs.Option.{is_some}
-use Rattle.std.proofs.Common.{refl, arith, inl, inr, subst, sym, ap, set, length-set}
+use Rattle.std.proofs.Common.{refl, arith, inl, inr, subst, sym, ap, ◌∙◌, set, length-set}
 use Rattle.std.proofs.lemmas.Bool.{eqb-true, eqb-false}
 use Rattle.std.proofs.lemmas.Grind.{get_or-set_at}
 use Rattle.std.proofs.lemmas.Int.{ints, clamps}
 use Rattle.std.proofs.lemmas.List.{get_or-set_other}
-use Rattle.std.proofs.lemmas.List.{length-append}
+use Rattle.std.proofs.lemmas.List.{length-append, length-map}
+use Rattle.ip_defs.specs.declared.programs.Column.{Column}
 use Rattle.ip_defs.specs.declared.programs.Parts.{Parts}
 use Rattle.ip_defs.specs.Boxes.{below, above}
+use Rattle.ip_defs.specs.Limits.{IsWithinLimits}
 use Rattle.ip_defs.specs.Program.{box_of, high_at, low_at, IsFeasible}
 use Rattle.ip_defs.proofs.BoxLaws.{below_area, above_area}
 use Rattle.proof_tree.proofs.WithinLaws.{limits_are_exact}
 use Rattle.proof_tree.proofs.LabelledTreeLaws.{places_counted, relabelled_count}
 use Rattle.proof_tree.specs.LabelledTrees.{leaf, split, places_from, node_count, depth, splits_over, split_labels, no_label}
-use Rattle.proof_tree.specs.Trees.{PlainTree, plain, bound_over, tree_limit}
-use Rattle.proof_tree.specs.Verdicts.{AreProvedBy}
+use Rattle.proof_tree.specs.Trees.{PlainTree, plain, bound_over, tree_limit, FitsModel}
+use Rattle.proof_tree.specs.Verdicts.{AreProvedBy, HasLength}
 use Rattle.proof_tree.specs.Within.{IsTreeWithin}
 use Rattle.proof_tree.specs.declared.claims.Claim.{Claim}
 use Rattle.proof_tree.specs.declared.claims.Proof.{Proof}
@@ -37,7 +39,7 @@ use Rattle.branching.specs.Counts.{IsCounted}
 use Rattle.branching.specs.Reasons.{IsReasoned}
 use Rattle.branching.proofs.BoxSizeLaws.{cut_low, cut_high}
 use Rattle.branching.proofs.OutcomeLaws.{some_left, some_right}
-use Rattle.branching.proofs.FinishLaws.{IsNoWorse, closed_stays, done_closed, done_depth, done_numbers, done_reasons}
+use Rattle.branching.proofs.FinishLaws.{IsNoWorse, closed_stays, done_closed, done_depth, done_fits, done_numbers, done_reasons}
 use Rattle.ip_defs.proofs.ListLaws.{each_append}
 use Rattle.ip_defs.specs.Lists.{Each}
 
@@ -68,7 +70,7 @@ halves_places m l d b col cut why left right before mid after x y deep halved fi
       reasons = (halved.reasoned, each_append _ ps qs first.reasons second.reasons);
       deep = (deep, each_append _ ps qs first.deep second.deep);
       closed = (tt, each_append _ ps qs (closed_stays m (point_of x) (point_of y) ps better first.closed) second.closed);
-      small = ((halved.col_small, halved.cut_small), each_append _ ps qs first.small second.small);
+      fits = ((halved.column, halved.cut_small), each_append _ ps qs first.fits second.fits);
       count = (let p = first.count in let q = second.count in omega arith);
       room = second.room;
     }
@@ -77,7 +79,7 @@ halves_places m l d b col cut why left right before mid after x y deep halved fi
 pub pending_places : (m : Parts) (l : Limits) (d : ℕ) (b : List (ℤ × ℤ)) (count : ℕ) (x : Found) → d ≤ l.depth → count ≤ l.nodes
     → ArePlacesOf m l (places_from d b (leaf pending)) count count x
 pending_places m l d b count x deep room' =
-    record { reasons = (tt, tt); deep = (deep, tt); closed = (tt, tt); small = (tt, tt); count = omega arith; room = room' }
+    record { reasons = (tt, tt); deep = (deep, tt); closed = (tt, tt); fits = (tt, tt); count = omega arith; room = room' }
 
 -- ---- how two halves end
 
@@ -236,6 +238,7 @@ stop_is_right m l t after x Depth g = record {
   deep = g.places.deep;
   cause = g.ends;
   point = sound_point m x g.sound;
+  fits = g.places.fits;
   closed = g.places.closed;
 }
 stop_is_right m l t after x Nodes g = record {
@@ -245,23 +248,26 @@ stop_is_right m l t after x Nodes g = record {
   deep = g.places.deep;
   cause = (g.ends.1, (let p = g.places.count in let q = g.ends.2 in omega arith));
   point = sound_point m x g.sound;
+  fits = g.places.fits;
   closed = g.places.closed;
 }
 
 -- a search of the box that ended, as a proof
-end_is_finished : (m : Parts) (l : Limits) (t : PlainOpen) (after : ℕ) (x : Found) (p : Proof) (whys : List Why) → l.nodes ≤ 1000000
-    → l.depth ≤ 800 → IsGrown m l 0 (box_of m) 1 after None x t None → plain p.tree ≡ tree_of t → whys ≡ split_labels t
+end_is_finished : (m : Parts) (l : Limits) (t : PlainOpen) (after : ℕ) (x : Found) (p : Proof) (whys : List Why) → IsWithinLimits m
+    → l.nodes ≤ 1000000 → l.depth ≤ 800 → HasLength (length m.columns) p.claim → IsGrown m l 0 (box_of m) 1 after None x t None → plain p.tree ≡ tree_of t → whys ≡ split_labels t
     → AreProvedBy m p.claim (bound_over m (tree_of t) (box_of m)) → IsFinished m l p whys
-end_is_finished m l t after x p whys few shallow g tree_is whys_is proved' =
+end_is_finished m l t after x p whys limits few shallow sized g tree_is whys_is proved' =
     let listed = places_counted 0 (box_of m) t in
     let same = relabelled_count cert_of no_label t in
     let room : node_count (tree_of t) ≤ l.nodes = (let c = g.places.count in let r = g.places.room in omega arith) in
     let deep' : depth (tree_of t) ≤ l.depth = (let d = done_depth l.depth 0 (box_of m) t g.places.deep in omega arith) in
     let within : IsTreeWithin (tree_of t) =
-    record { count = omega arith; deep = omega arith; numbers = done_numbers 0 (box_of m) t g.ends g.places.small } in
+    record { count = omega arith; deep = omega arith; numbers = done_numbers m limits 0 (box_of m) t g.ends g.places.fits } in
     let back = sym tree_is in
     record {
       proved = subst (λ (s : PlainTree). AreProvedBy m p.claim (bound_over m s (box_of m))) back proved';
+      point = sized;
+      fits = subst (FitsModel m) back (done_fits m 0 (box_of m) t g.ends g.places.fits);
       nodes = subst (λ (s : PlainTree). node_count s ≤ l.nodes) back room;
       deep = subst (λ (s : PlainTree). depth s ≤ l.depth) back deep';
       limits = subst (λ (s : PlainTree). tree_limit s ≡ None) back ((limits_are_exact (tree_of t)).1 within);
@@ -270,25 +276,27 @@ end_is_finished m l t after x p whys few shallow g tree_is whys_is proved' =
           (done_reasons m l.pivots 0 (box_of m) t g.ends g.places.reasons));
     }
 
-pub end_is_right : (m : Parts) (l : Limits) (t : PlainOpen) (after : ℕ) (x : Found) (o : Outcome) → l.nodes ≤ 1000000 → l.depth ≤ 800
-    → IsGrown m l 0 (box_of m) 1 after None x t None → IsAnswerOf t (point_of x) o → IsRightOutcome m l o
-end_is_right m l t after None (Empty p whys) few shallow g made =
+pub end_is_right : (m : Parts) (l : Limits) (t : PlainOpen) (after : ℕ) (x : Found) (o : Outcome) → IsWithinLimits m → l.nodes ≤ 1000000
+    → l.depth ≤ 800 → IsGrown m l 0 (box_of m) 1 after None x t None → IsAnswerOf t (point_of x) o → IsRightOutcome m l o
+end_is_right m l t after None (Empty p whys) limits few shallow g made =
     let closed = done_closed m None 0 (box_of m) t g.ends g.places.closed in (
       made.claim_is,
-      end_is_finished m l t after None p whys few shallow g made.tree_is made.reasons_are
+      end_is_finished m l t after None p whys limits few shallow (subst (HasLength (length m.columns)) (sym made.claim_is) tt) g made.tree_is made.reasons_are
           (subst (λ (c : Claim). AreProvedBy m c (bound_over m (tree_of t) (box_of m))) (sym made.claim_is) closed),
     )
-end_is_right m l t after (Some y) (Best p whys) few shallow g made =
+end_is_right m l t after (Some y) (Best p whys) limits few shallow g made =
     let closed = done_closed m (Some y.0) 0 (box_of m) t g.ends g.places.closed in
-    let claims : ClaimsPoint p.claim = subst ClaimsPoint (sym made.claim_is) tt in (
+    let claims : ClaimsPoint p.claim = subst ClaimsPoint (sym made.claim_is) tt in
+    let length_is : length y.0 ≡ length m.columns = g.sound.0.within.size ∙ length-map m.columns (λ (c : Column). (c.lo, c.hi)) in
+    let sized = subst (HasLength (length m.columns)) (sym made.claim_is) length_is in (
       claims,
-      end_is_finished m l t after (Some y) p whys few shallow g made.tree_is made.reasons_are
+      end_is_finished m l t after (Some y) p whys limits few shallow sized g made.tree_is made.reasons_are
           (subst (λ (c : Claim). AreProvedBy m c (bound_over m (tree_of t) (box_of m))) (sym made.claim_is) (g.sound.0, closed)),
     )
-end_is_right m l t after None (Best p whys) few shallow g made = absurd made
-end_is_right m l t after None (Budget what grown best) few shallow g made = absurd made
-end_is_right m l t after (Some y) (Empty p whys) few shallow g made = absurd made
-end_is_right m l t after (Some y) (Budget what grown best) few shallow g made = absurd made
+end_is_right m l t after None (Best p whys) limits few shallow g made = absurd made
+end_is_right m l t after None (Budget what grown best) limits few shallow g made = absurd made
+end_is_right m l t after (Some y) (Empty p whys) limits few shallow g made = absurd made
+end_is_right m l t after (Some y) (Budget what grown best) limits few shallow g made = absurd made
 
 -- an answer has no stuck node to count
 pub answer_has_none : (t : PlainOpen) (best : Option (List ℤ)) (o : Outcome) → IsAnswerOf t best o → HasOneStuck o

@@ -32,7 +32,7 @@ times_bottom a z = ap (λ w. a *ℤ w) (whole_parts z).1 ∙ omega (arith, ints)
 top_times : (z d : ℤ) → (of z).numerator *ℤ d ≡ z *ℤ d
 top_times z d = ap (λ w. w *ℤ d) (whole_parts z).0
 
--- a number of a list by its place
+-- a number of a list by its index
 pub number_read : (xs : List Fraction) (i : ℕ) (x : Fraction) → i < length xs → x ≡ get_or xs i x → numbers_of xs i ≡ value_of x
 number_read xs i x l e = ap value_of
     (get_or_from_slice_get xs i x (record { num = pos 0; den = pos 1 }) (slice_get_read xs (length xs) i x refl l e))
@@ -126,7 +126,7 @@ small_between p low high l h from to' = record {
   high = at_most_trans p (of high) (of (pos 16777216)) to' (of_at_most high (pos 16777216) (omega (arith, ints)));
 }
 
--- a small whole number is small in size
+-- a small whole number has a small absolute value
 pub small_whole : (z : ℤ) → IsSmallNumber (of z) → unsigned_abs z ≤ 2 ^ 24
 small_whole z small =
     let low = from_at_most (negsuc 16777215) z small.low in

@@ -53,7 +53,8 @@ stopped_of (Best p whys) = count_by is_stopped whys
 stopped_of (Empty p whys) = count_by is_stopped whys
 stopped_of (Budget what grown best) = stopped_in (plain_open grown)
 
--- the counter of steps rose by all that each stopped linear program may take, and by no more than so many for each node of the tree
+-- the counter of steps rose by the allowed number for each linear program that was stopped, and by at most that number for each node of
+-- the tree
 pub record IsCounted (l : Limits) (stopped nodes before after : ℕ) : Type 0 where
   pub least : before + stopped * l.pivots ≤ after
   pub most : after ≤ before + nodes * l.pivots

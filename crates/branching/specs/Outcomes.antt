@@ -1,13 +1,15 @@
 -- Right outcomes of a search: proofs that are proved, and stops that have their cause.
-use Rattle.std.specs.Prelude.{◌≡◌, ◌⊎◌, ℕ, ◌+◌, ◌<◌, ◌≤◌, List, [], ◌∷◌, length, Option, Some, None, IfSome, ℤ}
+use Rattle.std.specs.Prelude.{◌≡◌, ◌⊎◌, ℕ, ◌+◌, ◌^◌, ◌<◌, ◌≤◌, List, [], ◌∷◌, length, Option, Some, None, IfSome, ℤ}
+use Rattle.std.specs.Int.RustNames.{unsigned_abs}
 use Rattle.ip_defs.specs.declared.certificates.Bound.{Bound}
 use Rattle.ip_defs.specs.declared.certificates.Bound.TheVariants.{Infinite}
 use Rattle.ip_defs.specs.declared.programs.Parts.{Parts}
 use Rattle.ip_defs.specs.Certificates.{leaf_bound}
+use Rattle.ip_defs.specs.Limits.{IsCert}
 use Rattle.ip_defs.specs.Program.{box_of, cost, IsFeasible, IsLeast, IsEmpty}
 use Rattle.proof_tree.specs.LabelledTrees.{leaf_node, split_node, node_count, depth, split_at, splits_over}
-use Rattle.proof_tree.specs.Trees.{plain, tree_limit}
-use Rattle.proof_tree.specs.Verdicts.{IsProved, IsAtLeast}
+use Rattle.proof_tree.specs.Trees.{plain, tree_limit, FitsModel}
+use Rattle.proof_tree.specs.Verdicts.{IsProved, IsAtLeast, HasLength}
 use Rattle.proof_tree.specs.declared.claims.Claim.{Claim}
 use Rattle.proof_tree.specs.declared.claims.Claim.TheVariants as Claims
 use Rattle.proof_tree.specs.declared.claims.Proof.{Proof}
@@ -40,9 +42,12 @@ abbrev pub ClaimsPoint : Claim → Type 0
 ClaimsPoint (Claims.Best x) = Unit {0}
 ClaimsPoint Claims.Empty = ⊥
 
--- a proof that is proved, within the limits of the search and of trees, whose splits are proper and have these true reasons
+-- a proof that is proved and fits its model, within the limits of the search and of trees, whose splits are proper and have these true
+-- reasons
 pub record IsFinished (m : Parts) (l : Limits) (p : Proof) (whys : List Why) : Type 0 where
   pub proved : IsProved m p
+  pub point : HasLength (length m.columns) p.claim
+  pub fits : FitsModel m (plain p.tree)
   pub nodes : node_count (plain p.tree) ≤ l.nodes
   pub deep : depth (plain p.tree) ≤ l.depth
   pub limits : tree_limit (plain p.tree) ≡ None
@@ -56,6 +61,12 @@ HasReason m pivots b (leaf_node (stuck why)) = IsStuckFor m pivots b why
 HasReason m pivots b (leaf_node e) = Unit {0}
 HasReason m pivots b (split_node col cut why) = IsReasoned m pivots (split_at b col cut) why
 
+-- a certificate of a leaf is one for the rows of the program, and a split is at one of its columns
+abbrev pub FitsNode : Parts → OpenNode → Type 0
+FitsNode m (leaf_node (ended c)) = IsCert (length m.rows) c
+FitsNode m (leaf_node e) = Unit {0}
+FitsNode m (split_node col cut why) = (col < length m.columns) × (unsigned_abs cut ≤ 2 ^ 24)
+
 -- a node that has to be split, and may not be
 abbrev pub IsStuckNode : OpenNode → Type 0
 IsStuckNode (leaf_node (stuck why)) = Unit {0}
@@ -65,7 +76,7 @@ IsStuckNode n = ⊥
 abbrev pub IsStuckAt : ℕ → OpenPlace → Type 0
 IsStuckAt d p = IsStuckNode p.node × (p.depth ≡ d)
 
--- the limit that stopped the search: a stuck node stands at the greatest depth; or none does, and there is no room for two more nodes
+-- the limit that stopped the search: a stuck node stands at the greatest depth; or none does, and two more nodes would exceed the limit
 abbrev pub IsCause : BudgetWhat → Limits → List OpenPlace → Type 0
 IsCause Depth l ps = SomeOf (IsStuckAt l.depth) ps
 IsCause Nodes l ps = Each (λ p. IsStuckAt l.depth p → ⊥) ps × (l.nodes < length ps + 2)
@@ -88,6 +99,7 @@ pub record IsStopped (m : Parts) (l : Limits) (what : BudgetWhat) (ps : List Ope
   pub deep : Each (λ p. p.depth ≤ l.depth) ps
   pub cause : IsCause what l ps
   pub point : IfSome best (IsFeasible m)
+  pub fits : Each (λ p. FitsNode m p.node) ps
   pub closed : Each (λ p. IsClosedNode m best p.box p.node) ps
 
 -- ---- right outcomes

@@ -4,8 +4,8 @@
 mod boxes;
 mod budgets;
 mod counts;
-mod ends;
-mod finish;
+mod leaves;
+mod finished_trees;
 mod laws;
 mod nodes;
 mod open_trees;

@@ -13,7 +13,7 @@ ghost use Rattle.branching.specs.Splits.{IsWidest};
 
 use crate::boxes::{middle, widest_column};
 use crate::budgets::Limits;
-use crate::ends::{Found, end_at_point, is_closed, plain_cert};
+use crate::leaves::{Found, end_at_point, is_closed, plain_cert};
 use crate::relaxations::{Relaxed, relax};
 use crate::{BudgetWhat, Why};
 use ip_defs::{Area, Cert, Memory};
@@ -45,7 +45,7 @@ pub struct Progress {
     pub scratch: Scratch,
 }
 
-/// The limit that forbids a split of a node at a depth, where the tree has so many nodes. The depth is tested first.
+/// The limit that forbids a split of a node at a depth, where the tree has a number of nodes. The depth is tested first.
 fn blocked_by(limits: Limits, depth: u32, nodes: u32) -> Option<BudgetWhat>
     requires depth { depth ≤ limits.depth }
     requires nodes { nodes ≤ limits.nodes }
@@ -77,7 +77,7 @@ fn split_at(limits: Limits, depth: u32, nodes: u32, col: u32, at: i64, why: Why)
 
 /// Visits a node of more than one point: closes its box by the sum of its least costs or by its linear program, or splits it, by the
 /// linear program at a column with a fraction, or without its answer at the middle of the widest column.
-fn visit_wide<L: Ledger>(
+fn relax_or_split<L: Ledger>(
     alloc: Global,
     model: &IntModel,
     limits: Limits,
@@ -99,6 +99,7 @@ fn visit_wide<L: Ledger>(
     requires room { FitsScratch model.now search.old.scratch }
     ensures visited { IfOk result (IsVisited model.now limits depth area.now search.old.nodes search.new.found) }
     ensures least { IfOk result (λ v. steps.old + stops_at v * limits.pivots ≤ steps.new) }
+    ensures rises { steps.old ≤ steps.new }
     ensures most { steps.new ≤ steps.old + limits.pivots }
     ensures sound { IsSound model.now search.new.found }
     ensures improves { Improves search.old.found search.new.found }
@@ -136,6 +137,7 @@ pub fn visit_node<L: Ledger>(
     requires room { FitsScratch model.now search.old.scratch }
     ensures visited { IfOk result (IsVisited model.now limits depth area.now search.old.nodes search.new.found) }
     ensures least { IfOk result (λ v. steps.old + stops_at v * limits.pivots ≤ steps.new) }
+    ensures rises { steps.old ≤ steps.new }
     ensures most { steps.new ≤ steps.old + limits.pivots }
     ensures sound { IsSound model.now search.new.found }
     ensures improves { Improves search.old.found search.new.found }
@@ -148,7 +150,7 @@ pub fn visit_node<L: Ledger>(
         return Ok(Visit::Closed(plain));
     }
     match widest_column(area.as_slice()) {
-        Some(widest) => visit_wide(alloc, model, limits, area, depth, widest, search, steps),
+        Some(widest) => relax_or_split(alloc, model, limits, area, depth, widest, search, steps),
         None => Ok(Visit::Closed(end_at_point(
             alloc,
             model,

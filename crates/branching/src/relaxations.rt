@@ -12,7 +12,7 @@ ghost use Rattle.branching.specs.Internal.Relaxed.{IsBounded, IsRelaxedNode, IsS
 ghost use Rattle.branching.specs.Internal.Search.{Improves, IsSearchArea, IsSound};
 
 use crate::Why;
-use crate::ends::is_closed;
+use crate::leaves::is_closed;
 use crate::nodes::Progress;
 use dual_rays::{cert_of_prices, cert_of_ray};
 use frac128::Frac;
@@ -164,6 +164,7 @@ pub fn relax<L: Ledger>(
     requires room { FitsScratch model.now search.old.scratch }
     ensures relaxed { IfOk result (IsRelaxedNode model.now pivots area.now search.new.found) }
     ensures least { IfOk result (λ r. steps.old + stops_by r * pivots ≤ steps.new) }
+    ensures rises { steps.old ≤ steps.new }
     ensures most { steps.new ≤ steps.old + pivots }
     ensures sound { IsSound model.now search.new.found }
     ensures improves { Improves search.old.found search.new.found }

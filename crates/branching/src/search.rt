@@ -10,8 +10,8 @@ ghost use Rattle.branching.specs.Outcomes.{HasOneStuck, IsRightOutcome, IsTrueOu
 ghost use Rattle.branching.specs.Internal.Search.{IsAnswerOf, IsGrown, IsSearchArea, IsSound};
 ghost use Rattle.branching.specs.Sizes.{AreAmple, IsAnswer};
 
-use crate::ends::best_point;
-use crate::finish::finish;
+use crate::leaves::best_point;
+use crate::finished_trees::finish;
 use crate::nodes::{Progress, Visit, visit_node};
 use crate::{BudgetWhat, Limits, OpenTree, Outcome, Why, Whys};
 use ip_defs::{Area, Memory, Point};
@@ -49,7 +49,7 @@ fn split(
     })
 }
 
-/// Grows the subtree over a box, the left side first. The area is changed on the way and is as it was in the end.
+/// Grows the subtree over a box, the left side first. The area is changed meanwhile and is as before in the end.
 fn grow<L: Ledger>(
     alloc: Global,
     model: &IntModel,
@@ -70,6 +70,7 @@ fn grow<L: Ledger>(
         search.old.found search.new.found (plain_open g.tree) g.stop) }
     ensures counted { IfOk result (λ g. IsCounted limits (stopped_in (plain_open g.tree)) (node_count (plain_open g.tree))
         steps.old steps.new) }
+    ensures rises { steps.old ≤ steps.new }
     ensures restored { OnOk result (area.new ≡ area.old) }
     ensures room { OnOk result (FitsScratch model.now search.new.scratch) }
 {
@@ -147,6 +148,7 @@ fn search_box<L: Ledger>(
     ensures right { IfOk result (IsRightOutcome model.now limits) }
     ensures stuck { IfOk result HasOneStuck }
     ensures counted { IfOk result (λ o. IsCounted limits (stopped_of o) (nodes_of o) steps.old steps.new) }
+    ensures rises { steps.old ≤ steps.new }
 {
     let mut area = box_of(alloc, model)?;
     let mut search = Progress {
@@ -176,7 +178,7 @@ fn search_box<L: Ledger>(
 ///
 /// The search stops with `Budget` at the first node that must be split and may not be; the depth is tested first. That node is `Stuck`,
 /// and every other open node is `Pending`. It never stops where the limits are as large as the box asks. The counter of steps rises by
-/// `limits.pivots` at least for each node whose linear program was stopped. Want of memory is the one error.
+/// `limits.pivots` at least for each node whose linear program was stopped. It never falls, whatever the answer. Out of memory is the one error.
 pub fn solve<L: Ledger>(
     alloc: Global,
     model: &IntModel,
@@ -193,6 +195,7 @@ pub fn solve<L: Ledger>(
     ensures ends { IfOk result (λ o. AreAmple model.now limits → IsAnswer o) }
     ensures counts { IfOk result (AreCountsWithin limits) }
     ensures counted { IfOk result (λ o. IsCounted limits (stopped_of o) (nodes_of o) steps.old steps.new) }
+    ensures rises { steps.old ≤ steps.new }
 {
     search_box(alloc, model, limits, steps)
 }

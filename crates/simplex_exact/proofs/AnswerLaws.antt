@@ -1,6 +1,6 @@
 -- What is read off a final tableau of a node, as an answer.
-use Rattle.std.specs.Prelude.{◌≡◌, ℕ, ◌≤◌, Bool, List, length, Ok, ℤ}
-use Rattle.std.proofs.Common.{ap, sym}
+use Rattle.std.specs.Prelude.{◌≡◌, ℕ, Bool, List, length, ℤ}
+use Rattle.std.proofs.Common.{sym}
 use Rattle.frac128.specs.Fractions.{Fraction}
 use Rattle.ip_defs.specs.Limits.{IsWithinLimits}
 use Rattle.ip_defs.specs.declared.programs.Parts.{Parts}
@@ -8,22 +8,22 @@ use Rattle.lp_duality.specs.Relaxations.{numbers_of, IsUncrossed}
 use Rattle.tableau.specs.Tables.{Table}
 use Rattle.simplex_laws.specs.declared.next.Next.{Next}
 use Rattle.simplex_laws.specs.declared.next.Next.TheVariants.{Pivot, Flip, FinalRow, FinalPoint}
-use Rattle.simplex_laws.specs.Steps.{next, is_final}
-use Rattle.simplex_laws.specs.Runs.{after}
+use Rattle.simplex_laws.specs.Steps.{next}
+use Rattle.simplex_laws.specs.Runs.{IsReached}
 use Rattle.simplex_laws.specs.Wides.{wide_number}
 use Rattle.simplex_laws.specs.Finals.{point_of, slack_prices, slack_ray}
 use Rattle.simplex_laws.specs.Laws.{IsTableOf}
 use Rattle.simplex_laws.proofs.ReadLaws.{best_as_read, empty_as_read}
-use Rattle.simplex_laws.proofs.RunLaws.{runs_stand, finals_stay}
+use Rattle.simplex_laws.proofs.RunLaws.{runs_stand}
 use Rattle.simplex_exact.specs.declared.answers.LpAnswer.{LpAnswer}
 use Rattle.simplex_exact.specs.declared.answers.LpAnswer.TheVariants.{Best, Empty, Stopped, Wide}
-use Rattle.simplex_exact.specs.Answers.{IsLpAnswer, IsBest, IsEmpty, AreNumbers}
+use Rattle.simplex_exact.specs.Answers.{IsLpAnswer, IsBest, IsInfeasible, AreNumbers}
 use Rattle.simplex_exact.specs.Internal.Reads.{IsRead}
 
-module _ (m : Parts) (b : List (ℤ × ℤ)) (k n : ℕ) (T : Table) (limits : IsWithinLimits m) (size : length b
-    ≡ length m.columns) (uncrossed : IsUncrossed m b) (within : k ≤ n) (reached : after m b k ≡ Ok T) where
+module _ (m : Parts) (b : List (ℤ × ℤ)) (n : ℕ) (T : Table) (limits : IsWithinLimits m) (size : length b ≡ length m.columns)
+    (uncrossed : IsUncrossed m b) (reached : IsReached m b n T) where
   of_node : IsTableOf m b T
-  of_node = runs_stand m b k T limits size reached
+  of_node = runs_stand m b n T limits size reached.after
 
   best_is : (x y : List Fraction) → next T ≡ FinalPoint → AreNumbers (length m.columns) (point_of T) x →
       AreNumbers (length m.rows) (slack_prices m T) y → IsBest m b n x y
@@ -31,7 +31,7 @@ module _ (m : Parts) (b : List (ℤ × ℤ)) (k n : ℕ) (T : Table) (limits : I
       let right = best_as_read m b T of_node uncrossed final (numbers_of x) (numbers_of y) point.numbers prices.numbers in
       record {
         tableau = T;
-        after = finals_stay m b k n T reached (ap is_final final) within;
+        reached = reached;
         final = final;
         point = point;
         prices = prices;
@@ -40,14 +40,14 @@ module _ (m : Parts) (b : List (ℤ × ℤ)) (k n : ℕ) (T : Table) (limits : I
       }
 
   empty_is : (i : ℕ) (up : Bool) (y : List Fraction) → next T ≡ FinalRow i up → AreNumbers (length m.rows) (slack_ray m T i up) y →
-      IsEmpty m b n y
+      IsInfeasible m b n y
   empty_is i up y final ray =
       let right = empty_as_read m b T of_node uncrossed i up final (numbers_of y) ray.numbers in
       record {
         tableau = T;
         row = i;
         up = up;
-        after = finals_stay m b k n T reached (ap is_final final) within;
+        reached = reached;
         final = final;
         ray = ray;
         gain = right.0;
@@ -66,4 +66,4 @@ module _ (m : Parts) (b : List (ℤ × ℤ)) (k n : ℕ) (T : Table) (limits : I
   read_is FinalPoint (Best x y) e h = best_is x y (sym e) h.0 h.1
   read_is FinalPoint (Empty y) e h = absurd h
   read_is FinalPoint Stopped e h = absurd h
-  read_is FinalPoint Wide e h = wide_number k T within reached h
+  read_is FinalPoint Wide e h = wide_number T reached h

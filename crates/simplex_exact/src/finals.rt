@@ -32,7 +32,7 @@ fn point(alloc: Global, values: &[Frac], columns: u32) -> Result<Fracs, Memory>
     Ok(Fracs::from_vec(point))
 }
 
-/// The reduced costs of the slacks, none where one of them is wide.
+/// The dual prices of the rows, which are the reduced costs of their slacks; none where one of them is wide.
 fn prices(
     alloc: Global,
     tableau: &Tableau,
@@ -53,7 +53,7 @@ fn prices(
     Ok(Some(Fracs::from_vec(prices)))
 }
 
-/// The slack entries of a row, as they are or turned.
+/// The slack entries of a row, as they are or negated.
 fn ray(
     alloc: Global,
     tableau: &Tableau,

@@ -2,18 +2,18 @@
 #![tactic(auto)]
 
 mod answers;
+mod blocking;
 mod choices;
+mod directions;
 mod finals;
 mod numbers;
-mod runs;
 mod sides;
 mod signs;
-mod stops;
+mod solving;
 #[cfg(test)]
 mod tests;
-mod ways;
 
 pub use answers::LpAnswer;
 pub use lp_duality::Fracs;
-pub use runs::solve_lp;
+pub use solving::solve_lp;
 pub use tableau::Steps;

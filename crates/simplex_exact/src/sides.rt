@@ -1,14 +1,14 @@
-//! The sides of a basic variable: whether its number is outside them, and which way a variable can go.
+//! The sides of a basic variable: whether its number is outside them, and the direction in which a variable can move.
 ghost use Rattle.std.specs.Prelude.{◌≡◌};
 ghost use Rattle.frac128.specs.Values.{value_of};
-ghost use Rattle.simplex_laws.specs.Steps.{above as above_number, outside as outside_number, rests_for as rests_for_way, side_towards as side_for};
+ghost use Rattle.simplex_laws.specs.Steps.{over_high as over_high_of, outside as outside_number, allows as allows_direction, side_towards as side_for};
 
 use crate::signs::is_below;
 use tableau::{Frac, Rest};
 
 /// That a basic variable has to fall, where its number is above its high side.
-fn above(number: Frac, high: Option<i64>) -> Option<bool>
-    ensures { result ≡ above_number (value_of number) high }
+fn over_high(number: Frac, high: Option<i64>) -> Option<bool>
+    ensures { result ≡ over_high_of (value_of number) high }
 {
     match high {
         Some(high) => {
@@ -31,17 +31,17 @@ pub fn outside(number: Frac, low: Option<i64>, high: Option<i64>) -> Option<bool
             if is_below(number, Frac::from_whole(low)) {
                 Some(true)
             } else {
-                above(number, high)
+                over_high(number, high)
             }
         }
-        None => above(number, high),
+        None => over_high(number, high),
     }
 }
 
-/// Whether a rest lets a variable rise, or fall.
+/// Whether a position lets a nonbasic variable rise, or fall.
 #[inline]
-pub fn rests_for(up: bool, rest: Rest) -> bool
-    ensures { result ≡ rests_for_way up rest }
+pub fn allows(up: bool, rest: Rest) -> bool
+    ensures { result ≡ allows_direction up rest }
 {
     match rest {
         Rest::Basic => false,
@@ -51,7 +51,7 @@ pub fn rests_for(up: bool, rest: Rest) -> bool
     }
 }
 
-/// The side towards which a variable goes.
+/// The side towards which a variable moves.
 #[inline]
 pub fn side_towards(up: bool) -> Rest
     ensures { result ≡ side_for up }

@@ -1,4 +1,4 @@
-//! The order of two fractions, and a fraction that is turned.
+//! The order of two fractions, and the negation of a fraction.
 ghost use Rattle.std.specs.Prelude.{◌≡◌};
 ghost use Rattle.frac128.specs.Values.{value_of};
 ghost use Rattle.lp_duality.specs.Duals.{is_below as is_below_number};
@@ -16,7 +16,7 @@ pub fn is_below(a: Frac, c: Frac) -> bool
     cmp(a, c) == Ordering::Less
 }
 
-/// A fraction as it is, or turned.
+/// A fraction as it is, or negated.
 #[inline]
 pub fn turned(x: Frac, up: bool) -> Frac
     ensures { value_of result ≡ turned_number up (value_of x) }

@@ -13,7 +13,7 @@ use Rattle.ip_defs.specs.declared.programs.Parts.{Parts}
 use Rattle.lp_duality.specs.Relaxations.{cost_of, row_total, total_cost, IsBetween, IsRelaxed, IsUncrossed}
 use Rattle.lp_duality.specs.Duals.{left_of, dual}
 use Rattle.lp_duality.proofs.WeakDualityLaws.{relaxed_weak_duality}
-use Rattle.tableau.specs.Tables.{Table, basic_at, rest_at, variable_at, IsTable}
+use Rattle.tableau.specs.Tables.{Table, basic_at, position_at, variable_at, IsTable}
 use Rattle.tableau.specs.Nodes.{number, StandsFor, AreRowsZero, HasItsPoints}
 use Rattle.tableau.specs.Meanings.{cost_number, price_number}
 use Rattle.tableau.proofs.PointLaws.{sum_split}
@@ -22,7 +22,7 @@ use Rattle.simplex_laws.specs.Finals.{point_of, slack_prices}
 use Rattle.simplex_laws.specs.Laws.{BestIsRight, BestIsLeast}
 use Rattle.simplex_laws.proofs.PriceLaws.{price, cost_by_prices, column_price, basic_price}
 use Rattle.simplex_laws.proofs.SideLaws.{column_low, column_high, column_cost, slack_low, slack_high, slack_cost}
-use Rattle.simplex_laws.proofs.RestLaws.{SignFits, sign_fits}
+use Rattle.simplex_laws.proofs.NonbasicLaws.{SignFits, sign_fits}
 use Rattle.simplex_laws.proofs.PointLaws.{point_zero, point_between, pays_at}
 use Rattle.simplex_laws.proofs.AnswerLaws.{IsSettled, final_point_is}
 use Rattle.simplex_laws.proofs.DualLaws.{dual_is}
@@ -56,9 +56,9 @@ module _ (m : Parts) (b : List (ℤ × ℤ)) (T : Table) (table : IsTable T) (st
       let f : ℕ → Rational = λ k. mul (price_number T (c + k)) (of (coefficient_of m.rows k j)) in
       ap (λ z. sub z (sum rationals f (length m.rows))) (one_mul rationals (cost_of m j) ∙ sym (column_cost m b T stands j l))
       ∙ ap (sub (cost_number T j)) (sum_same rationals f (λ k. mul (P (c + k)) (of (coefficient_of m.rows k j))) (length m.rows)
-          (λ k o. ap (λ z. mul z (of (coefficient_of m.rows k j))) (price_is (c + k))))
+      (λ k o. ap (λ z. mul z (of (coefficient_of m.rows k j))) (price_is (c + k))))
       ∙ sym (column_price rationals (length m.rows) c (coefficient_of m.rows) (number T) (basic_at T.basics) (system_of m b T stands)
-          (cost_number T) (λ k o. slack_cost m b T stands k) j l)
+      (cost_number T) (λ k o. slack_cost m b T stands k) j l)
       ∙ sym (price_is j)
 
   price_flat : (v i : ℕ) → i < length m.rows → basic_at T.basics i ≡ v → price_number T v ≡ of (pos 0)
@@ -75,22 +75,22 @@ module _ (m : Parts) (b : List (ℤ × ℤ)) (T : Table) (table : IsTable T) (st
       ∙ sym (cost_by_prices rationals n c (coefficient_of m.rows) (number T) (basic_at T.basics) (cost_number T) x hold)
       ∙ sum_split rationals (λ v. mul (cost_number T v) (x v)) c n
       ∙ ap (λ z. add z (sum rationals (λ k. mul (cost_number T (c + k)) (x (c + k))) n))
-          (sum_same rationals (λ j. mul (cost_number T j) (x j)) (λ j. mul (cost_of m j) (x j)) c
-          (λ j l. ap (λ z. mul z (x j)) (column_cost m b T stands j l)))
+      (sum_same rationals (λ j. mul (cost_number T j) (x j)) (λ j. mul (cost_of m j) (x j)) c
+      (λ j l. ap (λ z. mul z (x j)) (column_cost m b T stands j l)))
       ∙ ap (add (sum rationals (λ j. mul (cost_of m j) (x j)) c)) (sum_same rationals (λ k. mul (cost_number T (c + k)) (x (c + k)))
-          (λ k. of (pos 0)) n (λ k l. ap (λ z. mul z (x (c + k))) (slack_cost m b T stands k) ∙ zero_mul rationals (x (c + k)))
-          ∙ sum_zero rationals n)
+      (λ k. of (pos 0)) n (λ k l. ap (λ z. mul z (x (c + k))) (slack_cost m b T stands k) ∙ zero_mul rationals (x (c + k)))
+      ∙ sum_zero rationals n)
       ∙ rationals.add_zero (sum rationals (λ j. mul (cost_of m j) (x j)) c)
 
-  -- where the sign of each price fits its rest, the dual value of the prices is what the point costs
+  -- where the sign of each reduced cost fits the position of its variable, the dual value of the prices is what the point costs
   prices_reach : IsUncrossed m b → ((v : ℕ) → v < length m.columns + length m.rows →
-      SignFits (price_number T v) (variable_at T.variables v).low (variable_at T.variables v).high (rest_at T.rests v)) →
+      SignFits (price_number T v) (variable_at T.variables v).low (variable_at T.variables v).high (position_at T.positions v)) →
       dual m b (of (pos 1)) (slack_prices m T) ≡ Some (total_cost m (point_of T))
   prices_reach ok fit =
       let x = point_of T in
       let total = sum rationals (λ j. mul (cost_of m j) (x j)) (length m.columns) in
       dual_is m b T stands ok (of (pos 1)) (price_number T) (λ v. mul (price_number T v) (x v)) price_left
-          (λ v l. pays_at m b T table stands (price_number T v) v l (λ i k e. price_flat v i k e) (fit v l))
+      (λ v l. pays_at m b T table stands (price_number T v) v l (λ i k e. price_flat v i k e) (fit v l))
       ∙ ap (λ z. Some (add z (mul (of (pos 1)) (of m.constant)))) (cost_is x (point_zero m b T table stands))
       ∙ ap Some (ring2 rationals (λ s t. s ⊕ num (pos 1) ⊗ t) (λ s t. t ⊕ s) refl total (of m.constant))
 
@@ -100,7 +100,7 @@ module _ (m : Parts) (b : List (ℤ × ℤ)) (T : Table) (table : IsTable T) (st
       let size = stands.size in (
         relaxed has (point_between m b T table stands ok (λ v l. s.within v (omega arith))),
         prices_reach ok (λ v l. sign_fits (price_number T v) (variable_at T.variables v).low (variable_at T.variables v).high
-            (rest_at T.rests v) (s.ways v (omega arith))),
+            (position_at T.positions v) (s.directions v (omega arith))),
       )
 
 pub best_is_right : BestIsRight
@@ -110,4 +110,4 @@ pub best_is_least : BestIsLeast
 best_is_least m b T table stands has ok e x relaxed =
     let r = best_is_right m b T table stands has ok e in
     subst (AtMost (total_cost m (point_of T))) (one_mul rationals (total_cost m x))
-        (relaxed_weak_duality m b (of (pos 1)) (slack_prices m T) x (total_cost m (point_of T)) relaxed r.1)
+    (relaxed_weak_duality m b (of (pos 1)) (slack_prices m T) x (total_cost m (point_of T)) relaxed r.1)

@@ -23,7 +23,7 @@ first_is {A = A} f (suc n) x e = by (first f n) refl (first_is f n x) e
     by None g ih h = (n, omega arith, h)
     by (Some y) g ih h = let r = ih (g ∙ h) in (r.0, (let l = r.1 in omega arith), r.2)
 
--- ---- the nearest stop
+-- ---- the nearest block
 pub nearest_is : (f : ℕ → Option (Rational × Next)) (n : ℕ) (x : Rational × Next) → nearest f n ≡ Some x → (v : ℕ) × (v < n)
     × (f v ≡ Some x)
 nearest_is f zero x e = absurd cc
@@ -54,7 +54,7 @@ nearest_none f (suc n) e v l = by (nearest f n) (f n) refl refl e (v == n) refl 
     by (Some x) None g k h t q ih = absurd cc
     by (Some x) (Some y) g k h t q ih = absurd (chosen (is_below y.0 x.0) x y h)
 
--- one more stop
+-- one more block
 pub nearest_next : (f : ℕ → Option (Rational × Next)) (n : ℕ) → nearest f (n + 1) ≡ nearer (nearest f n) (f n)
 nearest_next f n = let s : n + 1 ≡ suc n = omega arith in ap (nearest f) s
 

@@ -28,13 +28,13 @@ some_is x y e = cc
 module _ (m : Parts) (b : List (ℤ × ℤ)) (T : Table) (stands : StandsFor m b T) (ok : IsUncrossed m b) (q : Rational) (p z : ℕ → Rational)
     (left : (j : ℕ) → j < length m.columns → left_of m q (λ k. p (length m.columns + k)) j ≡ p j)
     (pays : (v : ℕ) → v < length m.columns + length m.rows → paid (p v) (variable_at T.variables v).low (variable_at T.variables v).high
-        ≡ Some (z v)) where
+    ≡ Some (z v)) where
   -- a slack pays a side of its row
   row_pays : (k : ℕ) → k < length m.rows → paid (p (length m.columns + k)) (row_low m k) (row_high m k) ≡ Some (z (length m.columns + k))
   row_pays k l =
       let v = length m.columns + k in
       ap (λ o. paid (p v) o (row_high m k)) (sym (slack_low m b T stands k))
-          ∙ ap (λ o. paid (p v) (variable_at T.variables v).low o) (sym (slack_high m b T stands k)) ∙ pays v (omega arith)
+      ∙ ap (λ o. paid (p v) (variable_at T.variables v).low o) (sym (slack_high m b T stands k)) ∙ pays v (omega arith)
 
   -- a column counts what it pays
   column_counts : (j : ℕ) → j < length m.columns → lesser (mul (left_of m q (λ k. p (length m.columns + k)) j) (of (low_at b j)))
@@ -42,9 +42,9 @@ module _ (m : Parts) (b : List (ℤ × ℤ)) (T : Table) (stands : StandsFor m b
   column_counts j l =
       ap (λ w. lesser (mul w (of (low_at b j))) (mul w (of (high_at b j)))) (left j l)
       ∙ some_is (lesser (mul (p j) (of (low_at b j))) (mul (p j) (of (high_at b j)))) (z j)
-          (sym (paid_lesser (p j) (low_at b j) (high_at b j) (ok.columns j l))
+      (sym (paid_lesser (p j) (low_at b j) (high_at b j) (ok.columns j l))
       ∙ ap (λ o. paid (p j) o (Some (high_at b j))) (sym (column_low m b T stands j l))
-          ∙ ap (λ o. paid (p j) (variable_at T.variables j).low o) (sym (column_high m b T stands j l)) ∙ pays j (omega arith))
+      ∙ ap (λ o. paid (p j) (variable_at T.variables j).low o) (sym (column_high m b T stands j l)) ∙ pays j (omega arith))
 
   pub dual_is : dual m b q (λ k. p (length m.columns + k)) ≡ Some (add (sum rationals z (length m.columns + length m.rows))
       (mul q (of m.constant)))
@@ -58,5 +58,5 @@ module _ (m : Parts) (b : List (ℤ × ℤ)) (T : Table) (stands : StandsFor m b
       ap (option_map (λ pay. add (add pay (mul q (of m.constant))) (sum rationals f c))) first
       ∙ ap (λ w. Some (add (add (sum rationals (λ k. z (c + k)) n) (mul q (of m.constant))) w)) second
       ∙ ap Some (ring3 rationals (λ x y w. (x ⊕ y) ⊕ w) (λ x y w. (w ⊕ x) ⊕ y) refl (sum rationals (λ k. z (c + k)) n)
-          (mul q (of m.constant)) (sum rationals z c))
+      (mul q (of m.constant)) (sum rationals z c))
       ∙ ap (λ w. Some (add w (mul q (of m.constant)))) (sym (sum_split rationals z c n))

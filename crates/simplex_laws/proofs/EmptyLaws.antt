@@ -1,6 +1,27 @@
 -- A tableau that is final by a row: the row's slack entries, or their negations, pay more than 0.
-use Rattle.std.specs.Prelude.{◌≡◌, ◌≢◌, ℕ, ◌+◌, ◌<◌, ◌==◌, Bool, true, false, cond, if◌then◌else◌, List, [], length, Option, Some, None, ℤ,
-    pos, negsuc, ◌<ℤ◌}
+use Rattle.std.specs.Prelude.{
+  ◌≡◌,
+  ◌≢◌,
+  ℕ,
+  ◌+◌,
+  ◌<◌,
+  ◌==◌,
+  Bool,
+  true,
+  false,
+  cond,
+  if◌then◌else◌,
+  List,
+  [],
+  length,
+  Option,
+  Some,
+  None,
+  ℤ,
+  pos,
+  negsuc,
+  ◌<ℤ◌,
+}
 use Rattle.std.proofs.Common.{arith, refl, ap, sym, ◌∙◌, subst}
 use Rattle.std.proofs.lemmas.Int.{ints}
 use Rattle.std.proofs.lemmas.Bool.{eqb-true, eqb-false}
@@ -16,16 +37,16 @@ use Rattle.lp_duality.specs.Relaxations.{cost_of, total_cost, IsUncrossed}
 use Rattle.lp_duality.specs.Duals.{is_below, paid, left_of, dual}
 use Rattle.lp_duality.proofs.SignLaws.{of_positive, of_negative, paid_up, paid_down, below_positive}
 use Rattle.lp_duality.proofs.WeakDualityLaws.{relaxed_weak_duality}
-use Rattle.tableau.specs.Tables.{Table, basic_at, rest_at, variable_at, IsTable}
+use Rattle.tableau.specs.Tables.{Table, basic_at, position_at, variable_at, IsTable}
 use Rattle.tableau.specs.Nodes.{number, StandsFor}
 use Rattle.tableau.specs.Meanings.{value_number}
 use Rattle.tableau.proofs.PointLaws.{sum_neg}
-use Rattle.simplex_laws.specs.Steps.{way, above, outside}
+use Rattle.simplex_laws.specs.Steps.{direction, over_high, outside}
 use Rattle.simplex_laws.specs.Finals.{point_of, slack_ray}
 use Rattle.simplex_laws.specs.Laws.{EmptyIsRight, EmptyHasNoPoint}
-use Rattle.simplex_laws.proofs.RestLaws.{sign_fits}
+use Rattle.simplex_laws.proofs.NonbasicLaws.{sign_fits}
 use Rattle.simplex_laws.proofs.PointLaws.{values, point_zero, pays_at}
-use Rattle.simplex_laws.proofs.StopLaws.{if_same, if_other}
+use Rattle.simplex_laws.proofs.BlockLaws.{if_same, if_other}
 use Rattle.simplex_laws.proofs.AnswerLaws.{ray, final_row_is}
 use Rattle.simplex_laws.proofs.DualLaws.{dual_is}
 
@@ -45,9 +66,9 @@ pub record IsBetter (x : Rational) (low high : Option ℤ) (up : Bool) : Type 0 
   pub pays : paid (unit up) low high ≡ Some (mul (unit up) side)
   pub more : pos 0 <ℤ (mul (unit up) (sub side x)).numerator
 
-above_pays : (x : Rational) (low high : Option ℤ) (up : Bool) → above x high ≡ Some up → IsBetter x low high up
-above_pays x low None up e = absurd cc
-above_pays x low (Some z) up e = by (is_below (of z) x) refl e
+over_high_pays : (x : Rational) (low high : Option ℤ) (up : Bool) → over_high x high ≡ Some up → IsBetter x low high up
+over_high_pays x low None up e = absurd cc
+over_high_pays x low (Some z) up e = by (is_below (of z) x) refl e
   where
     by : (t : Bool) → is_below (of z) x ≡ t → cond t (Some false) None ≡ Some up → IsBetter x low (Some z) up
     by false f g = absurd cc
@@ -61,11 +82,11 @@ above_pays x low (Some z) up e = by (is_below (of z) x) refl e
         })
 
 outside_pays : (x : Rational) (low high : Option ℤ) (up : Bool) → outside x low high ≡ Some up → IsBetter x low high up
-outside_pays x None high up e = above_pays x None high up e
+outside_pays x None high up e = over_high_pays x None high up e
 outside_pays x (Some z) high up e = by (is_below x (of z)) refl e
   where
-    by : (t : Bool) → is_below x (of z) ≡ t → cond t (Some true) (above x high) ≡ Some up → IsBetter x (Some z) high up
-    by false f g = above_pays x (Some z) high up g
+    by : (t : Bool) → is_below x (of z) ≡ t → cond t (Some true) (over_high x high) ≡ Some up → IsBetter x (Some z) high up
+    by false f g = over_high_pays x (Some z) high up g
     by true f g =
         let q : true ≡ up = cc in
         subst (λ (u : Bool). IsBetter x (Some z) high u) q (record {
@@ -83,14 +104,14 @@ module _ (m : Parts) (b : List (ℤ × ℤ)) (T : Table) (table : IsTable T) (st
   ray_left true j l =
       let c = length m.columns in
       ring2 rationals (λ a s. num (pos 0) ⊗ a ⊖ s) (λ a s. minus s) refl (cost_of m j)
-          (sum rationals (λ k. mul (number T i (c + k)) (of (coefficient_of m.rows k j))) (length m.rows))
+      (sum rationals (λ k. mul (number T i (c + k)) (of (coefficient_of m.rows k j))) (length m.rows))
       ∙ sym (stands.combination i j inside l)
   ray_left false j l =
       let c = length m.columns in
       let f : ℕ → Rational = λ k. mul (number T i (c + k)) (of (coefficient_of m.rows k j)) in
       let turned = sum_same rationals (λ k. mul (neg (number T i (c + k))) (of (coefficient_of m.rows k j))) (λ k. neg (f k))
-              (length m.rows) (λ k o. ring2 rationals (λ a d. minus a ⊗ d) (λ a d. minus (a ⊗ d)) refl (number T i (c + k))
-              (of (coefficient_of m.rows k j)))
+      (length m.rows) (λ k o. ring2 rationals (λ a d. minus a ⊗ d) (λ a d. minus (a ⊗ d)) refl (number T i (c + k))
+      (of (coefficient_of m.rows k j)))
       ∙ sum_neg rationals f (length m.rows) in
       ap (λ z. sub (mul (of (pos 0)) (cost_of m j)) z) turned
       ∙ ring2 rationals (λ a s. num (pos 0) ⊗ a ⊖ minus s) (λ a s. minus (minus s)) refl (cost_of m j) (sum rationals f (length m.rows))
@@ -110,7 +131,7 @@ module _ (m : Parts) (b : List (ℤ × ℤ)) (T : Table) (table : IsTable T) (st
       let all = length m.columns + length m.rows in
       let f : ℕ → Rational = λ v. mul (number T i v) (point_of T v) in
       sum_same rationals (λ v. mul (neg (number T i v)) (point_of T v)) (λ v. neg (f v)) all
-          (λ v l. ring2 rationals (λ a d. minus a ⊗ d) (λ a d. minus (a ⊗ d)) refl (number T i v) (point_of T v))
+      (λ v l. ring2 rationals (λ a d. minus a ⊗ d) (λ a d. minus (a ⊗ d)) refl (number T i v) (point_of T v))
       ∙ sum_neg rationals f all
       ∙ ap neg (point_zero m b T table stands i inside) ∙ identity rationals [] (minus (num (pos 0))) (num (pos 0)) refl
 
@@ -121,10 +142,10 @@ module _ (m : Parts) (b : List (ℤ × ℤ)) (T : Table) (table : IsTable T) (st
     y v = if v == basic_at T.basics i then s else point_of T v
 
     ray_pays : paid (unit up) (variable_at T.variables (basic_at T.basics i)).low (variable_at T.variables (basic_at T.basics i)).high
-        ≡ Some (mul (unit up) s) → ((v : ℕ) → v < length m.columns + length m.rows → way T (ray T i up v) v ≡ None)
+        ≡ Some (mul (unit up) s) → ((v : ℕ) → v < length m.columns + length m.rows → direction T (ray T i up v) v ≡ None)
         → (v : ℕ) → v < length m.columns + length m.rows → paid (ray T i up v) (variable_at T.variables v).low
-            (variable_at T.variables v).high ≡ Some (mul (ray T i up v) (y v))
-    ray_pays own ways v l = by (v == basic_at T.basics i) refl
+        (variable_at T.variables v).high ≡ Some (mul (ray T i up v) (y v))
+    ray_pays own directions v l = by (v == basic_at T.basics i) refl
       where
         by : (t : Bool) → (v == basic_at T.basics i) ≡ t → paid (ray T i up v) (variable_at T.variables v).low
             (variable_at T.variables v).high ≡ Some (mul (ray T i up v) (cond t s (point_of T v)))
@@ -132,14 +153,14 @@ module _ (m : Parts) (b : List (ℤ × ℤ)) (T : Table) (table : IsTable T) (st
             let w = basic_at T.basics i in
             let x = variable_at T.variables w in
             subst (λ (z : ℕ). paid (ray T i up z) (variable_at T.variables z).low (variable_at T.variables z).high
-                ≡ Some (mul (ray T i up z) s)) (sym (eqb-true v w e))
+            ≡ Some (mul (ray T i up z) s)) (sym (eqb-true v w e))
             (ap (λ p. paid p x.low x.high) (ray_own up) ∙ own ∙ ap (λ p. Some (mul p s)) (sym (ray_own up)))
         by false e =
             let x = variable_at T.variables v in
             pays_at m b T table stands (ray T i up v) v l
             (λ k o q. ap (ray T i up) (sym q) ∙ ray_flat up k o (λ p. eqb-false v (basic_at T.basics i) e (sym q
-                ∙ ap (basic_at T.basics) (sym p))))
-            (sign_fits (ray T i up v) x.low x.high (rest_at T.rests v) (ways v l))
+            ∙ ap (basic_at T.basics) (sym p))))
+            (sign_fits (ray T i up v) x.low x.high (position_at T.positions v) (directions v l))
 
     ray_total : sum rationals (λ v. mul (ray T i up v) (y v)) (length m.columns + length m.rows) ≡ mul (unit up) (sub s (value_number T i))
     ray_total =
@@ -149,22 +170,22 @@ module _ (m : Parts) (b : List (ℤ × ℤ)) (T : Table) (table : IsTable T) (st
         let x = point_of T in
         let f : ℕ → Rational = λ v. mul (p v) (sub (y v) (x v)) in
         let apart = sum_same rationals (λ v. mul (p v) (y v)) (λ v. add (mul (p v) (x v)) (f v)) all
-                (λ v l. ring3 rationals (λ a c d. a ⊗ c) (λ a c d. a ⊗ d ⊕ a ⊗ (c ⊖ d)) refl (p v) (y v) (x v))
+        (λ v l. ring3 rationals (λ a c d. a ⊗ c) (λ a c d. a ⊗ d ⊕ a ⊗ (c ⊖ d)) refl (p v) (y v) (x v))
         ∙ sum_add rationals (λ v. mul (p v) (x v)) f all in
         let single = sum_single rationals f w all (stands.within i inside) (λ v l n. ap (λ z. mul (p v) (sub z (x v)))
-                (if_other v w s (x v) n) ∙ ring2 rationals (λ a c. a ⊗ (c ⊖ c)) (λ a c. num (pos 0)) refl (p v) (x v)) in
+        (if_other v w s (x v) n) ∙ ring2 rationals (λ a c. a ⊗ (c ⊖ c)) (λ a c. num (pos 0)) refl (p v) (x v)) in
         apart ∙ ap (λ z. add z (sum rationals f all)) (ray_zero up)
         ∙ ap (add (of (pos 0))) (single ∙ ap (λ z. mul z (sub (y w) (x w))) (ray_own up)
-            ∙ ap (λ z. mul (unit up) (sub z (x w))) (if_same w w s (x w) refl)
-            ∙ ap (λ z. mul (unit up) (sub s z)) (values m b T table stands i inside))
+        ∙ ap (λ z. mul (unit up) (sub z (x w))) (if_same w w s (x w) refl)
+        ∙ ap (λ z. mul (unit up) (sub s z)) (values m b T table stands i inside))
         ∙ ring2 rationals (λ a c. num (pos 0) ⊕ a) (λ a c. a) refl (mul (unit up) (sub s (value_number T i))) s
 
     ray_gains : IsUncrossed m b → paid (unit up) (variable_at T.variables (basic_at T.basics i)).low
         (variable_at T.variables (basic_at T.basics i)).high ≡ Some (mul (unit up) s) →
-        ((v : ℕ) → v < length m.columns + length m.rows → way T (ray T i up v) v ≡ None)
+        ((v : ℕ) → v < length m.columns + length m.rows → direction T (ray T i up v) v ≡ None)
         → dual m b (of (pos 0)) (slack_ray m T i up) ≡ Some (mul (unit up) (sub s (value_number T i)))
-    ray_gains ok own ways =
-        dual_is m b T stands ok (of (pos 0)) (ray T i up) (λ v. mul (ray T i up v) (y v)) (ray_left up) (ray_pays own ways)
+    ray_gains ok own directions =
+        dual_is m b T stands ok (of (pos 0)) (ray T i up) (λ v. mul (ray T i up v) (y v)) (ray_left up) (ray_pays own directions)
         ∙ ap (λ z. Some (add z (mul (of (pos 0)) (of m.constant)))) ray_total
         ∙ ap Some (ring2 rationals (λ g c. g ⊕ num (pos 0) ⊗ c) (λ g c. g) refl (mul (unit up) (sub s (value_number T i))) (of m.constant))
 
@@ -175,17 +196,20 @@ empty_is_right m b T i up table stands ok e =
     let size = stands.size in
     let l = broken.row in
     let x = variable_at T.variables (basic_at T.basics i) in
-    let better = outside_pays (value_number T i) x.low x.high up broken.outside in
-    (mul (unit up) (sub better.side (value_number T i)), ray_gains m b T table stands i (omega arith) up better.side ok better.pays
-        (λ v k. broken.ways v (omega arith)), better.more)
+    let better = outside_pays (value_number T i) x.low x.high up broken.outside in (
+      mul (unit up) (sub better.side (value_number T i)),
+      ray_gains m b T table stands i (omega arith) up better.side ok better.pays
+          (λ v k. broken.directions v (omega arith)),
+      better.more,
+    )
 
 -- a positive number is not at most 0
 not_below_zero : (g c : Rational) → pos 0 <ℤ g.numerator → AtMost g (mul (of (pos 0)) c) → ⊥
 not_below_zero g c up h =
     let below : AtMost g (of (pos 0)) = subst (AtMost g) (ring2 rationals (λ g c. num (pos 0) ⊗ c) (λ g c. num (pos 0)) refl g c) h in
     let rises : NotNegative g = omega (arith, ints) in
-    let above : AtMost (of (pos 0)) g = subst NotNegative (ring2 rationals (λ g c. g) (λ g c. g ⊖ num (pos 0)) refl g c) rises in
-    let none : g.numerator ≡ pos 0 = ap (λ (p : Rational). p.numerator) (at_most_antisym g (of (pos 0)) below above) ∙ zero_top in
+    let over_high : AtMost (of (pos 0)) g = subst NotNegative (ring2 rationals (λ g c. g) (λ g c. g ⊖ num (pos 0)) refl g c) rises in
+    let none : g.numerator ≡ pos 0 = ap (λ (p : Rational). p.numerator) (at_most_antisym g (of (pos 0)) below over_high) ∙ zero_top in
     omega (arith, ints)
 
 pub empty_has_no_point : EmptyHasNoPoint

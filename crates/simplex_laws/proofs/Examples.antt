@@ -7,8 +7,8 @@ use Rattle.frac128.specs.Rationals.{S, over, both, of, add, sub, mul, neg, inver
 use Rattle.ip_defs.specs.declared.programs.Parts.{Parts}
 use Rattle.lp_duality.specs.Duals.{dual}
 use Rattle.lp_duality.specs.Relaxations.{total_cost}
-use Rattle.tableau.specs.declared.rests.Rest.{Rest}
-use Rattle.tableau.specs.declared.rests.Rest.TheVariants.{Basic, Low, High}
+use Rattle.tableau.specs.declared.positions.Rest.{Rest}
+use Rattle.tableau.specs.declared.positions.Rest.TheVariants.{Basic, Low, High}
 use Rattle.tableau.specs.Tables.{Table}
 use Rattle.tableau.specs.Nodes.{start_of}
 use Rattle.tableau.specs.Pivots.{after_flip}
@@ -38,9 +38,12 @@ abbrev half_last : Table
 half_last = record {
   rows = (whole (pos 1) ∷ ratio (negsuc 0) (pos 2) ∷ []) ∷ [];
   basics = 0 ∷ [];
-  rests = Basic ∷ High ∷ [];
-  variables = record { low = Some (pos 0); high = Some (pos 2); cost = negsuc 0 } ∷ record { low = None; high = Some (pos 3);
-      cost = pos 0 } ∷ [];
+  positions = Basic ∷ High ∷ [];
+  variables = record { low = Some (pos 0); high = Some (pos 2); cost = negsuc 0 } ∷ record {
+    low = None;
+    high = Some (pos 3);
+    cost = pos 0;
+  } ∷ [];
 }
 
 pub half_pivots : next (start_of half half_box) ≡ Pivot 0 0 High
@@ -79,7 +82,7 @@ pub half_stays : after half half_box 4 ≡ Ok half_last
 unfolding after next over of add sub mul neg S both inverse rational gcd lowest_of sum_of product_of
 half_stays = refl
 
--- ---- x + y >= 3 with x and y from 0 to 1: the row is mended by x, which is then too great, and then by y, and nothing mends y
+-- ---- x + y >= 3 with x and y from 0 to 1: x enters in the row and is then too great, then y enters, and nothing can enter for y
 abbrev pub far : Parts
 far = record {
   objective = [];
@@ -92,14 +95,17 @@ far = record {
 abbrev far_box : List (ℤ × ℤ)
 far_box = (pos 0, pos 1) ∷ (pos 0, pos 1) ∷ []
 
--- where x, y and the slack rest, and which of them is basic
+-- the positions of x, y and the slack, and which of them is basic
 abbrev far_at : Rest → Rest → Rest → ℕ → Table
 far_at x y slack basic = record {
   rows = (whole (pos 1) ∷ whole (pos 1) ∷ whole (negsuc 0) ∷ []) ∷ [];
   basics = basic ∷ [];
-  rests = x ∷ y ∷ slack ∷ [];
-  variables = record { low = Some (pos 0); high = Some (pos 1); cost = pos 0 } ∷ record { low = Some (pos 0); high = Some (pos 1);
-      cost = pos 0 } ∷ record { low = Some (pos 3); high = None; cost = pos 0 } ∷ [];
+  positions = x ∷ y ∷ slack ∷ [];
+  variables = record { low = Some (pos 0); high = Some (pos 1); cost = pos 0 } ∷ record {
+    low = Some (pos 0);
+    high = Some (pos 1);
+    cost = pos 0;
+  } ∷ record { low = Some (pos 3); high = None; cost = pos 0 } ∷ [];
 }
 
 pub far_first : next (start_of far far_box) ≡ Pivot 0 0 Low
@@ -123,7 +129,7 @@ pub far_gains : dual far far_box (of (pos 0)) (slack_ray far (far_at High Basic 
 unfolding over of add sub mul neg S both inverse rational gcd
 far_gains = refl
 
--- ---- least -x with x from 0 to 1 and x <= n: x goes to its other side, also where the row stops it there as well
+-- ---- least -x with x from 0 to 1 and x <= n: x moves to its other side, also where the row blocks it there as well
 abbrev pub one_step : ℤ → Parts
 one_step n = record {
   objective = [];
@@ -149,7 +155,7 @@ pub flip_is_final : next (after_flip (start_of (one_step (pos 5)) ((pos 0, pos 1
 unfolding next over of add sub mul neg S both inverse rational gcd
 flip_is_final = refl
 
--- a column with one number in its box goes nowhere
+-- a column with one number in its box cannot move
 pub fixed_is_final : next (start_of (one_step (pos 5)) ((pos 1, pos 1) ∷ [])) ≡ FinalPoint
 unfolding next over of add sub mul neg S both inverse rational gcd
 fixed_is_final = refl
@@ -160,8 +166,12 @@ two_costs = record {
   objective = [];
   cost_decimals = 0;
   constant = pos 0;
-  columns = record { name = []; cost = negsuc 0; lo = pos 0; hi = pos 9 } ∷ record { name = []; cost = negsuc 4; lo = pos 0;
-      hi = pos 9 } ∷ [];
+  columns = record { name = []; cost = negsuc 0; lo = pos 0; hi = pos 9 } ∷ record {
+    name = [];
+    cost = negsuc 4;
+    lo = pos 0;
+    hi = pos 9;
+  } ∷ [];
   rows = record { name = []; decimals = 0; coefs = (0, pos 1) ∷ (1, pos 1) ∷ []; low = None; high = Some (pos 4) } ∷ [];
 }
 
@@ -174,7 +184,7 @@ abbrev great : Table
 great = record {
   rows = (whole (pos (2 ^ 100)) ∷ whole (pos 1) ∷ []) ∷ [];
   basics = 1 ∷ [];
-  rests = Low ∷ Basic ∷ [];
+  positions = Low ∷ Basic ∷ [];
   variables = record { low = Some (pos (2 ^ 100)); high = None; cost = pos 0 } ∷ record { low = None; high = None; cost = pos 0 } ∷ [];
 }
 

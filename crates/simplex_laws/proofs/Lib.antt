@@ -4,13 +4,13 @@ pub mod ChoiceLaws
 pub mod DualLaws
 pub mod EmptyLaws
 pub mod Examples
-pub mod PlaceLaws
+pub mod ListPositionLaws
 pub mod PointLaws
 pub mod PriceLaws
 pub mod ReadLaws
-pub mod RestLaws
+pub mod NonbasicLaws
 pub mod RunLaws
 pub mod SideLaws
 pub mod StepLaws
-pub mod StopLaws
+pub mod BlockLaws
 pub mod UncrossedLaws

@@ -43,10 +43,10 @@ module _ (R : Ring) (rows columns : ℕ) (coefficient : ℕ → ℕ → ℤ) (en
       ring3 R (λ a b d. a ⊗ d) (λ a b d. (a ⊖ b) ⊗ d ⊕ b ⊗ d) refl (cost v) (part v) (x v)
       ∙ ap (λ z. price R rows entry basic cost v *r x v +r z) (sum_scale_right R (λ i. entry i v *r cost (basic i)) (x v) rows
       ∙ sum_same R (λ i. (entry i v *r cost (basic i)) *r x v) (λ i. F i v) rows
-          (λ i o. ring3 R (λ a b d. (a ⊗ b) ⊗ d) (λ a b d. b ⊗ (a ⊗ d)) refl (entry i v) (cost (basic i)) (x v))) in
+      (λ i o. ring3 R (λ a b d. (a ⊗ b) ⊗ d) (λ a b d. b ⊗ (a ⊗ d)) refl (entry i v) (cost (basic i)) (x v))) in
       let rest = exchange R F rows all
       ∙ sum_same R (λ i. sum R (F i) all) (λ i. of (pos 0)) rows (λ i o. sum_scale R (cost (basic i)) (λ v. entry i v *r x v) all
-          ∙ ap (λ z. cost (basic i) *r z) (hold i o) ∙ mul_zero R (cost (basic i)))
+      ∙ ap (λ z. cost (basic i) *r z) (hold i o) ∙ mul_zero R (cost (basic i)))
       ∙ sum_zero R rows in
       sum_same R (λ v. cost v *r x v) (λ v. price R rows entry basic cost v *r x v +r sum R (λ i. F i v) rows) all each
       ∙ sum_add R (λ v. price R rows entry basic cost v *r x v) (λ v. sum R (λ i. F i v) rows) all
@@ -65,7 +65,7 @@ module _ (R : Ring) (rows columns : ℕ) (coefficient : ℕ → ℕ → ℤ) (en
       ∙ ring2 R (λ a b. minus a ⊗ b) (λ a b. minus (a ⊗ b)) refl (sum R (λ k. entry i (columns + k) *r c k j) rows) (b i)
       ∙ ap neg (sum_scale_right R (λ k. entry i (columns + k) *r c k j) (b i) rows
       ∙ sum_same R (λ k. (entry i (columns + k) *r c k j) *r b i) (λ k. F k i) rows
-          (λ k o. ring3 R (λ x y z. (x ⊗ y) ⊗ z) (λ x y z. (x ⊗ z) ⊗ y) refl (entry i (columns + k)) (c k j) (b i))) in
+      (λ k o. ring3 R (λ x y z. (x ⊗ y) ⊗ z) (λ x y z. (x ⊗ z) ⊗ y) refl (entry i (columns + k)) (c k j) (b i))) in
       let left = sum_same R (λ i. entry i j *r b i) (λ i. neg (sum R (λ k. F k i) rows)) rows each
       ∙ sum_neg R (λ i. sum R (λ k. F k i) rows) rows ∙ ap neg (exchange R F rows rows) in
       let right = sum_same R (λ k. price R rows entry basic cost (columns + k) *r c k j) (λ k. neg (sum R (F k) rows)) rows (λ k o.
@@ -80,7 +80,7 @@ module _ (R : Ring) (rows columns : ℕ) (coefficient : ℕ → ℕ → ℤ) (en
       price R rows entry basic cost (basic i) ≡ of (pos 0)
   basic_price s cost i l =
       let one = sum_single R (λ k. entry k (basic i) *r cost (basic k)) i rows l
-              (λ k m n. ap (λ z. z *r cost (basic k)) (s.zeros k i m l n) ∙ zero_mul R (cost (basic k))) in
+      (λ k m n. ap (λ z. z *r cost (basic k)) (s.zeros k i m l n) ∙ zero_mul R (cost (basic k))) in
       combine R (cost (basic i) ∷ sum R (λ k. entry k (basic i) *r cost (basic k)) rows ∷ entry i (basic i) ∷ [])
       ((minus (num (pos 1)), var 1, var 2 ⊗ var 0) ∷ (minus (var 0), var 2, num (pos 1)) ∷ [])
       (var 0 ⊖ var 1) (num (pos 0)) refl (one, (s.one i l, tt))
@@ -95,12 +95,15 @@ module _ (R : Ring) (rows columns : ℕ) (coefficient : ℕ → ℕ → ℤ) (en
       let all = columns + rows in
       let f : ℕ → carrier = λ v. entry i v *r (x v -r q v) in
       let two = sum_same R (λ v. entry i v *r x v) (λ v. entry i v *r q v +r f v) all
-              (λ v m. ring3 R (λ a b c. a ⊗ b) (λ a b c. a ⊗ c ⊕ a ⊗ (b ⊖ c)) refl (entry i v) (x v) (q v))
+      (λ v m. ring3 R (λ a b c. a ⊗ b) (λ a b c. a ⊗ c ⊕ a ⊗ (b ⊖ c)) refl (entry i v) (x v) (q v))
       ∙ sum_add R (λ v. entry i v *r q v) f all in
       let one = sum_single R f (basic i) all (s.within i l) (λ v m n. others v n (apart v m)) in
       combine R (row_at R all entry x i ∷ row_at R all entry q i ∷ sum R f all ∷ entry i (basic i) ∷ x (basic i) ∷ q (basic i) ∷ [])
-      ((num (pos 1), var 0, var 1 ⊕ var 2) ∷ (num (pos 1), var 2, var 3 ⊗ (var 4 ⊖ var 5)) ∷ (var 4 ⊖ var 5, var 3,
-          num (pos 1)) ∷ (num (pos 1), var 4, minus (var 1)) ∷ (minus (num (pos 1)), var 5, num (pos 0)) ∷ [])
+      ((num (pos 1), var 0, var 1 ⊕ var 2) ∷ (num (pos 1), var 2, var 3 ⊗ (var 4 ⊖ var 5)) ∷ (
+        var 4 ⊖ var 5,
+        var 3,
+        num (pos 1),
+      ) ∷ (num (pos 1), var 4, minus (var 1)) ∷ (minus (num (pos 1)), var 5, num (pos 0)) ∷ [])
       (var 0) (num (pos 0)) refl
       (two, (one, (s.one i l, (values i l, (free i l, tt)))))
     where

@@ -43,9 +43,11 @@ module _ (m : Parts) (b : List (ℤ × ℤ)) (T : Table) (of_node : IsTableOf m 
       ((k : ℕ) → k < length m.rows → y k ≡ slack_prices m T k)
       → IsRelaxed m b x × (dual m b (of (pos 1)) y ≡ Some (total_cost m x))
   best_as_read e x y point prices =
-      let r = best_is_right m b T of_node.table of_node.stands of_node.points ok e in
-      (relaxed_same m x (point_of T) point b r.0, dual_same m b (of (pos 1)) y (slack_prices m T) prices ∙ r.1
-          ∙ ap Some (total_cost_same m x (point_of T) point))
+      let r = best_is_right m b T of_node.table of_node.stands of_node.points ok e in (
+        relaxed_same m x (point_of T) point b r.0,
+        dual_same m b (of (pos 1)) y (slack_prices m T) prices ∙ r.1
+            ∙ ap Some (total_cost_same m x (point_of T) point),
+      )
 
   -- multipliers that are the tableau's ray
   pub empty_as_read : (i : ℕ) (up : Bool) → next T ≡ FinalRow i up → (y : ℕ → Rational) →

@@ -5,8 +5,8 @@ use Rattle.std.proofs.Math.Nat.{eq-or-lt_of_le}
 use Rattle.frac128.specs.declared.fraction.Wide.{Wide}
 use Rattle.frac128.specs.Fractions.{Fraction}
 use Rattle.ip_defs.specs.declared.programs.Parts.{Parts}
-use Rattle.tableau.specs.declared.rests.Rest.{Rest}
-use Rattle.tableau.specs.Tables.{Table, rest_at, IsTable}
+use Rattle.tableau.specs.declared.positions.Rest.{Rest}
+use Rattle.tableau.specs.Tables.{Table, position_at, IsTable}
 use Rattle.tableau.specs.Numbers.{and_then}
 use Rattle.tableau.specs.Pivots.{new_rows, after_pivot, other_side, after_flip}
 use Rattle.tableau.specs.Nodes.{start_of}
@@ -15,7 +15,7 @@ use Rattle.tableau.proofs.TableLaws.{with_rows, with_rows-table, pivot_stands, p
 use Rattle.simplex_laws.specs.declared.next.Next.{Next}
 use Rattle.simplex_laws.specs.declared.next.Next.TheVariants.{Pivot, Flip, FinalRow, FinalPoint}
 use Rattle.simplex_laws.specs.Steps.{next, is_final}
-use Rattle.simplex_laws.specs.Runs.{step, after, IsNotFinal}
+use Rattle.simplex_laws.specs.Runs.{step, after, IsNotFinal, IsReached}
 use Rattle.simplex_laws.specs.Laws.{CanPivot, CanFlip, CanStep, IsTableOf, RunsStand, FinalsStay, RunsHaveBegun}
 use Rattle.simplex_laws.proofs.StepLaws.{steps_can_be_made}
 
@@ -43,10 +43,14 @@ module _ (m : Parts) (b : List (ℤ × ℤ)) (T : Table) (of_node : IsTableOf m 
   flip_keeps v can =
       let t = of_node.table in
       record {
-        table = record { rows = t.rows; basics = t.basics; rests = length-set T.rests v (other_side (rest_at T.rests v)) ∙ t.rests;
-            within = t.within };
-        stands = flip_stands T v can.rests can.low can.high can.variable t.rests m b of_node.stands;
-        points = flip_points T v can.rests can.low can.high m of_node.points;
+        table = record {
+          rows = t.rows;
+          basics = t.basics;
+          positions = length-set T.positions v (other_side (position_at T.positions v)) ∙ t.positions;
+          within = t.within;
+        };
+        stands = flip_stands T v can.position can.low can.high can.variable t.positions m b of_node.stands;
+        points = flip_points T v can.position can.low can.high m of_node.points;
       }
 
   step_keeps : (n : Next) (U : Table) → CanStep T n → step T n ≡ Ok U → IsTableOf m b U
@@ -67,6 +71,18 @@ after_next m b n T e = ap (λ (o : Result Table Wide). and_then o (λ T. step T 
 pub after_one_more : (m : Parts) (b : List (ℤ × ℤ)) (n : ℕ) (T U : Table) (s : Next) → after m b n ≡ Ok T → next T ≡ s → step T s ≡ Ok U →
     after m b (n + 1) ≡ Ok U
 after_one_more m b n T U s e f g = let q : n + 1 ≡ suc n = omega arith in ap (after m b) q ∙ after_next m b n T e ∙ ap (step T) f ∙ g
+
+-- the simplex comes from a tableau that is not final to the one after a step
+pub reached_one_more : (m : Parts) (b : List (ℤ × ℤ)) (n : ℕ) (T U : Table) (s : Next) → IsReached m b n T → next T ≡ s
+    → is_final s ≡ false → step T s ≡ Ok U → IsReached m b (n + 1) U
+reached_one_more m b n T U s here is unfinished made = record {
+  after = after_one_more m b n T U s here.after is made;
+  unfinished = λ k l. let within : k ≤ n = omega arith in by k (eq-or-lt_of_le within);
+}
+  where
+    by : (k : ℕ) → (k ≡ n) ⊎ (k < n) → IsNotFinal m b k
+    by k (inl q) = record { tableau = T; after = ap (after m b) q ∙ here.after; unfinished = ap is_final is ∙ unfinished }
+    by k (inr q) = here.unfinished k q
 
 -- where there is a tableau after a step, there was one before it
 pub after_before : (m : Parts) (b : List (ℤ × ℤ)) (n : ℕ) (U : Table) → after m b (suc n) ≡ Ok U → (T : Table) × (after m b n ≡ Ok T)
@@ -89,8 +105,11 @@ pub runs_stand : RunsStand
 unfolding after
 runs_stand m b zero T limits size e =
     let is : start_of m b ≡ T = cc in
-    subst (IsTableOf m b) is (record { table = start-table m b limits size; stands = start-stands m b limits size;
-        points = start-points m b limits size })
+    subst (IsTableOf m b) is (record {
+      table = start-table m b limits size;
+      stands = start-stands m b limits size;
+      points = start-points m b limits size;
+    })
 runs_stand m b (suc n) T limits size e = let r = after_before m b n T e in next_keeps m b r.0 (runs_stand m b n r.0 limits size r.1) T r.2
 
 -- a final step changes nothing

@@ -1,6 +1,32 @@
 -- The variables of a node by number: each column with the sides of its box and its cost, and each slack with the sides of its row.
-use Rattle.std.specs.Prelude.{◌≡◌, ℕ, zero, suc, ◌+◌, ◌-◌, ◌<◌, ◌≤◌, Bool, true, false, List, [], ◌∷◌, ◌++◌, length, map, Some, None,
-    option_and_then, nat_lt, slice_get, slice_index_or, ℤ, pos, ◌≤ℤ◌}
+use Rattle.std.specs.Prelude.{
+  ◌≡◌,
+  ℕ,
+  zero,
+  suc,
+  ◌+◌,
+  ◌-◌,
+  ◌<◌,
+  ◌≤◌,
+  Bool,
+  true,
+  false,
+  List,
+  [],
+  ◌∷◌,
+  ◌++◌,
+  length,
+  map,
+  Some,
+  None,
+  option_and_then,
+  nat_lt,
+  slice_get,
+  slice_index_or,
+  ℤ,
+  pos,
+  ◌≤ℤ◌,
+}
 use Rattle.std.specs.List.{zip}
 use Rattle.std.proofs.Common.{arith, refl, ap, sym, ◌∙◌, ◌⊎◌, inl, inr}
 use Rattle.std.proofs.lemmas.Int.{ints}
@@ -21,8 +47,11 @@ abbrev none : Variable
 none = record { low = None; high = None; cost = pos 0 }
 
 column_in : (cs : List Column) (bs : List (ℤ × ℤ)) (more : List Variable) (j : ℕ) (d : Variable) → length cs ≤ length bs → j < length cs
-    → slice_index_or (map column_variable (zip cs bs) ++ more) j d ≡ record { low = Some (low_at bs j); high = Some (high_at bs j);
-        cost = at (map (λ c. c.cost) cs) j }
+    → slice_index_or (map column_variable (zip cs bs) ++ more) j d ≡ record {
+      low = Some (low_at bs j);
+      high = Some (high_at bs j);
+      cost = at (map (λ c. c.cost) cs) j;
+    }
 column_in [] bs more j d e l = absurd (omega arith)
 column_in (c ∷ cs) [] more j d e l = absurd (omega arith)
 column_in (c ∷ cs) (s ∷ bs) more zero d e l = refl
@@ -40,7 +69,7 @@ past_columns [] bs more k d e = ap (λ i. slice_index_or more i d) (let q : 0 + 
 past_columns (c ∷ cs) [] more k d e = absurd (omega arith)
 past_columns (c ∷ cs) (s ∷ bs) more k d e =
     ap (λ i. slice_index_or (map column_variable (zip (c ∷ cs) (s ∷ bs)) ++ more) i d)
-        (let q : suc (length cs) + k ≡ suc (length cs + k) = omega arith in q)
+    (let q : suc (length cs) + k ≡ suc (length cs + k) = omega arith in q)
     ∙ past_columns cs bs more k d (omega arith)
 
 -- a box that gives each column its sides is as long as the columns
@@ -50,8 +79,8 @@ covers (c ∷ cs) [] e = absurd (omega arith)
 covers (c ∷ cs) (s ∷ bs) e = let r = covers cs bs (omega arith) in omega arith
 
 -- a variable is a column or a slack
-pub place : (c n v : ℕ) → v < c + n → (v < c) ⊎ ((k : ℕ) × (k < n) × (v ≡ c + k))
-place c n v l = by (nat_lt v c) refl
+pub column_or_slack : (c n v : ℕ) → v < c + n → (v < c) ⊎ ((k : ℕ) × (k < n) × (v ≡ c + k))
+column_or_slack c n v l = by (nat_lt v c) refl
   where
     by : (t : Bool) → nat_lt v c ≡ t → (v < c) ⊎ ((k : ℕ) × (k < n) × (v ≡ c + k))
     by true e = inl (grind arith)
@@ -67,8 +96,11 @@ module _ (m : Parts) (b : List (ℤ × ℤ)) (T : Table) (stands : StandsFor m b
       let q = length-map m.rows slack_variable in
       covers m.columns b (omega arith)
 
-  pub column_is : (j : ℕ) → j < length m.columns → variable_at T.variables j ≡ record { low = Some (low_at b j); high = Some (high_at b j);
-      cost = at (costs_of m) j }
+  pub column_is : (j : ℕ) → j < length m.columns → variable_at T.variables j ≡ record {
+    low = Some (low_at b j);
+    high = Some (high_at b j);
+    cost = at (costs_of m) j;
+  }
   column_is j l = ap (λ vs. variable_at vs j) stands.variables ∙ column_in m.columns b (map slack_variable m.rows) j none covered l
 
   pub slack_is : (k : ℕ) → variable_at T.variables (length m.columns + k) ≡ record { low = row_low m k; high = row_high m k; cost = pos 0 }
@@ -96,7 +128,7 @@ module _ (m : Parts) (b : List (ℤ × ℤ)) (T : Table) (stands : StandsFor m b
   -- the two sides of a variable are in order
   pub in_order : IsUncrossed m b → (v : ℕ) (low high : ℤ) → v < length m.columns + length m.rows →
       (variable_at T.variables v).low ≡ Some low → (variable_at T.variables v).high ≡ Some high → low ≤ℤ high
-  in_order ok v low high l p q = by (place (length m.columns) (length m.rows) v l)
+  in_order ok v low high l p q = by (column_or_slack (length m.columns) (length m.rows) v l)
     where
       some : (x y : ℤ) → Some x ≡ Some y → x ≡ y
       some x y e = cc
@@ -108,4 +140,4 @@ module _ (m : Parts) (b : List (ℤ × ℤ)) (T : Table) (stands : StandsFor m b
           let z = ok.columns v c in omega (arith, ints)
       by (inr (k, s, e)) =
           ok.rows k low high s (sym (slack_low k) ∙ ap (λ v. (variable_at T.variables v).low) (sym e) ∙ p) (sym (slack_high k)
-              ∙ ap (λ v. (variable_at T.variables v).high) (sym e) ∙ q)
+          ∙ ap (λ v. (variable_at T.variables v).high) (sym e) ∙ q)

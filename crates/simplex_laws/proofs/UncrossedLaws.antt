@@ -12,7 +12,7 @@ use Rattle.ip_defs.specs.declared.programs.Parts.{Parts}
 use Rattle.ip_defs.proofs.BoxLaws.{open_from}
 use Rattle.ip_model.specs.Sizes.{first_crossed}
 use Rattle.lp_duality.specs.Relaxations.{IsUncrossed}
-use Rattle.simplex_laws.proofs.PlaceLaws.{found}
+use Rattle.simplex_laws.proofs.ListPositionLaws.{found}
 use Rattle.ip_defs.proofs.OrderLaws.{not_less}
 
 crossed_by : (r : Row) (low high : ℤ) → r.low ≡ Some low → r.high ≡ Some high → is_crossed r ≡ lt_z high low

@@ -5,17 +5,17 @@ use Rattle.frac128.specs.Rationals.{Rational, neg}
 use Rattle.ip_defs.specs.declared.programs.Parts.{Parts}
 use Rattle.tableau.specs.Tables.{Table}
 use Rattle.tableau.specs.Nodes.{number}
-use Rattle.tableau.specs.Meanings.{resting_number, value_number, price_number}
+use Rattle.tableau.specs.Meanings.{nonbasic_number, value_number, price_number}
 
--- the number of a variable: the value of its row where it is basic, and else where it rests
+-- the number of a variable: the value of its row where it is basic, and else its nonbasic value
 abbrev pub number_by : Table → ℕ → Option ℕ → Rational
-number_by T v None = resting_number T v
+number_by T v None = nonbasic_number T v
 number_by T v (Some i) = value_number T i
 
 abbrev pub point_of : Table → ℕ → Rational
 point_of T v = number_by T v (position (λ w. w == v) T.basics)
 
--- the reduced costs of the slacks
+-- the dual prices of the rows: the reduced costs of the slacks
 abbrev pub slack_prices : Parts → Table → ℕ → Rational
 slack_prices m T k = price_number T (length m.columns + k)
 

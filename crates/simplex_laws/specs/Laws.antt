@@ -5,9 +5,9 @@ use Rattle.ip_defs.specs.Limits.{IsWithinLimits}
 use Rattle.ip_defs.specs.declared.programs.Parts.{Parts}
 use Rattle.lp_duality.specs.Relaxations.{total_cost, IsRelaxed, IsUncrossed}
 use Rattle.lp_duality.specs.Duals.{dual}
-use Rattle.tableau.specs.declared.rests.Rest.{Rest}
-use Rattle.tableau.specs.declared.rests.Rest.TheVariants.{Basic}
-use Rattle.tableau.specs.Tables.{Table, entry, basic_at, rest_at, variable_at, CanRest, IsTable}
+use Rattle.tableau.specs.declared.positions.Rest.{Rest}
+use Rattle.tableau.specs.declared.positions.Rest.TheVariants.{Basic}
+use Rattle.tableau.specs.Tables.{Table, entry, basic_at, position_at, variable_at, CanRest, IsTable}
 use Rattle.tableau.specs.Nodes.{StandsFor, HasItsPoints}
 use Rattle.simplex_laws.specs.declared.next.Next.{Next}
 use Rattle.simplex_laws.specs.declared.next.Next.TheVariants.{Pivot, Flip, FinalRow, FinalPoint}
@@ -16,18 +16,18 @@ use Rattle.simplex_laws.specs.Runs.{after}
 use Rattle.simplex_laws.specs.Finals.{point_of, slack_prices, slack_ray}
 
 -- ---- steps can be made
--- a variable that is not basic can enter in a row where its entry is not 0, and the row's basic variable can rest where it leaves to
+-- a variable that is not basic can enter in a row where its entry is not 0, and the row's basic variable can have the position to which it leaves
 pub record CanPivot (T : Table) (r v : ℕ) (leaving : Rest) : Type 0 where
   pub row : r < length T.rows
   pub variable : v < length T.variables
   pub pivot : (entry T.rows r v).num ≢ pos 0
-  pub enters : rest_at T.rests v ≢ Basic
+  pub enters : position_at T.positions v ≢ Basic
   pub leaves : CanRest (variable_at T.variables (basic_at T.basics r)) leaving
 
 -- a variable that is not basic has both sides
 pub record CanFlip (T : Table) (v : ℕ) : Type 0 where
   pub variable : v < length T.variables
-  pub rests : CanRest (variable_at T.variables v) (rest_at T.rests v)
+  pub position : CanRest (variable_at T.variables v) (position_at T.positions v)
   pub low : (variable_at T.variables v).low ≢ None
   pub high : (variable_at T.variables v).high ≢ None
 

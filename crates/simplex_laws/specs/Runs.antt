@@ -1,5 +1,5 @@
--- The tableau of a node after so many steps of the simplex, and the nodes at which it does not end so soon.
-use Rattle.std.specs.Prelude.{◌≡◌, ℕ, zero, suc, false, List, Result, Ok, ℤ}
+-- The tableau of a node after a number of steps of the simplex, and the number of steps after which it is not final yet.
+use Rattle.std.specs.Prelude.{◌≡◌, ℕ, zero, suc, ◌<◌, false, List, Result, Ok, ℤ}
 use Rattle.frac128.specs.declared.fraction.Wide.{Wide}
 use Rattle.ip_defs.specs.declared.programs.Parts.{Parts}
 use Rattle.tableau.specs.Tables.{Table}
@@ -27,3 +27,8 @@ pub record IsNotFinal (m : Parts) (b : List (ℤ × ℤ)) (n : ℕ) : Type 0 whe
   pub tableau : Table
   pub after : after m b n ≡ Ok tableau
   pub unfinished : is_final (next tableau) ≡ false
+
+-- the simplex comes to a tableau after just n steps: none of the tableaus before it is final
+pub record IsReached (m : Parts) (b : List (ℤ × ℤ)) (n : ℕ) (T : Table) : Type 0 where
+  pub after : after m b n ≡ Ok T
+  pub unfinished : (k : ℕ) → k < n → IsNotFinal m b k

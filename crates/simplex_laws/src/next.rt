@@ -5,11 +5,11 @@ use tableau::Rest;
 /// pivoting rules for the simplex method, 1977), here with two sides for a variable.
 #[derive(Clone, Copy, Debug, PartialEq, Eq)]
 pub enum Next {
-    /// A pivot at a row and a variable; the row's basic variable leaves to a rest.
+    /// A pivot at a row and a variable; the row's basic variable leaves to a position.
     Pivot { row: u32, var: u32, leaving: Rest },
-    /// A variable goes to its other side.
+    /// A nonbasic variable moves to its other side.
     Flip { var: u32 },
-    /// The row's basic variable is outside its sides, and no variable can mend that. `up` says that it is below its low side.
+    /// The row's basic variable is outside its sides, and no variable can enter to bring it back. `up` says that it is below its low side.
     FinalRow { row: u32, up: bool },
     /// Each variable is within its sides, and none can lower the cost.
     FinalPoint,

@@ -22,9 +22,9 @@ module _ (n : ℕ) (rows : List (List Fraction)) (r v : ℕ) (are : AreRows n ro
     < n) (pivot : (entry rows r v).num ≢ pos 0) where
   exact : (i w : ℕ) (t : Bool) (x : Fraction) → i < length rows → w < n
       → cond t (quotient_of (entry rows r w) (entry rows r v)) (and_then (quotient_of (entry rows r w) (entry rows r v))
-          (less_product (entry rows i w) (entry rows i v))) ≡ Ok x
+      (less_product (entry rows i w) (entry rows i v))) ≡ Ok x
       → IsProper x × (value_of x ≡ cond t (mul (numbers rows r w) (inverse (numbers rows r v)))
-          (sub (numbers rows i w) (mul (numbers rows i v) (mul (numbers rows r w) (inverse (numbers rows r v))))))
+      (sub (numbers rows i w) (mul (numbers rows i v) (mul (numbers rows r w) (inverse (numbers rows r v))))))
   exact i w true x l k e = (
     quotient-proper (entry rows r w) (entry rows r v) x (are.fractions r w inside k) (are.fractions r v inside enters) pivot e,
     quotient-value (entry rows r w) (entry rows r v) x (are.fractions r w inside k) (are.fractions r v inside enters) pivot e,
@@ -34,14 +34,14 @@ module _ (n : ℕ) (rows : List (List Fraction)) (r v : ℕ) (are : AreRows n ro
       by : (o : Result Fraction Wide) → quotient_of (entry rows r w) (entry rows r v) ≡ o →
           and_then o (less_product (entry rows i w) (entry rows i v)) ≡ Ok x
           → IsProper x × (value_of x ≡ sub (numbers rows i w) (mul (numbers rows i v)
-              (mul (numbers rows r w) (inverse (numbers rows r v)))))
+          (mul (numbers rows r w) (inverse (numbers rows r v)))))
       by (Ok g) h f =
           let proper = quotient-proper (entry rows r w) (entry rows r v) g (are.fractions r w inside k) (are.fractions r v inside enters)
-                  pivot h in
+          pivot h in
           let is = quotient-value (entry rows r w) (entry rows r v) g (are.fractions r w inside k) (are.fractions r v inside enters) pivot
-                  h in
+          h in
           let less = less_product-value (entry rows i w) (entry rows i v) g x (are.fractions i w l k) (are.fractions i v l enters) proper
-                  f in
+          f in
           (less.0, less.1 ∙ ap (λ z. sub (numbers rows i w) (mul (numbers rows i v) z)) is)
       by (Err w) h f = absurd cc
 

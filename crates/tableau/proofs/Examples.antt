@@ -3,7 +3,7 @@ use Rattle.std.specs.Prelude.{◌≡◌, ◌^◌, [], ◌∷◌, List, Some, Non
 use Rattle.frac128.specs.Gcd.{gcd}
 use Rattle.frac128.specs.Fractions.{Fraction, lowest_of, sum_of, product_of, whole}
 use Rattle.ip_defs.specs.declared.programs.Parts.{Parts}
-use Rattle.tableau.specs.declared.rests.Rest.TheVariants.{Basic, Low, High}
+use Rattle.tableau.specs.declared.positions.Rest.TheVariants.{Basic, Low, High}
 use Rattle.tableau.specs.declared.variables.Variable.{Variable}
 use Rattle.tableau.specs.Tables.{Table}
 use Rattle.tableau.specs.Numbers.{value, price, ratio}
@@ -24,15 +24,22 @@ one_row = record {
 
 -- the column with the sides of the box, and the slack with those of its row
 abbrev variables : List Variable
-variables = record { low = Some (pos 0); high = Some (pos 4); cost = negsuc 0 } ∷ record { low = None; high = Some (pos 3);
-    cost = pos 0 } ∷ []
+variables = record { low = Some (pos 0); high = Some (pos 4); cost = negsuc 0 } ∷ record {
+  low = None;
+  high = Some (pos 3);
+  cost = pos 0;
+} ∷ []
 
 abbrev pub before : Table
-before = record { rows = (whole (negsuc 1) ∷ whole (pos 1) ∷ []) ∷ []; basics = 1 ∷ []; rests = Low ∷ Basic ∷ []; variables = variables }
+before = record { rows = (whole (negsuc 1) ∷ whole (pos 1) ∷ []) ∷ []; basics = 1 ∷ []; positions = Low ∷ Basic ∷ []; variables = variables }
 
 abbrev pub after : Table
-after = record { rows = (whole (pos 1) ∷ over (negsuc 0) (pos 2) ∷ []) ∷ []; basics = 0 ∷ []; rests = Basic ∷ High ∷ [];
-    variables = variables }
+after = record {
+  rows = (whole (pos 1) ∷ over (negsuc 0) (pos 2) ∷ []) ∷ [];
+  basics = 0 ∷ [];
+  positions = Basic ∷ High ∷ [];
+  variables = variables;
+}
 
 pub starts : start_of one_row ((pos 0, pos 4) ∷ []) ≡ before
 starts = refl
@@ -53,13 +60,17 @@ pub price_after : price after 1 ≡ Ok (over (negsuc 0) (pos 2))
 unfolding lowest_of sum_of product_of gcd
 price_after = refl
 
--- from its high side the slack takes the column back to where it was, but for the rest
-pub pivots_back : after_pivot after 0 1 High ≡ Ok (record { rows = before.rows; basics = before.basics; rests = High ∷ Basic ∷ [];
-    variables = variables })
+-- from its high side the slack takes the column back to where it was, but for its position
+pub pivots_back : after_pivot after 0 1 High ≡ Ok (record {
+  rows = before.rows;
+  basics = before.basics;
+  positions = High ∷ Basic ∷ [];
+  variables = variables;
+})
 unfolding lowest_of sum_of product_of gcd
 pivots_back = refl
 
-pub flips : (after_flip before 0).rests ≡ High ∷ Basic ∷ []
+pub flips : (after_flip before 0).positions ≡ High ∷ Basic ∷ []
 flips = refl
 
 -- another row loses its multiple of the new pivot row: 5 - 3 * (4 / 2)

@@ -2,12 +2,38 @@
 use Rattle.std.specs.Prelude.{◌≡◌, ◌≢◌, true, Option, Some, None, Result, Ok, Err, IfOk, ℤ, pos, neg_ℤ, ◌*ℤ◌, ◌<ℤ◌, int_div}
 use Rattle.std.proofs.Common.{arith, refl, ap, sym, ◌∙◌, subst}
 use Rattle.frac128.specs.declared.fraction.Wide.{Wide}
-use Rattle.frac128.specs.Fractions.{Fraction, within, shared, lowest_of, sum_where, sum_of, fraction_where, product_of, negative_of,
-    difference_of, reciprocal_of, quotient_of, whole}
+use Rattle.frac128.specs.Fractions.{
+  Fraction,
+  within,
+  shared,
+  lowest_of,
+  sum_where,
+  sum_of,
+  fraction_where,
+  product_of,
+  negative_of,
+  difference_of,
+  reciprocal_of,
+  quotient_of,
+  whole,
+}
 use Rattle.frac128.specs.Rationals.{of, sub, mul, inverse}
 use Rattle.frac128.specs.Values.{value_of, IsDifference, IsProduct, IsQuotient}
-use Rattle.frac128.proofs.FractionLaws.{IsProper, reciprocal-proper, within-some, IsFraction-product, IsFraction-lowest,
-    IsFraction-negative, sum_num, sum_den, sum-positive, product-exact, sum-exact, IfOk-difference, IfOk-quotient}
+use Rattle.frac128.proofs.FractionLaws.{
+  IsProper,
+  reciprocal-proper,
+  within-some,
+  IsFraction-product,
+  IsFraction-lowest,
+  IsFraction-negative,
+  sum_num,
+  sum_den,
+  sum-positive,
+  product-exact,
+  sum-exact,
+  IfOk-difference,
+  IfOk-quotient,
+}
 use Rattle.frac128.proofs.Fractions.{lowest-is}
 use Rattle.frac128.proofs.Order.{nonzero}
 use Rattle.frac128.proofs.WholeLaws.{IsFraction-whole, zero-product_left, zero-product_right, zero-sum_right}
@@ -21,18 +47,18 @@ less_zero : (x : Fraction) → IsProper x → difference_of x (whole (pos 0)) �
 less_zero x p = zero-sum_right x (whole (pos 0)) p (IsFraction-whole (pos 0) (pos 1) (omega arith) refl) refl
 
 -- a factor of 0 leaves a number alone
-pub less_nought_left : (x f g : Fraction) → IsProper x → IsProper f → IsProper g → is_zero_fraction f ≡ true → less_product x f g ≡ Ok x
-less_nought_left x f g p q r e = ap (λ o. and_then o (difference_of x)) (zero-product_left f g q r (zero_is f.num e)) ∙ less_zero x p
+pub less_zero_left : (x f g : Fraction) → IsProper x → IsProper f → IsProper g → is_zero_fraction f ≡ true → less_product x f g ≡ Ok x
+less_zero_left x f g p q r e = ap (λ o. and_then o (difference_of x)) (zero-product_left f g q r (zero_is f.num e)) ∙ less_zero x p
 
-pub less_nought_right : (x f g : Fraction) → IsProper x → IsProper f → IsProper g → is_zero_fraction g ≡ true → less_product x f g ≡ Ok x
-less_nought_right x f g p q r e = ap (λ o. and_then o (difference_of x)) (zero-product_right f g q r (zero_is g.num e)) ∙ less_zero x p
+pub less_zero_right : (x f g : Fraction) → IsProper x → IsProper f → IsProper g → is_zero_fraction g ≡ true → less_product x f g ≡ Ok x
+less_zero_right x f g p q r e = ap (λ o. and_then o (difference_of x)) (zero-product_right f g q r (zero_is g.num e)) ∙ less_zero x p
 
 -- ---- answers are fractions
 pub product-proper : (x y r : Fraction) → IsProper x → IsProper y → product_of x y ≡ Ok r → IsProper r
 unfolding product_of
 product-proper x y r p q e =
     by (within (int_div x.num (shared x.num y.den) *ℤ int_div y.num (shared y.num x.den)))
-        (within (int_div x.den (shared y.num x.den) *ℤ int_div y.den (shared x.num y.den))) refl refl e
+    (within (int_div x.den (shared y.num x.den) *ℤ int_div y.den (shared x.num y.den))) refl refl e
   where
     by : (s t : Option ℤ) → within (int_div x.num (shared x.num y.den) *ℤ int_div y.num (shared y.num x.den)) ≡ s →
         within (int_div x.den (shared y.num x.den) *ℤ int_div y.den (shared x.num y.den)) ≡ t → fraction_where s t ≡ Ok r → IsProper r
@@ -80,7 +106,7 @@ less_product-value x f g r p q s e = by (product_of f g) refl e
         let times : IsProduct f g y = subst (λ o. IfOk o (IsProduct f g)) h (product-exact f g q s) in
         let turned = IsFraction-negative y.num y.den (neg_ℤ y.num) proper refl in
         let less : IsDifference x y r = subst (λ o. IfOk o (IsDifference x y)) k
-                (IfOk-difference x y (difference_of x y) (sum-exact x (negative_of y) p turned)) in
+        (IfOk-difference x y (difference_of x y) (sum-exact x (negative_of y) p turned)) in
         (difference-proper x y r p proper k, less ∙ ap (sub (value_of x)) times)
     by (Err w) h k = absurd cc
 

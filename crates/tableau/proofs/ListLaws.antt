@@ -34,7 +34,7 @@ listed_is zero f (x ∷ xs) d e h = absurd (omega arith)
 listed_is (suc n) f [] d e h = absurd (omega arith)
 listed_is (suc n) f (x ∷ xs) d e h =
     ap (λ z. z ∷ xs) (h 0 (omega arith)) ∙ ap (λ zs. f 0 ∷ zs) (listed_is n (λ k. f (suc k)) xs d (omega arith)
-        (λ i l. h (suc i) (omega arith)))
+    (λ i l. h (suc i) (omega arith)))
 
 -- ---- answers
 pub all_below-ok : {A : Type 0} (n : ℕ) (f : ℕ → Result A Wide) (xs : List A) (d : A) → length xs ≡ n →
@@ -45,7 +45,7 @@ all_below-ok (suc n) f [] d e h = absurd (omega arith)
 all_below-ok {A = A} (suc n) f (x ∷ xs) d e h =
     ap (λ (o : Result A Wide). and_then o (λ y. and_then (all_below n (λ k. f (suc k))) (λ ys. Ok (y ∷ ys)))) (h 0 (omega arith))
     ∙ ap (λ (o : Result (List A) Wide). and_then o (λ ys. Ok (x ∷ ys))) (all_below-ok n (λ k. f (suc k)) xs d (omega arith)
-        (λ i l. h (suc i) (omega arith)))
+    (λ i l. h (suc i) (omega arith)))
 
 then_wide : {A B : Type 0} (o : Result A Wide) (f : A → Result B Wide) → ((x : A) → f x ≡ Err (record {})) → and_then o f ≡ Err (record {})
 then_wide (Ok x) f h = h x
@@ -69,7 +69,7 @@ all_below-is {A = A} (suc n) f xs d e = by (f 0) (all_below n (λ k. f (suc k)))
     by : (o : Result A Wide) (p : Result (List A) Wide) → f 0 ≡ o → all_below n (λ k. f (suc k)) ≡ p →
         and_then o (λ y. and_then p (λ ys. Ok (y ∷ ys))) ≡ Ok xs
         → ((ys : List A) (d : A) → all_below n (λ k. f (suc k)) ≡ Ok ys → (length ys ≡ n)
-            × ((i : ℕ) → i < n → f (suc i) ≡ Ok (slice_index_or ys i d)))
+        × ((i : ℕ) → i < n → f (suc i) ≡ Ok (slice_index_or ys i d)))
         → (length xs ≡ suc n) × ((i : ℕ) → i < suc n → f i ≡ Ok (slice_index_or xs i d))
     by (Err w) p g h k ih = absurd cc
     by (Ok y) (Err w) g h k ih = absurd cc
@@ -88,7 +88,7 @@ all_below-same zero f g h = refl
 all_below-same {A = A} (suc n) f g h =
     ap (λ (o : Result A Wide). and_then o (λ y. and_then (all_below n (λ k. f (suc k))) (λ ys. Ok (y ∷ ys)))) (h 0 (omega arith))
     ∙ ap (λ (p : Result (List A) Wide). and_then (g 0) (λ y. and_then p (λ ys. Ok (y ∷ ys))))
-        (all_below-same n (λ k. f (suc k)) (λ k. g (suc k)) (λ i l. h (suc i) (omega arith)))
+    (all_below-same n (λ k. f (suc k)) (λ k. g (suc k)) (λ i l. h (suc i) (omega arith)))
 
 -- ---- steps
 -- what was wide stays so
@@ -108,7 +108,7 @@ pub after_steps-next : (f : ℕ → Fraction → Result Fraction Wide) (x y : Fr
 after_steps-next f x y k r e h = let same : k + 1 ≡ suc k = omega arith in h ∙ ap (λ (o : Result Fraction Wide). and_then o (f k)) e
     ∙ ap (after_steps f x) (sym same)
 
--- there is one way to be wide
+-- all wide results are the same
 pub same_wide : (e : Wide) → e ≡ record {}
 same_wide e = refl
 

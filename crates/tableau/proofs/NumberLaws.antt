@@ -29,13 +29,13 @@ pub value_step : (f : ℕ → Rational) (k : ℕ) (y r : Rational) → y ≡ neg
     r ≡ neg (sum rationals f (k + 1))
 value_step f k y r e h =
     h ∙ ap (λ z. sub z (f k)) e ∙ ring2 rationals (λ s t. minus s ⊖ t) (λ s t. minus (s ⊕ t)) refl (sum rationals f k) (f k)
-        ∙ ap neg (sym (one_more f k))
+    ∙ ap neg (sym (one_more f k))
 
 pub price_step : (c : Rational) (f : ℕ → Rational) (k : ℕ) (y r : Rational) → y ≡ sub c (sum rationals f k) → r ≡ sub y (f k) →
     r ≡ sub c (sum rationals f (k + 1))
 price_step c f k y r e h =
     h ∙ ap (λ z. sub z (f k)) e ∙ ring3 rationals (λ c s t. (c ⊖ s) ⊖ t) (λ c s t. c ⊖ (s ⊕ t)) refl c (sum rationals f k) (f k)
-        ∙ ap (sub c) (sym (one_more f k))
+    ∙ ap (sub c) (sym (one_more f k))
 
 -- what holds of an answer holds of its number by equal names
 pub number_is : (o : Result Fraction Wide) (p q : Rational) → p ≡ q → IfOk o (λ x. value_of x ≡ p) → IfOk o (λ x. value_of x ≡ q)

@@ -42,7 +42,7 @@ module _ (R : Ring) (rows columns : ℕ) (entry : ℕ → ℕ → R.carrier) whe
   -- a pivot keeps the points: where the new rows are zero, the old ones are
   pub pivot_back : (r v : ℕ) (inverse : carrier) → r < rows → entry r v *r inverse ≡ of (pos 1) → (x : ℕ → carrier)
       → ((i : ℕ) → i < rows → row_at R (columns + rows) (pivoted R entry r v inverse) x i ≡ of (pos 0)) → (i : ℕ) → i < rows →
-          row_at R (columns + rows) entry x i ≡ of (pos 0)
+      row_at R (columns + rows) entry x i ≡ of (pos 0)
   pivot_back r v inverse inside pivot x hold i l = others (i == r) refl (hold i l)
     where
       scaled : sum R (λ w. (entry r w *r inverse) *r x w) (columns + rows) ≡ inverse *r row_at R (columns + rows) entry x r
@@ -53,8 +53,11 @@ module _ (R : Ring) (rows columns : ℕ) (entry : ℕ → ℕ → R.carrier) whe
       first : sum R (λ w. (entry r w *r inverse) *r x w) (columns + rows) ≡ of (pos 0) → row_at R (columns + rows) entry x r ≡ of (pos 0)
       first h = combine R (row_at R (columns + rows) entry x r ∷ inverse ∷ entry r v ∷ sum R (λ w. (entry r w *r inverse) *r x w) (columns
           + rows) ∷ [])
-          ((num (pos 0) ⊖ var 0, var 2 ⊗ var 1, num (pos 1)) ∷ (var 2, var 3, num (pos 0)) ∷ (num (pos 0) ⊖ var 2, var 3,
-              var 1 ⊗ var 0) ∷ [])
+          ((num (pos 0) ⊖ var 0, var 2 ⊗ var 1, num (pos 1)) ∷ (var 2, var 3, num (pos 0)) ∷ (
+            num (pos 0) ⊖ var 2,
+            var 3,
+            var 1 ⊗ var 0,
+          ) ∷ [])
           (var 0) (num (pos 0)) refl (pivot, (h, (scaled, tt)))
 
       own : (t : Bool) → (r == r) ≡ t → sum R (λ w. cond t (entry r w *r inverse) (entry r w -r entry r v *r (entry r w *r inverse)) *r x
@@ -68,16 +71,19 @@ module _ (R : Ring) (rows columns : ℕ) (entry : ℕ → ℕ → R.carrier) whe
       others false e h =
           let f = entry i v in
           let apart = sum_same R (λ w. (entry i w -r f *r (entry r w *r inverse)) *r x w)
-                  (λ w. entry i w *r x w +r neg (f *r inverse) *r (entry r w *r x w)) (columns + rows)
+          (λ w. entry i w *r x w +r neg (f *r inverse) *r (entry r w *r x w)) (columns + rows)
           (λ w o. identity R (entry i w ∷ f ∷ entry r w ∷ inverse ∷ x w ∷ []) ((var 0 ⊖ var 1 ⊗ (var 2 ⊗ var 3)) ⊗ var 4)
-              (var 0 ⊗ var 4 ⊕ minus (var 1 ⊗ var 3) ⊗ (var 2 ⊗ var 4)) refl)
+          (var 0 ⊗ var 4 ⊕ minus (var 1 ⊗ var 3) ⊗ (var 2 ⊗ var 4)) refl)
           ∙ sum_add R (λ w. entry i w *r x w) (λ w. neg (f *r inverse) *r (entry r w *r x w)) (columns + rows)
           ∙ ap (λ z. row_at R (columns + rows) entry x i +r z) (sum_scale R (neg (f *r inverse)) (λ w. entry r w *r x w) (columns
-              + rows)) in
+          + rows)) in
           combine R (row_at R (columns + rows) entry x i ∷ row_at R (columns + rows) entry x r ∷ f ∷ inverse ∷ sum R
-              (λ w. (entry i w -r f *r (entry r w *r inverse)) *r x w) (columns + rows) ∷ [])
-          ((num (pos 1), var 4, num (pos 0)) ∷ (minus (num (pos 1)), var 4, var 0 ⊕ minus (var 2 ⊗ var 3) ⊗ var 1) ∷ (var 2 ⊗ var 3, var 1,
-              num (pos 0)) ∷ [])
+          (λ w. (entry i w -r f *r (entry r w *r inverse)) *r x w) (columns + rows) ∷ [])
+          ((num (pos 1), var 4, num (pos 0)) ∷ (minus (num (pos 1)), var 4, var 0 ⊕ minus (var 2 ⊗ var 3) ⊗ var 1) ∷ (
+            var 2 ⊗ var 3,
+            var 1,
+            num (pos 0),
+          ) ∷ [])
           (var 0) (num (pos 0)) refl (h, (apart, (own (r == r) refl (hold r inside), tt)))
 
 -- at the start the rows are zero exactly where the slacks are the rows' sums
@@ -88,15 +94,18 @@ pub start_back : (R : Ring) (rows columns : ℕ) (coefficient : ℕ → ℕ → 
 start_back R rows columns coefficient e columns_are one zeros x hold i l =
     let total = sum R (λ j. R.mul (R.of (coefficient i j)) (x j)) columns in
     let first = sum_same R (λ j. R.mul (e i j) (x j)) (λ j. R.neg (R.mul (R.of (coefficient i j)) (x j))) columns
-            (λ j m. ap (λ z. R.mul z (x j)) (columns_are i j l m)
-            ∙ ring2 R (λ a b. minus a ⊗ b) (λ a b. minus (a ⊗ b)) refl (R.of (coefficient i j)) (x j))
+    (λ j m. ap (λ z. R.mul z (x j)) (columns_are i j l m)
+    ∙ ring2 R (λ a b. minus a ⊗ b) (λ a b. minus (a ⊗ b)) refl (R.of (coefficient i j)) (x j))
     ∙ sum_neg R (λ j. R.mul (R.of (coefficient i j)) (x j)) columns in
     let second = sum_single R (λ k. R.mul (e i (columns + k)) (x (columns + k))) i rows l
-            (λ k o n. ap (λ z. R.mul z (x (columns + k))) (zeros i k l o (λ q. n (sym q))) ∙ zero_mul R (x (columns + k)))
+    (λ k o n. ap (λ z. R.mul z (x (columns + k))) (zeros i k l o (λ q. n (sym q))) ∙ zero_mul R (x (columns + k)))
     ∙ ap (λ z. R.mul z (x (columns + i))) (one i l) ∙ one_mul R (x (columns + i)) in
     combine R (x (columns + i) ∷ total ∷ row_at R (columns + rows) e x i ∷ sum R (λ j. R.mul (e i j) (x j)) columns ∷ sum R
-        (λ k. R.mul (e i (columns + k)) (x (columns + k))) rows ∷ [])
-    ((num (pos 1), var 2, num (pos 0)) ∷ (minus (num (pos 1)), var 2, var 3 ⊕ var 4) ∷ (minus (num (pos 1)), var 3,
-        minus (var 1)) ∷ (minus (num (pos 1)), var 4, var 0) ∷ [])
+    (λ k. R.mul (e i (columns + k)) (x (columns + k))) rows ∷ [])
+    ((num (pos 1), var 2, num (pos 0)) ∷ (minus (num (pos 1)), var 2, var 3 ⊕ var 4) ∷ (
+      minus (num (pos 1)),
+      var 3,
+      minus (var 1),
+    ) ∷ (minus (num (pos 1)), var 4, var 0) ∷ [])
     (var 0) (var 1) refl
     (hold i l, (sum_split R (λ v. R.mul (e i v) (x v)) columns rows, (first, (second, tt))))

@@ -1,6 +1,25 @@
 -- The rows after a pivot, from the new pivot row, the rows that change and those that stay as they are.
-use Rattle.std.specs.Prelude.{◌≡◌, ◌≢◌, ℕ, ◌<◌, ◌==◌, ◌&&◌, not, Bool, true, false, cond, if◌then◌else◌, List, [], length, Result, Ok, Err,
-    pos}
+use Rattle.std.specs.Prelude.{
+  ◌≡◌,
+  ◌≢◌,
+  ℕ,
+  ◌<◌,
+  ◌==◌,
+  ◌&&◌,
+  not,
+  Bool,
+  true,
+  false,
+  cond,
+  if◌then◌else◌,
+  List,
+  [],
+  length,
+  Result,
+  Ok,
+  Err,
+  pos,
+}
 use Rattle.std.proofs.Common.{arith, refl, ap, sym, ◌∙◌}
 use Rattle.std.proofs.lemmas.Bool.{eqb-true, eqb-false}
 use Rattle.frac128.specs.declared.fraction.Wide.{Wide}
@@ -9,7 +28,7 @@ use Rattle.tableau.specs.Tables.{at, line, entry, is_zero_fraction, AreRows}
 use Rattle.tableau.specs.Numbers.{and_then, less_product}
 use Rattle.tableau.specs.Pivots.{all_below, new_entry, new_rows}
 use Rattle.tableau.specs.Internal.Changes.{is_changed, lessened_row, AreLessened, HasWideRow}
-use Rattle.tableau.proofs.FractionLaws.{less_nought_left, quotient-proper}
+use Rattle.tableau.proofs.FractionLaws.{less_zero_left, quotient-proper}
 use Rattle.tableau.proofs.ListLaws.{all_below-ok, all_below-wide, all_below-is, all_below-same}
 
 pub same_number : (n : ℕ) → (n == n) ≡ true
@@ -40,7 +59,7 @@ module _ (n : ℕ) (rows : List (List Fraction)) (r v : ℕ) (are : AreRows n ro
   own_row : all_below n (new_entry rows r v r) ≡ quotients_of
   own_row = all_below-same n (new_entry rows r v r) (λ w. quotient_of (entry rows r w) (entry rows r v))
       (λ w l. ap (λ t. cond t (quotient_of (entry rows r w) (entry rows r v)) (and_then (quotient_of (entry rows r w) (entry rows r v))
-          (less_product (entry rows r w) (entry rows r v)))) (same_number r))
+      (less_product (entry rows r w) (entry rows r v)))) (same_number r))
 
   pub wide_pivot_row : quotients_of ≡ Err (record {}) → new_rows n rows r v ≡ Err (record {})
   wide_pivot_row e = all_below-wide (length rows) (λ i. all_below n (new_entry rows r v i)) r inside (own_row ∙ e)
@@ -55,7 +74,7 @@ module _ (n : ℕ) (rows : List (List Fraction)) (r v : ℕ) (are : AreRows n ro
         let f : ℕ → Result Fraction Wide = λ w. less_product (entry rows i w) (entry rows i v) (at g w) in
         all_below-same n (new_entry rows r v i) f (λ w k.
         ap (λ t. cond t (quotient_of (entry rows r w) (entry rows r v)) (and_then (quotient_of (entry rows r w) (entry rows r v))
-            (less_product (entry rows i w) (entry rows i v)))) apart
+        (less_product (entry rows i w) (entry rows i v)))) apart
         ∙ ap (λ (o : Result Fraction Wide). and_then o (less_product (entry rows i w) (entry rows i v))) (quotient_at w k))
         ∙ ap (λ k. all_below k f) (sym (are.size i l))
 
@@ -70,11 +89,11 @@ module _ (n : ℕ) (rows : List (List Fraction)) (r v : ℕ) (are : AreRows n ro
     row_stays i l none =
         let size = are.size i l in
         all_below-ok (length (line rows i)) (λ w. less_product (entry rows i w) (entry rows i v) (at g w)) (line rows i) (whole (pos 0))
-            refl (λ w k.
+        refl (λ w k.
         let small : w < n = omega arith in
-        less_nought_left (entry rows i w) (entry rows i v) (at g w) (are.fractions i w l small) (are.fractions i v l enters)
+        less_zero_left (entry rows i w) (entry rows i v) (at g w) (are.fractions i w l small) (are.fractions i v l enters)
         (quotient-proper (entry rows r w) (entry rows r v) (at g w) (are.fractions r w inside small) (are.fractions r v inside enters)
-            pivot (quotient_at w small))
+        pivot (quotient_at w small))
         none)
 
     module _ (spare new : List (List Fraction)) (lessened : AreLessened rows r v g spare) (count : length new
@@ -93,7 +112,7 @@ module _ (n : ℕ) (rows : List (List Fraction)) (r v : ℕ) (are : AreRows n ro
       each true i e l =
           let same = eqb-true i r e in
           ap (λ k. all_below n (new_entry rows r v k)) same ∙ own_row ∙ made ∙ ap (λ (z : List Fraction). Ok z) (sym own)
-              ∙ ap (λ k. Ok (line new k)) (sym same)
+          ∙ ap (λ k. Ok (line new k)) (sym same)
       each false i e l = other i l e
 
       pub new_rows-are : new_rows n rows r v ≡ Ok new

@@ -1,6 +1,41 @@
 -- The tableau at the start: its rows from the coefficients of the model, that it is a tableau, and that it stands for its node.
-use Rattle.std.specs.Prelude.{◌≡◌, ◌≢◌, ℕ, zero, suc, ◌+◌, ◌-◌, ◌<◌, ◌≤◌, ◌==◌, ◌^◌, Bool, true, false, cond, if◌then◌else◌, nat_lt, List,
-    [], ◌∷◌, ◌++◌, length, map, take, Option, Some, None, slice_get, slice_index_or, slice_set, ℤ, pos, neg_ℤ, ◌+ℤ◌, unsigned_abs}
+use Rattle.std.specs.Prelude.{
+  ◌≡◌,
+  ◌≢◌,
+  ℕ,
+  zero,
+  suc,
+  ◌+◌,
+  ◌-◌,
+  ◌<◌,
+  ◌≤◌,
+  ◌==◌,
+  ◌^◌,
+  Bool,
+  true,
+  false,
+  cond,
+  if◌then◌else◌,
+  nat_lt,
+  List,
+  [],
+  ◌∷◌,
+  ◌++◌,
+  length,
+  map,
+  take,
+  Option,
+  Some,
+  None,
+  slice_get,
+  slice_index_or,
+  slice_set,
+  ℤ,
+  pos,
+  neg_ℤ,
+  ◌+ℤ◌,
+  unsigned_abs,
+}
 use Rattle.std.specs.List.{zip}
 use Rattle.std.proofs.Common.{arith, refl, ap, sym, ◌∙◌, subst, length-set, get_or}
 use Rattle.std.proofs.lemmas.Bool.{eqb-true, eqb-false}
@@ -21,11 +56,21 @@ use Rattle.ip_defs.specs.Certificates.{coefs_of, coefficient_of}
 use Rattle.ip_defs.specs.declared.programs.Row.{Row}
 use Rattle.ip_defs.specs.declared.programs.Parts.{Parts}
 use Rattle.ip_model.proofs.RowLaws.{coefficient_none, fresh, coefficient_more, coefficient_small}
-use Rattle.tableau.specs.declared.rests.Rest.TheVariants.{Basic, Low}
+use Rattle.tableau.specs.declared.positions.Rest.TheVariants.{Basic, Low}
 use Rattle.tableau.specs.declared.variables.Variable.{Variable}
-use Rattle.tableau.specs.Tables.{at, entry, basic_at, rest_at, IsTable}
-use Rattle.tableau.specs.Nodes.{column_variable, slack_variable, variables_of, listed, start_entry, start_of, number, RestsRight,
-    StandsFor, HasItsPoints}
+use Rattle.tableau.specs.Tables.{at, entry, basic_at, position_at, IsTable}
+use Rattle.tableau.specs.Nodes.{
+  column_variable,
+  slack_variable,
+  variables_of,
+  listed,
+  start_entry,
+  start_of,
+  number,
+  IsWellPlaced,
+  StandsFor,
+  HasItsPoints,
+}
 use Rattle.frac128.proofs.FractionLaws.{IsProper}
 use Rattle.frac128.proofs.SignLaws.{whole-value}
 use Rattle.tableau.proofs.ListLaws.{listed-at, length-listed, listed_is}
@@ -36,7 +81,7 @@ use Rattle.tableau.proofs.PointLaws.{start_back}
 pub put_step : (numbers : List Fraction) (coefs : List (ℕ × ℤ)) (i : ℕ) (y : Fraction) → i < length coefs →
     ((h k : ℕ) → h < k → k < length coefs → index_at coefs h < index_at coefs k)
     → index_at coefs i < length numbers → ((v : ℕ) → v < length numbers → at numbers v ≡ whole (neg_ℤ (coefficient (take i coefs) v))) →
-        y ≡ whole (neg_ℤ (value_at coefs i))
+    y ≡ whole (neg_ℤ (value_at coefs i))
     → (v : ℕ) → v < length numbers → at (slice_set numbers (index_at coefs i) y) v ≡ whole (neg_ℤ (coefficient (take (i + 1) coefs) v))
 put_step numbers coefs i y l rising inside before is v k = by (index_at coefs i == v) refl
   where
@@ -46,16 +91,16 @@ put_step numbers coefs i y l rising inside before is v k = by (index_at coefs i 
         let same : index_at coefs i ≡ v = eqb-true (index_at coefs i) v e in
         let none : coefficient (take i coefs) v ≡ pos 0 = ap (coefficient (take i coefs)) (sym same) ∙ fresh coefs i rising l in
         let more : coefficient (take (i + 1) coefs) v ≡ coefficient (take i coefs) v +ℤ value_at coefs i = coefficient_more coefs i v l
-                ∙ ap (λ t. coefficient (take i coefs) v +ℤ cond t (value_at coefs i) (pos 0)) e in
+        ∙ ap (λ t. coefficient (take i coefs) v +ℤ cond t (value_at coefs i) (pos 0)) e in
         let total : coefficient (take (i + 1) coefs) v ≡ value_at coefs i = omega (arith, ints) in
         get_or-set_at numbers (index_at coefs i) v y (whole (pos 0)) (sym same) inside ∙ is ∙ ap (λ z. whole (neg_ℤ z)) (sym total)
     by false e =
         let apart : index_at coefs i ≢ v = eqb-false (index_at coefs i) v e in
         let more : coefficient (take (i + 1) coefs) v ≡ coefficient (take i coefs) v +ℤ pos 0 = coefficient_more coefs i v l
-                ∙ ap (λ t. coefficient (take i coefs) v +ℤ cond t (value_at coefs i) (pos 0)) e in
+        ∙ ap (λ t. coefficient (take i coefs) v +ℤ cond t (value_at coefs i) (pos 0)) e in
         let total : coefficient (take (i + 1) coefs) v ≡ coefficient (take i coefs) v = omega (arith, ints) in
         get_or-set_other numbers (index_at coefs i) v y (whole (pos 0)) (λ h. apart (sym h)) ∙ before v k
-            ∙ ap (λ z. whole (neg_ℤ z)) (sym total)
+        ∙ ap (λ z. whole (neg_ℤ z)) (sym total)
 
 -- numbers that rise below n rise below more
 pub AreOrdered-wider : (n k : ℕ) (ps : List (ℕ × ℤ)) → n ≤ k → AreOrdered n ps → AreOrdered k ps
@@ -98,7 +143,7 @@ module _ (m : Parts) (k : ℕ) where
       → slice_set numbers (length m.columns + k) (whole (pos 1)) ≡ listed (length m.columns + length m.rows) (start_entry m k)
   start_line_is row numbers found ordered inside size are =
       listed_is (columns + rows) (start_entry m k) (slice_set numbers (columns + k) (whole (pos 1))) (whole (pos 0))
-          (length-set numbers (columns + k) (whole (pos 1)) ∙ size) (λ v l. by (v == columns + k) refl l)
+      (length-set numbers (columns + k) (whole (pos 1)) ∙ size) (λ v l. by (v == columns + k) refl l)
     where
       value_is : (v : ℕ) → coefficient_of m.rows k v ≡ coefficient row.coefs v
       value_is v = ap (λ o. coefficient (coefs_of o) v) found
@@ -117,7 +162,7 @@ module _ (m : Parts) (k : ℕ) where
       by {v} true e l =
           let same = eqb-true v (columns + k) e in
           get_or-set_at numbers (columns + k) v (whole (pos 1)) (whole (pos 0)) same (omega arith) ∙ sym own_entry
-              ∙ ap (start_entry m k) (sym same)
+          ∙ ap (start_entry m k) (sym same)
       by {v} false e l =
           let n = eqb-false v (columns + k) e in
           get_or-set_other numbers (columns + k) v (whole (pos 1)) (whole (pos 0)) n ∙ left v (nat_lt v columns) refl l n
@@ -148,7 +193,7 @@ module _ (m : Parts) (b : List (ℤ × ℤ)) (limits : IsWithinLimits m) (size :
       by (Some row) e =
           let shape = (limits.shape.rows k row e).coefs in
           let small = coefficient_small (length m.columns) (2 ^ 40) row.coefs v (length row.coefs) shape (limits.rows k row e).coefs
-                  (omega arith) in
+          (omega arith) in
           subst (λ (cs : List (ℕ × ℤ)). unsigned_abs (coefficient cs v) ≤ 2 ^ 40) (take-length row.coefs) small
 
   entry-proper : (k v : ℕ) → k < length m.rows → IsProper (start_entry m k v)
@@ -162,7 +207,7 @@ module _ (m : Parts) (b : List (ℤ × ℤ)) (limits : IsWithinLimits m) (size :
   entry_is : (k v : ℕ) → k < length m.rows → v < length m.columns + length m.rows → entry (start_of m b).rows k v ≡ start_entry m k v
   entry_is k v l o =
       ap (λ (z : List Fraction). at z v) (listed-at (length m.rows) (λ k. listed (length m.columns + length m.rows) (start_entry m k)) k []
-          l)
+      l)
       ∙ listed-at (length m.columns + length m.rows) (start_entry m k) v (whole (pos 0)) o
 
   pub variable_count : length (variables_of m b) ≡ length m.columns + length m.rows
@@ -183,7 +228,7 @@ module _ (m : Parts) (b : List (ℤ × ℤ)) (limits : IsWithinLimits m) (size :
               subst IsProper (sym (entry_is k v inside (omega arith))) (entry-proper k v inside);
         };
         basics = length-listed (length m.rows) (λ k. length m.columns + k) ∙ sym count;
-        rests = length-listed (length m.columns + length m.rows) (λ v. if nat_lt v (length m.columns) then Low else Basic) ∙ sym n;
+        positions = length-listed (length m.columns + length m.rows) (λ v. if nat_lt v (length m.columns) then Low else Basic) ∙ sym n;
         within = λ k l. let is = listed-at (length m.rows) (λ k. length m.columns + k) k 0 (omega arith) in omega (arith, is, n, l, count);
       }
 
@@ -191,7 +236,7 @@ module _ (m : Parts) (b : List (ℤ × ℤ)) (limits : IsWithinLimits m) (size :
   number_column : (i j : ℕ) → i < length m.rows → j < length m.columns → number (start_of m b) i j ≡ neg (of (coefficient_of m.rows i j))
   number_column i j l o =
       ap value_of (entry_is i j l (omega arith) ∙ column_entry m i j o) ∙ whole-value (neg_ℤ (coefficient_of m.rows i j))
-          ∙ of_neg (coefficient_of m.rows i j)
+      ∙ of_neg (coefficient_of m.rows i j)
 
   number_one : (i : ℕ) → i < length m.rows → number (start_of m b) i (length m.columns + i) ≡ of (pos 1)
   number_one i l = ap value_of (entry_is i (length m.columns + i) l (omega arith) ∙ own_entry m i) ∙ whole-value (pos 1)
@@ -203,9 +248,9 @@ module _ (m : Parts) (b : List (ℤ × ℤ)) (limits : IsWithinLimits m) (size :
   basic_is : (i : ℕ) → i < length m.rows → basic_at (start_of m b).basics i ≡ length m.columns + i
   basic_is i l = listed-at (length m.rows) (λ k. length m.columns + k) i 0 l
 
-  rest_is : (v : ℕ) → v < length m.columns + length m.rows → rest_at (start_of m b).rests v
+  position_is : (v : ℕ) → v < length m.columns + length m.rows → position_at (start_of m b).positions v
       ≡ (if nat_lt v (length m.columns) then Low else Basic)
-  rest_is v l = listed-at (length m.columns + length m.rows) (λ v. if nat_lt v (length m.columns) then Low else Basic) v Basic l
+  position_is v l = listed-at (length m.columns + length m.rows) (λ v. if nat_lt v (length m.columns) then Low else Basic) v Basic l
 
   -- a column has a low side
   low_column : {A : Type 0} (xs : List A) (bs : List (ℤ × ℤ)) (f : A × (ℤ × ℤ) → Variable) (more : List Variable) (v : ℕ) (d : Variable) →
@@ -216,22 +261,28 @@ module _ (m : Parts) (b : List (ℤ × ℤ)) (limits : IsWithinLimits m) (size :
   low_column (x ∷ xs) (s ∷ bs) f more zero d e l h = h (x, s)
   low_column (x ∷ xs) (s ∷ bs) f more (suc v) d e l h = low_column xs bs f more v d (omega arith) (omega arith) h
 
-  rest_right : (v : ℕ) (t : Bool) → nat_lt v (length m.columns) ≡ t → v < length m.columns + length m.rows →
-      RestsRight (start_of m b) v (if t then Low else Basic)
-  rest_right v true e l =
+  well_placed : (v : ℕ) (t : Bool) → nat_lt v (length m.columns) ≡ t → v < length m.columns + length m.rows →
+      IsWellPlaced (start_of m b) v (if t then Low else Basic)
+  well_placed v true e l =
       let small : v < length m.columns = grind arith in
-      low_column m.columns b column_variable (map slack_variable m.rows) v (record { low = None; high = None;
-          cost = pos 0 }) size small (λ p h. absurd cc)
-  rest_right v false e l =
+      low_column m.columns b column_variable (map slack_variable m.rows) v (record {
+        low = None;
+        high = None;
+        cost = pos 0;
+      }) size small (λ p h. absurd cc)
+  well_placed v false e l =
       let past : length m.columns ≤ v = grind arith in
-      let inside : v - length m.columns < length m.rows = omega arith in
-      (v - length m.columns, (let c = length-listed (length m.rows) (λ k. listed (length m.columns + length m.rows) (start_entry m k)) in
-          omega arith), basic_is (v - length m.columns) inside ∙ omega arith)
+      let inside : v - length m.columns < length m.rows = omega arith in (
+        v - length m.columns,
+        (let c = length-listed (length m.rows) (λ k. listed (length m.columns + length m.rows) (start_entry m k)) in
+            omega arith),
+        basic_is (v - length m.columns) inside ∙ omega arith,
+      )
 
   pub start-stands : StandsFor m b (start_of m b)
   start-stands =
       let s = start_stands rationals (length m.rows) (length m.columns) (coefficient_of m.rows) (number (start_of m b)) number_column
-              number_one number_zero in
+      number_one number_zero in
       record {
         variables = refl;
         size = variable_count;
@@ -241,9 +292,9 @@ module _ (m : Parts) (b : List (ℤ × ℤ)) (limits : IsWithinLimits m) (size :
         one = λ i l. ap (number (start_of m b) i) (basic_is i l) ∙ number_one i l;
         zeros = λ i k l o n. ap (number (start_of m b) i) (basic_is k o) ∙ number_zero i k l o n;
         combination = s.combination;
-        basic = λ i l. ap (rest_at (start_of m b).rests) (basic_is i l) ∙ rest_is (length m.columns + i) (omega arith)
+        basic = λ i l. ap (position_at (start_of m b).positions) (basic_is i l) ∙ position_is (length m.columns + i) (omega arith)
             ∙ ap (λ t. cond t Low Basic) (lt_false (length m.columns + i) (length m.columns) (omega arith));
-        rests = λ v l. subst (RestsRight (start_of m b) v) (sym (rest_is v l)) (rest_right v (nat_lt v (length m.columns)) refl l);
+        positions = λ v l. subst (IsWellPlaced (start_of m b) v) (sym (position_is v l)) (well_placed v (nat_lt v (length m.columns)) refl l);
       }
 
   pub start-points : HasItsPoints m (start_of m b)

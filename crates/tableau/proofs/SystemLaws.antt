@@ -7,7 +7,7 @@ use Rattle.ring_laws.proofs.Normal.{num, var, ◌⊕◌, ◌⊖◌, ◌⊗◌, m
 use Rattle.ring_laws.proofs.Named.{ring3}
 use Rattle.ring_laws.proofs.Sums.{sum, sum_same, sum_add, sum_scale, sum_single}
 
--- a node of so many rows and columns, with whole coefficients; row i has the basic variable `basic i`
+-- a node with whole coefficients, by its numbers of rows and columns; row i has the basic variable `basic i`
 pub record IsSystem (R : Ring) (rows columns : ℕ) (coefficient : ℕ → ℕ → ℤ) (entry : ℕ → ℕ → R.carrier) (basic : ℕ → ℕ) : Type 0 where
   pub within : (i : ℕ) → i < rows → basic i < columns + rows
   pub different : (i k : ℕ) → i < rows → k < rows → basic i ≡ basic k → i ≡ k
@@ -42,7 +42,7 @@ module _ (R : Ring) (rows columns : ℕ) (coefficient : ℕ → ℕ → ℤ) (en
       new t i j ≡ neg (sum R (λ k. new t i (columns + k) *r of (coefficient k j)) rows)
   new_combination true i j h g =
       let s = sum_same R (λ k. (entry r (columns + k) *r inverse) *r of (coefficient k j))
-              (λ k. inverse *r (entry r (columns + k) *r of (coefficient k j))) rows
+      (λ k. inverse *r (entry r (columns + k) *r of (coefficient k j))) rows
       (λ k l. ring3 R (λ e p c. (e ⊗ p) ⊗ c) (λ e p c. p ⊗ (e ⊗ c)) refl (entry r (columns + k)) inverse (of (coefficient k j)))
       ∙ sum_scale R inverse (λ k. entry r (columns + k) *r of (coefficient k j)) rows in
       combine R (entry r j ∷ total r j ∷ inverse ∷ sum R (λ k. (entry r (columns + k) *r inverse) *r of (coefficient k j)) rows ∷ [])
@@ -51,17 +51,20 @@ module _ (R : Ring) (rows columns : ℕ) (coefficient : ℕ → ℕ → ℤ) (en
   new_combination false i j h g =
       let f = entry i v in
       let s = sum_same R (λ k. (entry i (columns + k) -r f *r (entry r (columns + k) *r inverse)) *r of (coefficient k j))
-              (λ k. entry i (columns + k) *r of (coefficient k j) +r neg (f *r inverse) *r (entry r (columns + k) *r of (coefficient k j)))
-              rows
+      (λ k. entry i (columns + k) *r of (coefficient k j) +r neg (f *r inverse) *r (entry r (columns + k) *r of (coefficient k j)))
+      rows
       (λ k l. identity R (entry i (columns + k) ∷ f ∷ entry r (columns + k) ∷ inverse ∷ of (coefficient k j) ∷ [])
-          ((var 0 ⊖ var 1 ⊗ (var 2 ⊗ var 3)) ⊗ var 4) (var 0 ⊗ var 4 ⊕ minus (var 1 ⊗ var 3) ⊗ (var 2 ⊗ var 4)) refl)
+      ((var 0 ⊖ var 1 ⊗ (var 2 ⊗ var 3)) ⊗ var 4) (var 0 ⊗ var 4 ⊕ minus (var 1 ⊗ var 3) ⊗ (var 2 ⊗ var 4)) refl)
       ∙ sum_add R (λ k. entry i (columns + k) *r of (coefficient k j)) (λ k. neg (f *r inverse) *r
-          (entry r (columns + k) *r of (coefficient k j))) rows
+      (entry r (columns + k) *r of (coefficient k j))) rows
       ∙ ap (λ z. total i j +r z) (sum_scale R (neg (f *r inverse)) (λ k. entry r (columns + k) *r of (coefficient k j)) rows) in
       combine R (entry i j ∷ total i j ∷ entry r j ∷ total r j ∷ f ∷ inverse ∷ sum R
-          (λ k. (entry i (columns + k) -r f *r (entry r (columns + k) *r inverse)) *r of (coefficient k j)) rows ∷ [])
-      ((num (pos 1), var 0, minus (var 1)) ∷ (minus (var 4 ⊗ var 5), var 2, minus (var 3)) ∷ (num (pos 1), var 6,
-          var 1 ⊕ minus (var 4 ⊗ var 5) ⊗ var 3) ∷ [])
+      (λ k. (entry i (columns + k) -r f *r (entry r (columns + k) *r inverse)) *r of (coefficient k j)) rows ∷ [])
+      ((num (pos 1), var 0, minus (var 1)) ∷ (minus (var 4 ⊗ var 5), var 2, minus (var 3)) ∷ (
+        num (pos 1),
+        var 6,
+        var 1 ⊕ minus (var 4 ⊗ var 5) ⊗ var 3,
+      ) ∷ [])
       (var 0 ⊖ var 4 ⊗ (var 2 ⊗ var 5)) (minus (var 6)) refl (g, (h, (s, tt)))
 
   module _ (s : IsSystem R rows columns coefficient entry basic) (inside : r < rows) (enters : v < columns + rows) (free : (i : ℕ) →
@@ -80,7 +83,7 @@ module _ (R : Ring) (rows columns : ℕ) (coefficient : ℕ → ℕ → ℤ) (en
         ap (λ z. z *r inverse) (s.zeros r k inside m (λ q. eqb-false k r f (sym q))) ∙ zero_mul R inverse
     new_zeros false true i k e f l m n =
         combine R (entry i v ∷ entry r v ∷ inverse ∷ []) ((minus (var 0), var 1 ⊗ var 2, num (pos 1)) ∷ [])
-            (var 0 ⊖ var 0 ⊗ (var 1 ⊗ var 2)) (num (pos 0)) refl (pivot, tt)
+        (var 0 ⊖ var 0 ⊗ (var 1 ⊗ var 2)) (num (pos 0)) refl (pivot, tt)
     new_zeros false false i k e f l m n =
         combine R (entry i (basic k) ∷ entry i v ∷ entry r (basic k) ∷ inverse ∷ [])
         ((num (pos 1), var 0, num (pos 0)) ∷ (minus (var 1 ⊗ var 3), var 2, num (pos 0)) ∷ [])
@@ -113,7 +116,7 @@ pub stands_same : (R : Ring) (rows columns : ℕ) (coefficient : ℕ → ℕ →
     IsSystem R rows columns coefficient e b → IsSystem R rows columns coefficient f c
 stands_same R rows columns coefficient e f b c entries basics s =
     let at_basic : (i k : ℕ) → i < rows → k < rows → f i (c k) ≡ e i (b k) = λ i k l m. ap (f i) (basics k m)
-            ∙ entries i (b k) l (s.within k m) in
+    ∙ entries i (b k) l (s.within k m) in
     record {
       within = λ i l. rw (basics i l) (s.within i l);
       different = λ i k l m h. s.different i k l m (sym (basics i l) ∙ h ∙ basics k m);
@@ -121,7 +124,7 @@ stands_same R rows columns coefficient e f b c entries basics s =
       zeros = λ i k l m n. at_basic i k l m ∙ s.zeros i k l m n;
       combination = λ i j l m. entries i j l (omega arith) ∙ s.combination i j l m
           ∙ ap R.neg (sum_same R (λ k. R.mul (e i (columns + k)) (R.of (coefficient k j)))
-              (λ k. R.mul (f i (columns + k)) (R.of (coefficient k j))) rows
+          (λ k. R.mul (f i (columns + k)) (R.of (coefficient k j))) rows
           (λ k o. ap (λ z. R.mul z (R.of (coefficient k j))) (sym (entries i (columns + k) l (omega arith)))));
     }
 
@@ -138,7 +141,7 @@ start_stands R rows columns coefficient e columns_are one zeros = record {
   combination = λ i j l m.
       let f : ℕ → R.carrier = λ k. R.mul (e i (columns + k)) (R.of (coefficient k j)) in
       let single = sum_single R f i rows l (λ k o n. ap (λ z. R.mul z (R.of (coefficient k j))) (zeros i k l o (λ q. n (sym q)))
-              ∙ zero_mul R (R.of (coefficient k j))) in
+      ∙ zero_mul R (R.of (coefficient k j))) in
       columns_are i j l m ∙ ap R.neg (sym (single ∙ ap (λ z. R.mul z (R.of (coefficient i j))) (one i l)
-          ∙ one_mul R (R.of (coefficient i j))));
+      ∙ one_mul R (R.of (coefficient i j))));
 }

@@ -1,18 +1,18 @@
 -- What the numbers of a tableau are: its value, reduced cost and ratio as rational numbers.
 use Rattle.std.specs.Prelude.{ℕ, length}
 use Rattle.frac128.specs.Rationals.{Rational, of, sub, mul, neg, quotient, sum}
-use Rattle.tableau.specs.declared.rests.Rest.{Rest}
-use Rattle.tableau.specs.Tables.{Table, basic_at, rest_at, variable_at}
-use Rattle.tableau.specs.Numbers.{side_or_zero, side_at, resting}
+use Rattle.tableau.specs.declared.positions.Rest.{Rest}
+use Rattle.tableau.specs.Tables.{Table, basic_at, position_at, variable_at}
+use Rattle.tableau.specs.Numbers.{side_or_zero, side_at, nonbasic_value}
 use Rattle.tableau.specs.Nodes.{number}
 
--- the value at which a variable rests; a basic one counts 0
-abbrev pub resting_number : Table → ℕ → Rational
-resting_number T v = of (side_or_zero (resting (variable_at T.variables v) (rest_at T.rests v)))
+-- the value of a nonbasic variable; a basic one counts 0
+abbrev pub nonbasic_number : Table → ℕ → Rational
+nonbasic_number T v = of (side_or_zero (nonbasic_value (variable_at T.variables v) (position_at T.positions v)))
 
--- the value of a row's basic variable: less the sum of entry times resting value
+-- the value of a row's basic variable: minus the sum of each entry times the value of its nonbasic variable
 abbrev pub value_number : Table → ℕ → Rational
-value_number T i = neg (sum (λ v. mul (number T i v) (resting_number T v)) (length T.variables))
+value_number T i = neg (sum (λ v. mul (number T i v) (nonbasic_number T v)) (length T.variables))
 
 abbrev pub cost_number : Table → ℕ → Rational
 cost_number T v = of (variable_at T.variables v).cost

@@ -1,7 +1,27 @@
 -- The linear system of a node, and what it means that a tableau stands for it. A node has one variable for each column, with the
 -- sides of its area, and one slack for each row, with the row's sides; its equations say that each slack is its row's sum.
-use Rattle.std.specs.Prelude.{◌≡◌, ◌≢◌, ℕ, zero, suc, ◌+◌, ◌<◌, ◌==◌, if◌then◌else◌, nat_lt, List, [], ◌∷◌, ◌++◌, length, map, Some, ℤ,
-    pos, neg_ℤ}
+use Rattle.std.specs.Prelude.{
+  ◌≡◌,
+  ◌≢◌,
+  ℕ,
+  zero,
+  suc,
+  ◌+◌,
+  ◌<◌,
+  ◌==◌,
+  if◌then◌else◌,
+  nat_lt,
+  List,
+  [],
+  ◌∷◌,
+  ◌++◌,
+  length,
+  map,
+  Some,
+  ℤ,
+  pos,
+  neg_ℤ,
+}
 use Rattle.std.specs.List.{zip}
 use Rattle.frac128.specs.Fractions.{Fraction, whole}
 use Rattle.frac128.specs.Rationals.{Rational, of, mul, neg, sum}
@@ -10,10 +30,10 @@ use Rattle.ip_defs.specs.declared.programs.Column.{Column}
 use Rattle.ip_defs.specs.declared.programs.Row.{Row}
 use Rattle.ip_defs.specs.declared.programs.Parts.{Parts}
 use Rattle.ip_defs.specs.Certificates.{coefficient_of}
-use Rattle.tableau.specs.declared.rests.Rest.{Rest}
-use Rattle.tableau.specs.declared.rests.Rest.TheVariants.{Basic, Low, High, Zero}
+use Rattle.tableau.specs.declared.positions.Rest.{Rest}
+use Rattle.tableau.specs.declared.positions.Rest.TheVariants.{Basic, Low, High, Zero}
 use Rattle.tableau.specs.declared.variables.Variable.{Variable}
-use Rattle.tableau.specs.Tables.{Table, entry, basic_at, rest_at, variable_at, CanRest}
+use Rattle.tableau.specs.Tables.{Table, entry, basic_at, position_at, variable_at, CanRest}
 
 -- ---- the variables of a node
 abbrev pub column_variable : Column × (ℤ × ℤ) → Variable
@@ -38,7 +58,7 @@ start_entry m k v =
     let columns = length m.columns in
     if nat_lt v columns then whole (neg_ℤ (coefficient_of m.rows k v)) else if v == columns + k then whole (pos 1) else whole (pos 0)
 
--- all slacks are basic, and each column, which has both sides, rests at its low side
+-- all slacks are basic, and each column, which has both sides, is nonbasic at its low side
 abbrev pub start_of : Parts → List (ℤ × ℤ) → Table
 start_of m b =
     let columns = length m.columns in
@@ -46,7 +66,7 @@ start_of m b =
     record {
       rows = listed rows (λ k. listed (columns + rows) (start_entry m k));
       basics = listed rows (λ k. columns + k);
-      rests = listed (columns + rows) (λ v. if nat_lt v columns then Low else Basic);
+      positions = listed (columns + rows) (λ v. if nat_lt v columns then Low else Basic);
       variables = variables_of m b;
     }
 
@@ -55,15 +75,15 @@ start_of m b =
 abbrev pub number : Table → ℕ → ℕ → Rational
 number T i v = value_of (entry T.rows i v)
 
--- a basic variable rests nowhere, and each other one at a side that it has, or at 0 where it has none
-abbrev pub RestsRight : Table → ℕ → Rest → Type 0
-RestsRight T v Basic = (i : ℕ) × (i < length T.rows) × (basic_at T.basics i ≡ v)
-RestsRight T v Low = CanRest (variable_at T.variables v) Low
-RestsRight T v High = CanRest (variable_at T.variables v) High
-RestsRight T v Zero = CanRest (variable_at T.variables v) Zero
+-- a basic variable is basic in some row, and each other one is at a side that it has, or at 0 where it has no side
+abbrev pub IsWellPlaced : Table → ℕ → Rest → Type 0
+IsWellPlaced T v Basic = (i : ℕ) × (i < length T.rows) × (basic_at T.basics i ≡ v)
+IsWellPlaced T v Low = CanRest (variable_at T.variables v) Low
+IsWellPlaced T v High = CanRest (variable_at T.variables v) High
+IsWellPlaced T v Zero = CanRest (variable_at T.variables v) Zero
 
 -- a tableau stands for a node: its basic variables differ and their columns are unit columns; its rows are combinations of the
--- node's equations, weighed by their slack entries; and each variable rests as it can
+-- node's equations, weighed by their slack entries; and each variable has a position that it can have
 pub record StandsFor (m : Parts) (b : List (ℤ × ℤ)) (T : Table) : Type 0 where
   pub variables : T.variables ≡ variables_of m b
   pub size : length T.variables ≡ length m.columns + length m.rows
@@ -74,8 +94,8 @@ pub record StandsFor (m : Parts) (b : List (ℤ × ℤ)) (T : Table) : Type 0 wh
   pub zeros : (i k : ℕ) → i < length m.rows → k < length m.rows → i ≢ k → number T i (basic_at T.basics k) ≡ of (pos 0)
   pub combination : (i j : ℕ) → i < length m.rows → j < length m.columns → number T i j
       ≡ neg (sum (λ k. mul (number T i (length m.columns + k)) (of (coefficient_of m.rows k j))) (length m.rows))
-  pub basic : (i : ℕ) → i < length m.rows → rest_at T.rests (basic_at T.basics i) ≡ Basic
-  pub rests : (v : ℕ) → v < length m.columns + length m.rows → RestsRight T v (rest_at T.rests v)
+  pub basic : (i : ℕ) → i < length m.rows → position_at T.positions (basic_at T.basics i) ≡ Basic
+  pub positions : (v : ℕ) → v < length m.columns + length m.rows → IsWellPlaced T v (position_at T.positions v)
 
 -- each row of the tableau is 0 at a point
 abbrev pub AreRowsZero : Parts → Table → (ℕ → Rational) → Type 0

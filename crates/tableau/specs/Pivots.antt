@@ -2,9 +2,9 @@
 use Rattle.std.specs.Prelude.{ℕ, zero, suc, ◌==◌, if◌then◌else◌, List, [], ◌∷◌, length, Result, Ok, slice_set}
 use Rattle.frac128.specs.declared.fraction.Wide.{Wide}
 use Rattle.frac128.specs.Fractions.{Fraction, quotient_of}
-use Rattle.tableau.specs.declared.rests.Rest.{Rest}
-use Rattle.tableau.specs.declared.rests.Rest.TheVariants.{Basic, Low, High, Zero}
-use Rattle.tableau.specs.Tables.{Table, entry, basic_at, rest_at}
+use Rattle.tableau.specs.declared.positions.Rest.{Rest}
+use Rattle.tableau.specs.declared.positions.Rest.TheVariants.{Basic, Low, High, Zero}
+use Rattle.tableau.specs.Tables.{Table, entry, basic_at, position_at}
 use Rattle.tableau.specs.Numbers.{and_then, less_product}
 
 -- the list of f 0, .., f (n - 1), wide where one of them is
@@ -23,13 +23,13 @@ new_entry rows r v i w =
 abbrev pub new_rows : ℕ → List (List Fraction) → ℕ → ℕ → Result (List (List Fraction)) Wide
 new_rows n rows r v = all_below (length rows) (λ i. all_below n (new_entry rows r v i))
 
--- the tableau after a pivot at row r and variable v, where the row's basic variable leaves to a rest
+-- the tableau after a pivot at row r and variable v, where the row's basic variable leaves to a position
 abbrev pub after_pivot : Table → ℕ → ℕ → Rest → Result Table Wide
 after_pivot T r v leaving =
     and_then (new_rows (length T.variables) T.rows r v) (λ rows. Ok (record {
       rows = rows;
       basics = slice_set T.basics r v;
-      rests = slice_set (slice_set T.rests (basic_at T.basics r) leaving) v Basic;
+      positions = slice_set (slice_set T.positions (basic_at T.basics r) leaving) v Basic;
       variables = T.variables;
     }))
 
@@ -42,5 +42,9 @@ other_side Zero = Zero
 
 -- the tableau after a flip of a variable
 abbrev pub after_flip : Table → ℕ → Table
-after_flip T v = record { rows = T.rows; basics = T.basics; rests = slice_set T.rests v (other_side (rest_at T.rests v));
-    variables = T.variables }
+after_flip T v = record {
+  rows = T.rows;
+  basics = T.basics;
+  positions = slice_set T.positions v (other_side (position_at T.positions v));
+  variables = T.variables;
+}

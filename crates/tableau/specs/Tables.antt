@@ -1,15 +1,16 @@
--- Tableaus as plain data: rows of fractions, a basic variable for each row, where each variable rests, and the variables of the node.
+-- Tableaus as plain data: rows of fractions, a basic variable for each row, the position of each variable, and the variables of the
+-- node.
 use Rattle.std.specs.Prelude.{◌≡◌, ◌≢◌, ℕ, ◌<◌, ◌==◌, Bool, List, [], length, None, slice_index_or, pos, unsigned_abs}
 use Rattle.frac128.specs.Fractions.{Fraction, IsFraction, whole}
-use Rattle.tableau.specs.declared.rests.Rest.{Rest}
-use Rattle.tableau.specs.declared.rests.Rest.TheVariants.{Basic, Low, High, Zero}
+use Rattle.tableau.specs.declared.positions.Rest.{Rest}
+use Rattle.tableau.specs.declared.positions.Rest.TheVariants.{Basic, Low, High, Zero}
 use Rattle.tableau.specs.declared.variables.Variable.{Variable}
 
 -- a tableau of a node
 pub record Table : Type 0 where
   pub rows : List (List Fraction)
   pub basics : List ℕ
-  pub rests : List Rest
+  pub positions : List Rest
   pub variables : List Variable
 
 -- a number of a row by its variable, 0 past its end
@@ -28,9 +29,9 @@ entry rows i v = at (line rows i) v
 abbrev pub basic_at : List ℕ → ℕ → ℕ
 basic_at basics i = slice_index_or basics i 0
 
--- where a variable rests; past the last none does
-abbrev pub rest_at : List Rest → ℕ → Rest
-rest_at rests v = slice_index_or rests v Basic
+-- the position of a variable; past the last one all are basic
+abbrev pub position_at : List Rest → ℕ → Rest
+position_at positions v = slice_index_or positions v Basic
 
 -- a variable by its number; past the last there are no sides and no cost
 abbrev pub variable_at : List Variable → ℕ → Variable
@@ -40,14 +41,14 @@ variable_at variables v = slice_index_or variables v (record { low = None; high 
 abbrev pub is_zero_fraction : Fraction → Bool
 is_zero_fraction x = unsigned_abs x.num == 0
 
--- a variable that is not basic can rest so: at a side that it has, or at 0 where it has none
+-- a nonbasic variable can have this position: at a side that it has, or at 0 where it has no side
 abbrev pub CanRest : Variable → Rest → Type 0
 CanRest x Basic = ⊥
 CanRest x Low = x.low ≢ None
 CanRest x High = x.high ≢ None
 CanRest x Zero = (x.low ≡ None) × (x.high ≡ None)
 
--- rows of so many numbers, all of them fractions in lowest terms
+-- rows of n numbers, all of them fractions in lowest terms
 pub record AreRows (n : ℕ) (rows : List (List Fraction)) : Type 0 where
   pub size : (i : ℕ) → i < length rows → length (line rows i) ≡ n
   pub fractions : (i v : ℕ) → i < length rows → v < n → IsFraction (entry rows i v).num (entry rows i v).den
@@ -56,11 +57,11 @@ pub record AreRows (n : ℕ) (rows : List (List Fraction)) : Type 0 where
 pub record IsTable (T : Table) : Type 0 where
   pub rows : AreRows (length T.variables) T.rows
   pub basics : length T.basics ≡ length T.rows
-  pub rests : length T.rests ≡ length T.variables
+  pub positions : length T.positions ≡ length T.variables
   pub within : (i : ℕ) → i < length T.rows → basic_at T.basics i < length T.variables
 
--- lines of so many numbers, as many as there are rows, and one more
-pub record IsRoom (rows n : ℕ) (spare : List (List Fraction)) (more : List Fraction) : Type 0 where
+-- spare lines of n numbers, one for each row, and one for the quotients of the pivot row
+pub record AreSpareLines (rows n : ℕ) (spare : List (List Fraction)) (more : List Fraction) : Type 0 where
   pub lines : length spare ≡ rows
   pub size : (i : ℕ) → i < rows → length (line spare i) ≡ n
   pub quotients : length more ≡ n

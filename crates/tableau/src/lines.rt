@@ -45,7 +45,7 @@ impl Line {
         self.numbers[var]
     }
 
-    /// Puts a number in place of another.
+    /// Overwrites the number of a variable.
     #[inline]
     pub fn set(&mut self, var: usize, number: Frac)
         requires { var < length self.old }

@@ -3,36 +3,36 @@ ghost use Rattle.std.specs.Prelude.{◌≡◌, ◌<◌, ℕ, IfOk, length, pos};
 ghost use Rattle.frac128.specs.Rationals.{of, sub as less, mul as times, neg, sum};
 ghost use Rattle.frac128.specs.Values.{value_of};
 ghost use Rattle.frac128.specs.Fractions.{whole as whole_of};
-ghost use Rattle.tableau.specs.Tables.{at, line, entry, basic_at, rest_at, variable_at};
-ghost use Rattle.tableau.specs.Numbers.{after_steps, less_product, less_resting, resting, side_or_zero};
+ghost use Rattle.tableau.specs.Tables.{at, line, entry, basic_at, position_at, variable_at};
+ghost use Rattle.tableau.specs.Numbers.{after_steps, less_product, less_nonbasic_value, nonbasic_value, side_or_zero};
 
 use crate::fractions::lessened;
 use crate::lines::Line;
 use crate::{Rest, Variable};
 use frac128::{Frac, Wide};
 
-/// A number less an entry times the value at which its variable rests, where it is not basic.
+/// A number less an entry times the value of its variable, where that is nonbasic.
 #[inline]
-fn less_rest(x: Frac, entry: Frac, resting: Option<i64>) -> Result<Frac, Wide>
-    ensures exact { result ≡ less_resting x entry resting }
-    ensures value { IfOk result (λ r. value_of r ≡ less (value_of x) (times (value_of entry) (of (side_or_zero resting)))) }
+fn less_nonbasic(x: Frac, entry: Frac, nonbasic_value: Option<i64>) -> Result<Frac, Wide>
+    ensures exact { result ≡ less_nonbasic_value x entry nonbasic_value }
+    ensures value { IfOk result (λ r. value_of r ≡ less (value_of x) (times (value_of entry) (of (side_or_zero nonbasic_value)))) }
 {
-    match resting {
+    match nonbasic_value {
         Some(value) => lessened(x, entry, Frac::from_whole(value)),
         None => Ok(x),
     }
 }
 
-/// The value of a row's basic variable: 0 less each entry times resting value.
-pub fn row_value(line: &[Frac], rests: &[Rest], variables: &[Variable]) -> Result<Frac, Wide>
-    requires rests { length rests.now ≡ length line.now }
+/// The value of a row's basic variable: 0 less each entry times the value of its nonbasic variable.
+pub fn row_value(line: &[Frac], positions: &[Rest], variables: &[Variable]) -> Result<Frac, Wide>
+    requires positions { length positions.now ≡ length line.now }
     requires variables { length variables.now ≡ length line.now }
-    ensures exact { result ≡ after_steps (λ v x. less_resting x (at line.now v) (resting (variable_at variables.now v) (rest_at rests.now v))) (whole_of (pos 0)) (length line.now) }
-    ensures number { IfOk result (λ x. value_of x ≡ neg (sum (λ v. times (value_of (at line.now v)) (of (side_or_zero (resting (variable_at variables.now v) (rest_at rests.now v))))) (length line.now))) }
+    ensures exact { result ≡ after_steps (λ v x. less_nonbasic_value x (at line.now v) (nonbasic_value (variable_at variables.now v) (position_at positions.now v))) (whole_of (pos 0)) (length line.now) }
+    ensures number { IfOk result (λ x. value_of x ≡ neg (sum (λ v. times (value_of (at line.now v)) (of (side_or_zero (nonbasic_value (variable_at variables.now v) (position_at positions.now v))))) (length line.now))) }
 {
     let mut value = Frac::from_whole(0);
     for v in 0..line.len() {
-        match less_rest(value, line[v], variables[v].resting_value(rests[v])) {
+        match less_nonbasic(value, line[v], variables[v].nonbasic_value(positions[v])) {
             Ok(less) => value = less,
             Err(Wide) => return Err(Wide),
         }

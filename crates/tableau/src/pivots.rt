@@ -1,7 +1,7 @@
 //! The rows after a pivot, made one by one in spare lines.
 ghost use Rattle.std.specs.Prelude.{◌≡◌, ◌≢◌, ◌<◌, ◌==◌, ◌&&◌, not, ℕ, if◌then◌else◌, length, OnOk, OnErr, Ok, Err, pos};
 ghost use Rattle.frac128.specs.Fractions.{quotient_of};
-ghost use Rattle.tableau.specs.Tables.{at, line as line_of, entry, is_zero_fraction, AreRows, IsRoom};
+ghost use Rattle.tableau.specs.Tables.{at, line as line_of, entry, is_zero_fraction, AreRows, AreSpareLines};
 ghost use Rattle.tableau.specs.Pivots.{all_below, new_rows};
 ghost use Rattle.tableau.specs.Internal.Changes.{is_changed, lessened_row, AreLessened, HasWideRow};
 
@@ -10,11 +10,11 @@ use crate::lines::Line;
 use frac128::{Frac, Wide, div};
 use std::mem;
 
-/// Each number of a row divided by the pivot, into a line of as many numbers.
+/// Each number of a row divided by the pivot, into a line of the same length.
 fn divide_row(row: &[Frac], pivot: Frac, into: &mut Line) -> Result<(), Wide>
     requires pivot { pivot.num ≢ pos 0 }
-    requires room { length into.old ≡ length row.now }
-    ensures room { length into.new ≡ length into.old }
+    requires spare { length into.old ≡ length row.now }
+    ensures spare { length into.new ≡ length into.old }
     ensures quotients { OnOk result (all_below (length row.now) (λ w. quotient_of (at row.now w) pivot) ≡ Ok into.new) }
     ensures wide { OnErr result (all_below (length row.now) (λ w. quotient_of (at row.now w) pivot) ≡ Err (record {})) }
 {
@@ -27,11 +27,11 @@ fn divide_row(row: &[Frac], pivot: Frac, into: &mut Line) -> Result<(), Wide>
     Ok(())
 }
 
-/// Each number of a row less a multiple of the new pivot row, into a line of as many numbers.
+/// Each number of a row less a multiple of the new pivot row, into a line of the same length.
 fn lessen_row(row: &[Frac], factor: Frac, quotients: &[Frac], into: &mut Line) -> Result<(), Wide>
     requires size { length quotients.now ≡ length row.now }
-    requires room { length into.old ≡ length row.now }
-    ensures room { length into.new ≡ length into.old }
+    requires spare { length into.old ≡ length row.now }
+    ensures spare { length into.new ≡ length into.old }
     ensures lessened { OnOk result (lessened_row row.now factor quotients.now ≡ Ok into.new) }
     ensures wide { OnErr result (lessened_row row.now factor quotients.now ≡ Err (record {})) }
 {
@@ -64,9 +64,9 @@ fn lessen_rows(
     requires variable { var < length quotients.now }
     requires sizes { (i : ℕ) → i < length rows.now → length (line_of rows.now i) ≡ length quotients.now }
     requires lines { length spare.old ≡ length rows.now }
-    requires room { (i : ℕ) → i < length rows.now → length (line_of spare.old i) ≡ length quotients.now }
+    requires spare { (i : ℕ) → i < length rows.now → length (line_of spare.old i) ≡ length quotients.now }
     ensures lines { length spare.new ≡ length spare.old }
-    ensures room { (i : ℕ) → i < length rows.now → length (line_of spare.new i) ≡ length quotients.now }
+    ensures spare { (i : ℕ) → i < length rows.now → length (line_of spare.new i) ≡ length quotients.now }
     ensures lessened { OnOk result (AreLessened rows.now row var quotients.now spare.new) }
     ensures wide { OnErr result (HasWideRow rows.now row var quotients.now) }
 {
@@ -100,7 +100,7 @@ fn exchange_rows(rows: &mut [Line], row: usize, var: usize, spare: &mut [Line])
 }
 
 /// The rows after a pivot. All steps are tried before the first row is changed. The spare lines and the line of quotients hold the new
-/// rows on the way, and afterwards the old ones.
+/// rows until the exchange, and the old ones after it.
 pub fn pivot_rows(
     rows: &mut [Line],
     row: usize,
@@ -112,11 +112,11 @@ pub fn pivot_rows(
     requires variable { var < length quotients.old }
     requires pivot { (entry rows.old row var).num ≢ pos 0 }
     requires rows { AreRows (length quotients.old) rows.old }
-    requires room { IsRoom (length rows.old) (length quotients.old) spare.old quotients.old }
+    requires spare { AreSpareLines (length rows.old) (length quotients.old) spare.old quotients.old }
     ensures pivoted { OnOk result (new_rows (length quotients.old) rows.old row var ≡ Ok rows.new) }
     ensures wide { OnErr result (new_rows (length quotients.old) rows.old row var ≡ Err (record {})) }
     ensures kept { OnErr result (rows.new ≡ rows.old) }
-    ensures room { IsRoom (length rows.new) (length quotients.old) spare.new quotients.new }
+    ensures spare { AreSpareLines (length rows.new) (length quotients.old) spare.new quotients.new }
 {
     let line = &rows[row];
     match divide_row(line.as_slice(), line.at(var), quotients) {

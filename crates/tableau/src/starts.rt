@@ -2,7 +2,7 @@
 ghost use Rattle.std.specs.Prelude.{◌≡◌, ◌<◌, ◌+◌, ◌^◌, ◌≤◌, ℕ, length, IfOk, if◌then◌else◌, nat_lt, pos, neg_ℤ};
 ghost use Rattle.ip_defs.specs.Program.{coefficient};
 ghost use Rattle.ip_defs.specs.Limits.{AreOrdered, AreSmall, IsWithinLimits};
-ghost use Rattle.tableau.specs.declared.rests.Rest.TheVariants.{Basic, Low};
+ghost use Rattle.tableau.specs.declared.positions.Rest.TheVariants.{Basic, Low};
 ghost use Rattle.frac128.specs.Fractions.{whole as whole_of};
 ghost use Rattle.tableau.specs.Tables.{at, line as line_of, IsTable};
 ghost use Rattle.tableau.specs.Nodes.{variables_of, listed, start_entry, start_of, StandsFor, HasItsPoints};
@@ -43,7 +43,7 @@ fn node_variables(
     Ok(variables)
 }
 
-/// A line of so many zeros.
+/// A line of zeros.
 fn zero_line(alloc: Global, all: usize) -> Result<Line, Memory>
     ensures size { IfOk result (λ l. length l ≡ all) }
     ensures zeros { IfOk result (λ l. (v : ℕ) → v < all → at l v ≡ whole_of (pos 0)) }
@@ -51,7 +51,7 @@ fn zero_line(alloc: Global, all: usize) -> Result<Line, Memory>
     Ok(Line::new(vec![in alloc; Frac::from_whole(0); all]?))
 }
 
-/// So many lines of so many zeros.
+/// Lines of zeros.
 fn zero_lines(alloc: Global, count: usize, all: usize) -> Result<Vec<Line>, Memory>
     ensures count { IfOk result (λ ls. length ls.items ≡ count) }
     ensures size { IfOk result (λ ls. (i : ℕ) → i < count → length (line_of ls.items i) ≡ all) }
@@ -117,24 +117,24 @@ fn start_basics(alloc: Global, columns: usize, rows: usize) -> Result<Vec<u32>, 
     Ok(basics)
 }
 
-/// Where a variable rests at the start: a column at its low side.
-fn start_rest(v: usize, columns: usize) -> Rest
+/// The position of a variable at the start: columns are nonbasic at their low sides, slacks are basic.
+fn start_position(v: usize, columns: usize) -> Rest
     ensures { result ≡ (if nat_lt v columns then Low else Basic) }
 {
     if v < columns { Rest::Low } else { Rest::Basic }
 }
 
-/// Where the variables rest at the start.
-fn start_rests(alloc: Global, columns: usize, rows: usize) -> Result<Vec<Rest>, Memory>
+/// The positions of the variables at the start.
+fn start_positions(alloc: Global, columns: usize, rows: usize) -> Result<Vec<Rest>, Memory>
     requires columns { columns ≤ 4096 }
     requires rows { rows ≤ 1024 }
     ensures { IfOk result (λ v. v.items ≡ listed (columns + rows) (λ v. if nat_lt v columns then Low else Basic)) }
 {
-    let mut rests = Vec::with_capacity(alloc, columns + rows)?;
+    let mut positions = Vec::with_capacity(alloc, columns + rows)?;
     for v in 0..columns + rows {
-        rests.push(start_rest(v, columns))?;
+        positions.push(start_position(v, columns))?;
     }
-    Ok(rests)
+    Ok(positions)
 }
 
 /// The tableau of a node with all slacks basic and each column at its low side: row k says that its slack less its sum is 0.
@@ -149,12 +149,12 @@ fn start_at(alloc: Global, parts: &Parts, area: &[(i64, i64)]) -> Result<Tableau
     let spare = zero_lines(alloc, count, columns + count)?;
     let quotients = zero_line(alloc, columns + count)?;
     let basics = start_basics(alloc, columns, count)?;
-    let rests = start_rests(alloc, columns, count)?;
+    let positions = start_positions(alloc, columns, count)?;
     let variables = node_variables(alloc, parts, area)?;
-    Ok(Tableau::new(rows, spare, quotients, basics, rests, variables))
+    Ok(Tableau::new(rows, spare, quotients, basics, positions, variables))
 }
 
-/// The tableau of a node at the start: all slacks are basic, and each column rests at its low side. An area has one pair of sides for
+/// The tableau of a node at the start: all slacks are basic, and each column is nonbasic at its low side. An area has one pair of sides for
 /// each column of the model, and no column of it is empty. The tableau stands for the node, and only points that meet the node's
 /// equations make its rows 0.
 pub fn start(alloc: Global, model: &IntModel, area: &Area) -> Result<Tableau, Memory>

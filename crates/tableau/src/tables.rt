@@ -1,8 +1,8 @@
 //! The tableau, with its pivots, flips and numbers.
 ghost use Rattle.std.specs.Prelude.{◌≡◌, ◌≢◌, ◌<◌, ◌+◌, ◌↔◌, IsTrue, IfOk, List, length, OnOk, OnErr, Ok, Err, None, pos, ℤ};
 ghost use Rattle.ip_defs.specs.declared.programs.Parts.{Parts};
-ghost use Rattle.tableau.specs.declared.rests.Rest.TheVariants.{Basic};
-ghost use Rattle.tableau.specs.Tables.{entry as entry_at, basic_at, rest_at, variable_at, CanRest, IsTable, IsRoom};
+ghost use Rattle.tableau.specs.declared.positions.Rest.TheVariants.{Basic};
+ghost use Rattle.tableau.specs.Tables.{entry as entry_at, basic_at, position_at, variable_at, CanRest, IsTable, AreSpareLines};
 ghost use Rattle.tableau.specs.Numbers.{value as value_of_row, price as price_of, ratio as ratio_of, side_at};
 ghost use Rattle.tableau.specs.Pivots.{after_pivot, after_flip};
 ghost use Rattle.tableau.specs.Nodes.{StandsFor, HasItsPoints};
@@ -25,19 +25,19 @@ pub struct Tableau {
     spare: Vec<Line>,
     quotients: Line,
     basics: Vec<u32>,
-    rests: Vec<Rest>,
+    positions: Vec<Rest>,
     variables: Vec<Variable>,
 }
 
 impl Model for Tableau {
     ghost use Rattle.std.specs.Prelude.{length};
-    ghost use Rattle.tableau.specs.Tables.{Table, IsTable, IsRoom};
+    ghost use Rattle.tableau.specs.Tables.{Table, IsTable, AreSpareLines};
 
     ghost Value = { Table };
 
-    ghost view = { λ t. record { rows = t.rows.items; basics = t.basics.items; rests = t.rests.items; variables = t.variables.items } };
+    ghost view = { λ t. record { rows = t.rows.items; basics = t.basics.items; positions = t.positions.items; variables = t.variables.items } };
 
-    ghost invariant = { λ t. IsTable (record { rows = t.rows.items; basics = t.basics.items; rests = t.rests.items; variables = t.variables.items }) × IsRoom (length t.rows.items) (length t.variables.items) t.spare.items t.quotients };
+    ghost invariant = { λ t. IsTable (record { rows = t.rows.items; basics = t.basics.items; positions = t.positions.items; variables = t.variables.items }) × AreSpareLines (length t.rows.items) (length t.variables.items) t.spare.items t.quotients };
 }
 
 impl Tableau {
@@ -47,19 +47,19 @@ impl Tableau {
         spare: Vec<Line>,
         quotients: Line,
         basics: Vec<u32>,
-        rests: Vec<Rest>,
+        positions: Vec<Rest>,
         variables: Vec<Variable>,
     ) -> Tableau
-        requires table { IsTable (record { rows = rows.items; basics = basics.items; rests = rests.items; variables = variables.items }) }
-        requires room { IsRoom (length rows.items) (length variables.items) spare.items quotients }
-        ensures { result ≡ record { rows = rows.items; basics = basics.items; rests = rests.items; variables = variables.items } }
+        requires table { IsTable (record { rows = rows.items; basics = basics.items; positions = positions.items; variables = variables.items }) }
+        requires spare { AreSpareLines (length rows.items) (length variables.items) spare.items quotients }
+        ensures { result ≡ record { rows = rows.items; basics = basics.items; positions = positions.items; variables = variables.items } }
     {
         Tableau {
             rows,
             spare,
             quotients,
             basics,
-            rests,
+            positions,
             variables,
         }
     }
@@ -72,7 +72,7 @@ impl Tableau {
         (row as usize) < self.rows.len() && (var as usize) < self.variables.len()
     }
 
-    /// Whether a variable that is not basic can rest so: at a side that it has, or at 0 where it has none.
+    /// Whether a nonbasic variable can have this position: at a side that it has, or at 0 where it has no side.
     pub fn can_rest(&self, var: u32, rest: Rest) -> bool
         requires { var < length self.now.variables }
         ensures { IsTrue result ↔ CanRest (variable_at self.now.variables var) rest }
@@ -107,12 +107,12 @@ impl Tableau {
         self.basics[row as usize]
     }
 
-    /// Where a variable rests.
+    /// The position of a variable.
     pub fn rest(&self, var: u32) -> Rest
         requires { var < length self.now.variables }
-        ensures { result ≡ rest_at self.now.rests var }
+        ensures { result ≡ position_at self.now.positions var }
     {
-        self.rests[var as usize]
+        self.positions[var as usize]
     }
 
     /// A pivot, with its exact answer.
@@ -137,8 +137,8 @@ impl Tableau {
             Err(Wide) => return Err(Wide),
         }
         let left = self.basics[row as usize];
-        self.rests[left as usize] = leaving;
-        self.rests[var as usize] = Rest::Basic;
+        self.positions[left as usize] = leaving;
+        self.positions[var as usize] = Rest::Basic;
         self.basics[row as usize] = var;
         Ok(())
     }
@@ -159,7 +159,7 @@ impl Tableau {
         requires row { row < length self.old.rows }
         requires variable { var < length self.old.variables }
         requires pivot { (entry_at self.old.rows row var).num ≢ pos 0 }
-        requires enters { rest_at self.old.rests var ≢ Basic }
+        requires enters { position_at self.old.positions var ≢ Basic }
         requires leaves { CanRest (variable_at self.old.variables (basic_at self.old.basics row)) leaving }
         ensures pivoted { OnOk result (after_pivot self.old row var leaving ≡ Ok self.new) }
         ensures wide { OnErr result (after_pivot self.old row var leaving ≡ Err (record {})) }
@@ -168,14 +168,15 @@ impl Tableau {
         ensures points { (m : Parts) (b : List (ℤ × ℤ)) → StandsFor m b self.old → HasItsPoints m self.old → HasItsPoints m self.new }
         ensures steps { steps.new ≡ steps.old + 1 }
     {
+        let pivoted = self.exchange(row, var, leaving);
         steps.tick();
-        self.exchange(row, var, leaving)
+        pivoted
     }
 
-    /// A flip: a variable that rests at one side and has both then rests at the other. It counts one step.
+    /// A flip: a nonbasic variable with two sides moves from the one to the other. It counts one step.
     pub fn flip<L: Ledger>(&mut self, var: u32, steps: &mut Steps<L>)
         requires variable { var < length self.old.variables }
-        requires rests { CanRest (variable_at self.old.variables var) (rest_at self.old.rests var) }
+        requires position { CanRest (variable_at self.old.variables var) (position_at self.old.positions var) }
         requires low { (variable_at self.old.variables var).low ≢ None }
         requires high { (variable_at self.old.variables var).high ≢ None }
         ensures flipped { self.new ≡ after_flip self.old var }
@@ -184,16 +185,16 @@ impl Tableau {
         ensures steps { steps.new ≡ steps.old + 1 }
     {
         steps.tick();
-        self.turn(var);
+        self.move_across(var);
     }
 
     /// A flip, with its exact answer.
-    fn turn(&mut self, var: u32)
+    fn move_across(&mut self, var: u32)
         requires { var < length self.old.variables }
         ensures flipped { self.new ≡ after_flip self.old var }
-        ensures size { length self.old.rests ≡ length self.old.variables }
+        ensures size { length self.old.positions ≡ length self.old.variables }
     {
-        self.rests[var as usize] = match self.rests[var as usize] {
+        self.positions[var as usize] = match self.positions[var as usize] {
             Rest::Basic => Rest::Basic,
             Rest::Low => Rest::High,
             Rest::High => Rest::Low,
@@ -201,8 +202,8 @@ impl Tableau {
         };
     }
 
-    /// The value of a row's basic variable where the others rest: 0 less each entry times resting value, over the variables that are not
-    /// basic by number. `Wide` comes exactly where one of these steps is wide.
+    /// The value of a row's basic variable: 0 less each entry times the value of its nonbasic variable, over the nonbasic variables by
+    /// number. `Wide` comes exactly where one of these steps is wide.
     pub fn value(&self, row: u32) -> Result<Frac, Wide>
         requires { row < length self.now.rows }
         ensures exact { result ≡ value_of_row self.now row }
@@ -211,12 +212,12 @@ impl Tableau {
         let line = &self.rows[row as usize];
         row_value(
             line.as_slice(),
-            self.rests.as_slice(),
+            self.positions.as_slice(),
             self.variables.as_slice(),
         )
     }
 
-    /// The reduced cost of a variable: its cost less each entry times the cost of the row's basic variable, over the rows by number.
+    /// The reduced cost of a variable, also of a slack, whose reduced cost is the dual price of its row: its cost less each entry times the cost of the row's basic variable, over the rows by number.
     /// `Wide` comes exactly where one of these steps is wide.
     pub fn price(&self, var: u32) -> Result<Frac, Wide>
         requires { var < length self.now.variables }
@@ -231,12 +232,12 @@ impl Tableau {
         )
     }
 
-    /// How far a variable that is not basic can go until the row's basic variable meets one of its sides: the row's value less the side,
+    /// How far a nonbasic variable can move until the row's basic variable meets one of its sides: the row's value less the side,
     /// divided by the entry. `Wide` comes exactly where one of these steps is wide.
     pub fn ratio(&self, row: u32, var: u32, side: Rest) -> Result<Frac, Wide>
         requires row { row < length self.now.rows }
         requires variable { var < length self.now.variables }
-        requires free { rest_at self.now.rests var ≢ Basic }
+        requires free { position_at self.now.positions var ≢ Basic }
         requires pivot { (entry_at self.now.rows row var).num ≢ pos 0 }
         requires side { side_at (variable_at self.now.variables (basic_at self.now.basics row)) side ≢ None }
         ensures exact { result ≡ ratio_of self.now row var side }
@@ -249,7 +250,7 @@ impl Tableau {
         let basic = self.basics[row as usize];
         let end = present_side(self.variables[basic as usize].side(side));
         match sub(value, Frac::from_whole(end)) {
-            Ok(way) => div(way, self.entry(row, var)),
+            Ok(gap) => div(gap, self.entry(row, var)),
             Err(Wide) => Err(Wide),
         }
     }

@@ -3,122 +3,57 @@ ghost use Rattle.std.specs.Prelude.{◌≡◌, ◌<◌};
 
 use crate::{Rest, Steps, Tableau, start};
 use frac128::{Frac, Wide};
-use ip_defs::{Area, Coefs, Column, ColumnList, Memory, Name, Parts, Row, RowList};
-use ip_model::{IntModel, make, well_shaped};
+use ip_defs::Memory;
+use ip_model::{IntModel, box_of};
+use sample_models::{SampleError, column, model, row};
 use std::alloc::Global;
 use std::marker::Brand;
 use std::process::Abort;
 use std::sync::ledger::{Blank, Ledger};
 
-fn column(alloc: Global, cost: i64, lo: i64, hi: i64) -> Column {
-    Column {
-        name: Name::new(String::new(alloc)),
-        cost,
-        lo,
-        hi,
-    }
-}
-
-fn row(alloc: Global, coefs: Vec<(u32, i64)>, low: Option<i64>, high: Option<i64>) -> Row {
-    Row {
-        name: Name::new(String::new(alloc)),
-        decimals: 0,
-        coefs: Coefs::from_vec(coefs),
-        low,
-        high,
-    }
-}
-
-/// A model of columns and rows, where it is well shaped and within the limits.
-fn model(alloc: Global, columns: Vec<Column>, rows: Vec<Row>) -> Option<IntModel> {
-    let parts = Parts {
-        objective: Name::new(String::new(alloc)),
-        cost_decimals: 0,
-        constant: 0,
-        columns: ColumnList::from_vec(columns),
-        rows: RowList::from_vec(rows),
-    };
-    if !well_shaped(&parts) {
-        return None;
-    }
-    make(parts).ok()
-}
-
 /// The tableau of a model over its own box.
-fn started(alloc: Global, model: &IntModel) -> Result<Option<Tableau>, Memory> {
-    let columns = model.parts().columns.as_slice();
-    let mut sides = Vec::new(alloc);
-    for column in columns {
-        sides.push((column.lo, column.hi))?;
-    }
-    let area = Area::from_vec(sides);
-    if area.as_slice().len() != columns.len() {
-        return Ok(None);
-    }
-    Ok(Some(start(alloc, model, &area)?))
+fn started(alloc: Global, model: &IntModel) -> Result<Tableau, SampleError> {
+    Ok(start(alloc, model, &box_of(alloc, model)?)?)
 }
 
 /// Least -x where 2x <= 3, with x from 0 to 4.
-fn one_row(alloc: Global) -> Result<Option<Tableau>, Memory> {
+fn one_row(alloc: Global) -> Result<Tableau, SampleError> {
     let columns = vec![in alloc; column(alloc, -1, 0, 4)]?;
-    let rows = vec![in alloc; row(alloc, vec![in alloc; (0, 2)]?, None, Some(3))]?;
-    match model(alloc, columns, rows) {
-        Some(model) => started(alloc, &model),
-        None => Ok(None),
-    }
+    let rows = vec![in alloc; row(alloc, &[(0, 2)], None, Some(3))?]?;
+    started(alloc, &model(alloc, columns, rows)?)
 }
 
 /// Least -5a - 4b - 3c with 2a + 3b + c <= 5, -3 <= 4a + b + 2c <= 11 and a row 3a + 4b + 2c without sides.
-fn three_rows(alloc: Global) -> Result<Option<Tableau>, Memory> {
+fn three_rows(alloc: Global) -> Result<Tableau, SampleError> {
     let columns = vec![in alloc;
         column(alloc, -5, 0, 10),
         column(alloc, -4, 1, 10),
         column(alloc, -3, -2, 7),
     ]?;
     let rows = vec![in alloc;
-        row(
-            alloc,
-            vec![in alloc; (0, 2), (1, 3), (2, 1)]?,
-            None,
-            Some(5)
-        ),
-        row(
-            alloc,
-            vec![in alloc; (0, 4), (1, 1), (2, 2)]?,
-            Some(-3),
-            Some(11)
-        ),
-        row(alloc, vec![in alloc; (0, 3), (1, 4), (2, 2)]?, None, None),
+        row(alloc, &[(0, 2), (1, 3), (2, 1)], None, Some(5))?,
+        row(alloc, &[(0, 4), (1, 1), (2, 2)], Some(-3), Some(11))?,
+        row(alloc, &[(0, 3), (1, 4), (2, 2)], None, None)?,
     ]?;
-    match model(alloc, columns, rows) {
-        Some(model) => started(alloc, &model),
-        None => Ok(None),
-    }
+    started(alloc, &model(alloc, columns, rows)?)
 }
 
 /// Three rows of three coefficients of 32 bits each, with one of them to choose.
-fn long_rows(alloc: Global, chosen: i64) -> Result<Option<Tableau>, Memory> {
+fn long_rows(alloc: Global, chosen: i64) -> Result<Tableau, SampleError> {
     let columns = vec![in alloc;
         column(alloc, 1, 0, 1),
         column(alloc, 1, 0, 1),
         column(alloc, 1, 0, 1),
     ]?;
-    let first = vec![in alloc;
-        (0, 2_328_301_503),
-        (1, -1_102_351_748),
-        (2, -3_300_186_631),
-    ]?;
-    let second = vec![in alloc; (0, 3_279_809_026), (1, -1_248_415_223), (2, 3_072_532_668)]?;
-    let third = vec![in alloc; (0, -2_955_669_566), (1, chosen), (2, 2_820_594_775)]?;
+    let first = [(0, 2_328_301_503), (1, -1_102_351_748), (2, -3_300_186_631)];
+    let second = [(0, 3_279_809_026), (1, -1_248_415_223), (2, 3_072_532_668)];
+    let third = [(0, -2_955_669_566), (1, chosen), (2, 2_820_594_775)];
     let rows = vec![in alloc;
-        row(alloc, first, Some(0), Some(1)),
-        row(alloc, second, Some(0), Some(1)),
-        row(alloc, third, Some(0), Some(1)),
+        row(alloc, &first, Some(0), Some(1))?,
+        row(alloc, &second, Some(0), Some(1))?,
+        row(alloc, &third, Some(0), Some(1))?,
     ]?;
-    match model(alloc, columns, rows) {
-        Some(model) => started(alloc, &model),
-        None => Ok(None),
-    }
+    started(alloc, &model(alloc, columns, rows)?)
 }
 
 /// The parts of a fraction, and 0, 0 for a wide answer.
@@ -129,8 +64,8 @@ fn parts(answer: Result<Frac, Wide>) -> (i128, i128) {
     }
 }
 
-/// What a tableau tells of a row and a variable: the entry, the row's basic variable, where the variable rests, the row's value and
-/// the variable's price.
+/// What a tableau says of a row and a variable: the entry, the row's basic variable, the variable's position, the row's value and the
+/// variable's reduced cost.
 fn seen(
     tableau: &Tableau,
     row: u32,
@@ -192,15 +127,15 @@ fn flip<L: Ledger>(tableau: &mut Tableau, var: u32, steps: &mut Steps<L>) -> boo
     {
         return false;
     }
-    let rest = tableau.rest(var);
-    if !tableau.can_rest(var, rest) {
+    let position = tableau.rest(var);
+    if !tableau.can_rest(var, position) {
         return false;
     }
     tableau.flip(var, steps);
     true
 }
 
-/// All entries, row by row, of a tableau of so many rows and variables.
+/// All entries of a tableau, row by row, by its numbers of rows and variables.
 fn entries(
     alloc: Global,
     tableau: &Tableau,
@@ -219,20 +154,17 @@ fn entries(
 }
 
 #[test]
-fn the_worked_row(rt: HostRuntime) -> Result<(), Memory> {
+fn the_worked_row(rt: HostRuntime) -> Result<(), SampleError> {
     worked_row::<Brand, HostRuntime>(&rt, rt.alloc(), Blank::new(1))
 }
 
-fn worked_row<L: Ledger, R: Abort>(rt: &R, alloc: Global, blank: Blank) -> Result<(), Memory>
+fn worked_row<L: Ledger, R: Abort>(rt: &R, alloc: Global, blank: Blank) -> Result<(), SampleError>
     requires name { blank.name ≡ L.name }
     requires parts { blank.parts ≡ L.parts }
     requires some { 0 < L.parts }
 {
     let mut steps = Steps::<L>::new(blank);
-    let Some(mut tableau) = one_row(alloc)? else {
-        assert!(rt; false, "the model is within the limits");
-        return Ok(());
-    };
+    let mut tableau = one_row(alloc)?;
     assert_eq!(rt;
         seen(&tableau, 0, 0),
         Some(((-2, 1), 1, Rest::Low, (0, 1), (-1, 1)))
@@ -269,20 +201,17 @@ fn worked_row<L: Ledger, R: Abort>(rt: &R, alloc: Global, blank: Blank) -> Resul
 }
 
 #[test]
-fn steps_of_three_rows(rt: HostRuntime) -> Result<(), Memory> {
+fn steps_of_three_rows(rt: HostRuntime) -> Result<(), SampleError> {
     three_steps::<Brand, HostRuntime>(&rt, rt.alloc(), Blank::new(1))
 }
 
-fn three_steps<L: Ledger, R: Abort>(rt: &R, alloc: Global, blank: Blank) -> Result<(), Memory>
+fn three_steps<L: Ledger, R: Abort>(rt: &R, alloc: Global, blank: Blank) -> Result<(), SampleError>
     requires name { blank.name ≡ L.name }
     requires parts { blank.parts ≡ L.parts }
     requires some { 0 < L.parts }
 {
     let mut steps = Steps::<L>::new(blank);
-    let Some(mut tableau) = three_rows(alloc)? else {
-        assert!(rt; false, "the model is within the limits");
-        return Ok(());
-    };
+    let mut tableau = three_rows(alloc)?;
     assert_eq!(rt;
         seen(&tableau, 1, 1),
         Some(((-1, 1), 4, Rest::Low, (-3, 1), (-4, 1)))
@@ -349,27 +278,24 @@ fn three_steps<L: Ledger, R: Abort>(rt: &R, alloc: Global, blank: Blank) -> Resu
 }
 
 #[test]
-fn a_pivot_wide_by_one_bit(rt: HostRuntime) -> Result<(), Memory> {
+fn a_pivot_wide_by_one_bit(rt: HostRuntime) -> Result<(), SampleError> {
     wide_pivot::<Brand, HostRuntime>(&rt, rt.alloc(), Blank::new(1))
 }
 
-fn wide_pivot<L: Ledger, R: Abort>(rt: &R, alloc: Global, blank: Blank) -> Result<(), Memory>
+fn wide_pivot<L: Ledger, R: Abort>(rt: &R, alloc: Global, blank: Blank) -> Result<(), SampleError>
     requires name { blank.name ≡ L.name }
     requires parts { blank.parts ≡ L.parts }
     requires some { 0 < L.parts }
 {
     let mut steps = Steps::<L>::new(blank);
     for (chosen, fits) in [(-2_693_312_722, false), (-2_687_021_266, true)] {
-        let Some(mut tableau) = long_rows(alloc, chosen)? else {
-            assert!(rt; false, "the model is within the limits");
-            return Ok(());
-        };
+        let mut tableau = long_rows(alloc, chosen)?;
         assert_eq!(rt;
             pivot(&mut tableau, 0, 0, Rest::Low, &mut steps),
             Some(true)
         );
         let before = entries(alloc, &tableau, 3, 6)?;
-        let (basic, rest) = (seen(&tableau, 1, 1), seen(&tableau, 2, 4));
+        let (first, second) = (seen(&tableau, 1, 1), seen(&tableau, 2, 4));
         assert_eq!(rt;
             pivot(&mut tableau, 1, 1, Rest::Low, &mut steps),
             Some(fits)
@@ -377,7 +303,7 @@ fn wide_pivot<L: Ledger, R: Abort>(rt: &R, alloc: Global, blank: Blank) -> Resul
         let after = entries(alloc, &tableau, 3, 6)?;
         assert_eq!(rt; before.as_slice() == after.as_slice(), !fits, "at {chosen}");
         assert_eq!(rt;
-            basic == seen(&tableau, 1, 1) && rest == seen(&tableau, 2, 4),
+            first == seen(&tableau, 1, 1) && second == seen(&tableau, 2, 4),
             !fits
         );
     }

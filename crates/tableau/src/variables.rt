@@ -1,7 +1,7 @@
-//! A variable of a node: where it can rest, and what its sides are.
+//! A variable of a node: its sides, and the positions that it can have.
 ghost use Rattle.std.specs.Prelude.{◌≡◌, ◌↔◌, IsTrue, option_map};
 ghost use Rattle.frac128.specs.Values.{value_of};
-ghost use Rattle.tableau.specs.Numbers.{is_fixed as is_fixed_variable, resting, room as room_of, side_at, side_or_zero};
+ghost use Rattle.tableau.specs.Numbers.{is_fixed as is_fixed_variable, nonbasic_value, range as range_of, side_at, side_or_zero};
 ghost use Rattle.tableau.specs.Tables.{CanRest};
 
 use crate::Rest;
@@ -27,7 +27,7 @@ pub fn present_side(side: Option<i64>) -> i64
 }
 
 impl Variable {
-    /// The side that a rest names, where the variable has it.
+    /// The side that a position names, where the variable has it.
     #[inline]
     pub fn side(self, rest: Rest) -> Option<i64>
         ensures { result ≡ side_at self rest }
@@ -39,10 +39,10 @@ impl Variable {
         }
     }
 
-    /// The value at which the variable rests, none for a basic one.
+    /// The value of the variable at a nonbasic position, none for a basic one.
     #[inline]
-    pub fn resting_value(self, rest: Rest) -> Option<i64>
-        ensures { result ≡ resting self rest }
+    pub fn nonbasic_value(self, rest: Rest) -> Option<i64>
+        ensures { result ≡ nonbasic_value self rest }
     {
         match rest {
             Rest::Basic => None,
@@ -63,9 +63,9 @@ impl Variable {
         }
     }
 
-    /// How far the variable can go between its sides, where it has both.
-    pub fn room(self) -> Option<Frac>
-        ensures { option_map value_of result ≡ room_of self }
+    /// How far the variable can move between its sides, where it has both.
+    pub fn range(self) -> Option<Frac>
+        ensures { option_map value_of result ≡ range_of self }
     {
         match (self.low, self.high) {
             (Some(low), Some(high)) => Some(frac(i128::from(high) - i128::from(low), 1)),
@@ -73,7 +73,7 @@ impl Variable {
         }
     }
 
-    /// Whether the variable, where it is not basic, can rest so: at a side that it has, or at 0 where it has none.
+    /// Whether the variable can have this nonbasic position: at a side that it has, or at 0 where it has no side.
     #[inline]
     pub(crate) fn can_rest(self, rest: Rest) -> bool
         ensures { IsTrue result ↔ CanRest self rest }

@@ -11,7 +11,7 @@ use Rattle.ip_defs.specs.Breaches.{row_breach}
 use Rattle.ip_defs.specs.Certificates.{leaf_bound}
 use Rattle.ip_defs.specs.Limits.{IsArea, IsCert}
 use Rattle.ip_defs.specs.Program.{box_of, cost, high_at, low_at, IsFeasible}
-use Rattle.proof_tree.specs.LabelledTrees.{leaf_node, split_node, places_from, split_at, split_labels}
+use Rattle.proof_tree.specs.LabelledTrees.{places_from, split_at, split_labels}
 use Rattle.proof_tree.specs.Trees.{plain}
 use Rattle.proof_tree.specs.Verdicts.{IsAtLeast}
 use Rattle.proof_tree.specs.declared.claims.Claim.{Claim}
@@ -25,8 +25,8 @@ use Rattle.branching.specs.declared.outcomes.Outcome.TheVariants.{Best, Empty}
 use Rattle.branching.specs.declared.reasons.Why.{Why}
 use Rattle.branching.specs.declared.nodes.Visit.{Visit}
 use Rattle.branching.specs.declared.nodes.Visit.TheVariants.{Closed, Blocked, Open}
-use Rattle.branching.specs.OpenTrees.{PlainOpen, ended, OpenNode, OpenPlace, IsDone, tree_of, stuck_count}
-use Rattle.branching.specs.Outcomes.{SomeOf, HasReason, IsClosedBy, IsClosedNode, IsStuckAt, IsStuckNode}
+use Rattle.branching.specs.OpenTrees.{PlainOpen, OpenPlace, IsDone, tree_of, stuck_count}
+use Rattle.branching.specs.Outcomes.{SomeOf, HasReason, IsClosedBy, IsClosedNode, FitsNode, IsStuckAt, IsStuckNode}
 use Rattle.branching.specs.Counts.{stops}
 use Rattle.branching.specs.Reasons.{IsReasoned, IsStuckFor}
 use Rattle.ip_defs.specs.Lists.{Each}
@@ -91,18 +91,18 @@ ray_on row multiplier = record { q = pos 0; y = (row, multiplier) ∷ [] }
 
 -- ---- nodes
 
--- a certificate closes a box, and is within the limits
+-- a certificate for the rows of the program closes a box
 pub record IsEnd (m : Parts) (b : List (ℤ × ℤ)) (found : Found) (c : Cert) : Type 0 where
-  pub cert : IsCert 1024 c
+  pub cert : IsCert (length m.rows) c
   pub closed : IsClosedBy m (point_of found) (leaf_bound m b c)
 
 -- a split of a box at a column and a number, for a reason
 pub record IsSplit (m : Parts) (pivots : ℕ) (b : List (ℤ × ℤ)) (col : ℕ) (cut : ℤ) (why : Why) : Type 0 where
   pub reasoned : IsReasoned m pivots (split_at b col cut) why
-  pub col_small : col ≤ 4095
+  pub column : col < length m.columns
   pub cut_small : unsigned_abs cut ≤ 2 ^ 24
 
--- why a node at a depth may not be split, where so many nodes were counted
+-- why a node at a depth may not be split, where a number of nodes were counted
 abbrev pub MayNotSplit : Limits → ℕ → ℕ → BudgetWhat → Type 0
 MayNotSplit l d count Depth = d ≡ l.depth
 MayNotSplit l d count Nodes = (d < l.depth) × (l.nodes < count + 2)
@@ -121,18 +121,12 @@ stops_at (Open col cut why) = stops why
 
 -- ---- subtrees
 
--- the numbers of a node are within the limits of trees
-abbrev pub IsSmallNode : OpenNode → Type 0
-IsSmallNode (leaf_node (ended c)) = IsCert 1024 c
-IsSmallNode (leaf_node e) = Unit {0}
-IsSmallNode (split_node col cut why) = (col ≤ 4095) × (unsigned_abs cut ≤ 2 ^ 24)
-
--- the nodes of a subtree: its own top node was counted before, those below it are counted on the way
+-- the nodes of a subtree: its root was counted before, those below it are counted as they are made
 pub record ArePlacesOf (m : Parts) (l : Limits) (ps : List OpenPlace) (before after : ℕ) (found : Found) : Type 0 where
   pub reasons : Each (λ p. HasReason m l.pivots p.box p.node) ps
   pub deep : Each (λ p. p.depth ≤ l.depth) ps
   pub closed : Each (λ p. IsClosedNode m (point_of found) p.box p.node) ps
-  pub small : Each (λ p. IsSmallNode p.node) ps
+  pub fits : Each (λ p. FitsNode m p.node) ps
   pub count : after + 1 ≡ before + length ps
   pub room : after ≤ l.nodes
 
@@ -147,7 +141,7 @@ abbrev pub stuck_by : Option BudgetWhat → ℕ
 stuck_by None = 0
 stuck_by (Some what) = 1
 
--- a subtree was grown over a box whose top node has a depth
+-- a subtree was grown over a box, its root at a depth
 pub record IsGrown (m : Parts) (l : Limits) (d : ℕ) (b : List (ℤ × ℤ)) (before after : ℕ) (earlier found : Found) (t : PlainOpen)
     (stop : Option BudgetWhat) : Type 0 where
   pub places : ArePlacesOf m l (places_from d b t) before after found

@@ -10,26 +10,26 @@ use Rattle.simplex_laws.specs.Finals.{point_of}
 use Rattle.simplex_laws.specs.declared.next.Next.{Next}
 
 -- the row of a variable, none for one that is not basic
-abbrev pub place_of : Table → ℕ → Option ℕ
-place_of T v = position (λ w. w == v) T.basics
+abbrev pub row_of : Table → ℕ → Option ℕ
+row_of T v = position (λ w. w == v) T.basics
 
 -- a list holds the row of each variable
-abbrev pub ArePlaces : Table → List (Option ℕ) → Type 0
-ArePlaces T places = (v : ℕ) → v < length T.variables → slice_index_or places v None ≡ place_of T v
+abbrev pub AreBasicRows : Table → List (Option ℕ) → Type 0
+AreBasicRows T basic_rows = (v : ℕ) → v < length T.variables → slice_index_or basic_rows v None ≡ row_of T v
 
 -- a fraction is the number of a variable; that of a basic one is the value of its row, as the tableau computes it
 pub record IsNumber (T : Table) (v : ℕ) (x : Fraction) : Type 0 where
-  pub exact : (i : ℕ) → place_of T v ≡ Some i → value T i ≡ Ok x
+  pub exact : (i : ℕ) → row_of T v ≡ Some i → value T i ≡ Ok x
   pub number : value_of x ≡ point_of T v
 
 -- a list holds the numbers of the variables below n
 abbrev pub AreNumbersBelow : Table → List Fraction → ℕ → Type 0
 AreNumbersBelow T values n = (v : ℕ) → v < n → IsNumber T v (at values v)
 
--- a number as it is, or turned
+-- a number as it is, or negated
 abbrev pub turned : Bool → Rational → Rational
 turned up p = if up then p else neg p
 
--- a stop whose distance is a fraction
-abbrev pub stop_value : Option (Fraction × Next) → Option (Rational × Next)
-stop_value o = option_map (λ s. (value_of s.0, s.1)) o
+-- a block whose distance is a fraction
+abbrev pub block_value : Option (Fraction × Next) → Option (Rational × Next)
+block_value o = option_map (λ s. (value_of s.0, s.1)) o

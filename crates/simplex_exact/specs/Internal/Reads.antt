@@ -12,7 +12,7 @@ use Rattle.simplex_exact.specs.declared.answers.LpAnswer.TheVariants.{Best, Empt
 use Rattle.simplex_exact.specs.Answers.{AreNumbers}
 use Rattle.simplex_exact.specs.Internal.Numbers.{turned}
 
--- the numbers of the columns and the reduced costs of the slacks, or a number is wide
+-- the numbers of the columns and the dual prices of the rows (the reduced costs of their slacks), or a number is wide
 abbrev pub IsPointRead : Table → ℕ → ℕ → LpAnswer → Type 0
 IsPointRead T columns rows (Best point prices) = AreNumbers columns (point_of T) point
     × AreNumbers rows (λ k. price_number T (columns + k)) prices
@@ -20,7 +20,7 @@ IsPointRead T columns rows (Empty ray) = ⊥
 IsPointRead T columns rows Stopped = ⊥
 IsPointRead T columns rows Wide = HasWideNumber T
 
--- the slack entries of a row, as they are or turned
+-- the slack entries of a row, as they are or negated
 abbrev pub IsRayRead : Table → ℕ → Bool → ℕ → ℕ → LpAnswer → Type 0
 IsRayRead T row up columns rows (Best point prices) = ⊥
 IsRayRead T row up columns rows (Empty ray) = AreNumbers rows (λ k. turned up (number T row (columns + k))) ray

@@ -43,7 +43,7 @@ returns-in-Some-clause-relaxed c = λ pivots.
     let cut = c.floor_of-at.result in
     let least = subst (AtMost (of cut)) (sym read) c.floor_of-at.ensures.least in
     let most = subst (λ (p : Rational). AtMost p (of (cut +ℤ pos 1))) (sym read) c.floor_of-at.ensures.most in
-    let split = fraction_splits m b c.args.point c.args.cert c.requires.bounds c.requires.area pivots col cut c.requires.limits
+    let split = fraction_splits m b c.args.point c.args.cert c.requires.bounds c.requires.area pivots col cut
     c.requires.open found.0 found.1 least most in
     let small = split.cut_small in
     let back : to_z w64 (of_z w64 cut) ≡ cut = omega (arith, ints) in
@@ -54,7 +54,7 @@ returns-in_ok-point-in-None-clause-relaxed c = λ pivots.
     let size = rw c.as_slice-in-None.ensures at c.in_ok-point-in-None.ensures.size in
     let same = rw c.as_slice-in-None.ensures at c.in_ok-point-in-None.ensures.same in
     point_closes c.args.model.now c.args.area.now c.args.point c.args.cert c.requires.bounds c.requires.area c.in_ok-point-in-None.point
-    size same (to_z w128 (of_z w128 c.cost-cost.result)) c.requires.limits c.requires.open
+    size same (to_z w128 (of_z w128 c.cost-cost.result)) c.requires.open
 
 pub returns-in_ok-point-in-None-clause-sound : goal.returns-in_ok-point-in-None-clause-sound
 returns-in_ok-point-in-None-clause-sound c =

@@ -1,5 +1,5 @@
-use Rattle.std.proofs.Common.{rules, ◌∙◌, ◌≤◌, sym}
-use Rattle.branching.specs.Reasons.{wide_within, long_prices, long_ray}
+use Rattle.std.proofs.Common.{arith, rules, ◌-◌, ◌∙◌, ◌≤◌, sym}
+use Rattle.branching.specs.Reasons.{wide_run, long_prices, long_ray}
 use Rattle.ip_defs.proofs.BoxLaws.{open_sides}
 use Rattle.branching.proofs.PriceLaws.{prices_bound}
 use Rattle.branching.proofs.StepLaws.{answered_least}
@@ -12,20 +12,21 @@ pub bounded-requires-clause-bounds : goal.bounded-requires-clause-bounds
 bounded-requires-clause-bounds g c =
     let best = rw c.in-Best.is at c.in_ok-point.ensures.answer in
     let meaning = rw c.in-Some.is at c.in_ok-cert-in-Best.ensures.meaning in
-    prices_bound c.args.model.now c.args.area.now c.args.pivots c.in-Best.point c.in-Best.prices c.in-Some.cert c.requires.area best meaning
+    prices_bound c.args.model.now c.args.area.now (c.solve_lp.new.steps - c.args.steps.now) c.in-Best.point c.in-Best.prices c.in-Some.cert c.requires.area best meaning
 
 pub returns-in-Best-clause-relaxed : goal.returns-in-Best-clause-relaxed
 returns-in-Best-clause-relaxed g c =
     let best = rw c.in-Best.is at c.in_ok-point.ensures.answer in
-    long_prices c.in-Best.point c.in-Best.prices best (sym c.in_ok-cert-in-Best.ensures.exact ∙ c.in-None.is)
+    long_prices (c.solve_lp.new.steps - c.args.steps.now) c.in-Best.point c.in-Best.prices (omega arith) best (sym c.in_ok-cert-in-Best.ensures.exact ∙ c.in-None.is)
 
 pub returns-in-Empty-clause-relaxed : goal.returns-in-Empty-clause-relaxed
 returns-in-Empty-clause-relaxed g c =
     let empty = rw c.in-Empty.is at c.in_ok-point.ensures.answer in
-    long_ray c.in-Empty.ray empty (sym c.in_ok-cert-in-Empty.ensures.exact ∙ c.in-None-2.is)
+    long_ray (c.solve_lp.new.steps - c.args.steps.now) c.in-Empty.ray (omega arith) empty (sym c.in_ok-cert-in-Empty.ensures.exact ∙ c.in-None-2.is)
 
 pub returns-clause-relaxed : goal.returns-clause-relaxed
-returns-clause-relaxed g c = wide_within (rw c.in-Wide.is at c.in_ok-point.ensures.answer)
+returns-clause-relaxed g c =
+    wide_run (c.solve_lp.new.steps - c.args.steps.now) (omega arith) (rw c.in-Wide.is at c.in_ok-point.ensures.answer)
 
 pub returns-in-Some-clause-least : goal.returns-in-Some-clause-least
 returns-in-Some-clause-least g c =

@@ -23,7 +23,7 @@ visited g t c = rw c.in-Open.is at c.in_ok-cert.ensures.visited
 same_number : (g : Over) (t : ℕ) (c : In-Open g t) → to_z w64 (of_z w64 c.in-Open.at) ≡ c.in-Open.at
 same_number g t c = search rules
 
--- ---- its area on the way
+-- ---- its area meanwhile
 
 is_below : (g : Over) (t : ℕ) (c : After-cut_below g t) → c.cut_below.new.area ≡ below c.args.area.now c.in-Open.col c.in-Open.at
 is_below g t c = rw (same_number g t (goal.at.After-cut_below g t c).In-Open) at c.cut_below.ensures.cut

@@ -20,7 +20,7 @@ returns-in-None-clause-right g c =
     let t = plain_open c.in_ok-grown.grown.tree in
     let found = c.grow.new.search.found in
     IfOk-weaker c.answer.result (IsAnswerOf t (point_of found)) (IsRightOutcome m l)
-    (λ o. end_is_right m l t c.grow.new.search.nodes found o c.requires.most c.requires.depth grown) made
+    (λ o. end_is_right m l t c.grow.new.search.nodes found o c.in_ok-area.ensures.limits c.requires.most c.requires.depth grown) made
 
 pub returns-clause-right : goal.returns-clause-right
 returns-clause-right g c =

@@ -17,4 +17,4 @@ pub returns-in-None : goal.returns-in-None
 returns-in-None c =
     let T = c.args.tableau.now in
     subst (λ (o : Option (List Fraction)). MatchOption o (HasWideNumber T) (AreNumbers c.args.rows
-        (λ k. price_number T (c.args.columns + k)))) c.in-None.is c.in_ok-prices.ensures
+    (λ k. price_number T (c.args.columns + k)))) c.in-None.is c.in_ok-prices.ensures

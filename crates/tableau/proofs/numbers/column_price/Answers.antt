@@ -15,15 +15,15 @@ returns-in-Err-clause-exact c =
     let rows = c.args.rows.now in
     let i = c.loop-i.i in
     let f : ℕ → Fraction → Result Fraction Wide = λ i x. less_product x (entry rows i c.args.var)
-            (whole (variable_at c.args.variables.now (basic_at c.args.basics.now i)).cost) in
+    (whole (variable_at c.args.variables.now (basic_at c.args.basics.now i)).cost) in
     let first = whole (variable_at c.args.variables.now c.args.var).cost in
     let read = get_or_read_under rows i (length rows) c.index-rows-i.result [] c.index-rows-i.is c.loop-i-test.true refl in
     let entry_is : c.at.result ≡ entry rows i c.args.var = c.at.ensures ∙ ap (λ (line : List Fraction). at line c.args.var) read in
     let cost_is : c.from_whole.result ≡ whole (variable_at c.args.variables.now (basic_at c.args.basics.now i)).cost = search rules in
     let step : Err (record {}) ≡ f i c.loop-i.price =
     sym (is_wide c.lessened.result c.in-Err.field-0 c.in-Err.is) ∙ c.lessened.ensures.exact
-        ∙ ap (λ t. less_product c.loop-i.price t c.from_whole.result) entry_is
-        ∙ ap (less_product c.loop-i.price (entry rows i c.args.var)) cost_is in
+    ∙ ap (λ t. less_product c.loop-i.price t c.from_whole.result) entry_is
+    ∙ ap (less_product c.loop-i.price (entry rows i c.args.var)) cost_is in
     let next = after_steps-next f first c.loop-i.price i (Err (record {})) c.loop-i.invariant.exact step in
     sym (after_steps-wide f first (i + 1) (length rows) (sym next) (let l = c.loop-i-test.true in omega arith))
 
@@ -50,7 +50,7 @@ loop-i-preserved c =
     let number_is : value_of c.from_whole.result ≡ of (cost i) = search rules in
     let step : Ok c.in-Ok.less ≡ f i c.loop-i.price =
     sym c.in-Ok.is ∙ c.lessened.ensures.exact ∙ ap (λ t. less_product c.loop-i.price t c.from_whole.result) entry_is
-        ∙ ap (less_product c.loop-i.price (entry rows i c.args.var)) cost_is in
+    ∙ ap (less_product c.loop-i.price (entry rows i c.args.var)) cost_is in
     let loss = c.in-Ok.ensures.value
     ∙ ap (λ (t : Fraction). sub (value_of c.loop-i.price) (mul (value_of t) (value_of c.from_whole.result))) entry_is
     ∙ ap (λ (z : Rational). sub (value_of c.loop-i.price) (mul (value_of (entry rows i c.args.var)) z)) number_is in

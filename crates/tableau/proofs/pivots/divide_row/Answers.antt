@@ -13,7 +13,7 @@ returns-in-Err-clause-wide c =
     let f : ℕ → Result Fraction Wide = λ w. quotient_of (at row w) c.args.pivot in
     let read = get_or_read_under row w (length row) c.index-row-w.result (whole (pos 0)) c.index-row-w.is c.loop-w-test.true refl in
     let step : f w ≡ Err (record {}) = ap (λ x. quotient_of x c.args.pivot) (sym read) ∙ sym c.div.ensures.exact
-            ∙ is_wide c.div.result c.in-Err.field-0 c.in-Err.is in
+    ∙ is_wide c.div.result c.in-Err.field-0 c.in-Err.is in
     all_below-wide (length row) f w c.loop-w-test.true step
 
 pub returns-clause-quotients : goal.returns-clause-quotients

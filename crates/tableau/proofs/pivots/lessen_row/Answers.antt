@@ -15,14 +15,14 @@ returns-in-Err-clause-wide c =
     let f : ℕ → Result Fraction Wide = λ w. less_product (at row w) c.args.factor (at quotients w) in
     let read = get_or_read_under row w (length row) c.index-row-w.result (whole (pos 0)) c.index-row-w.is c.loop-w-test.true refl in
     let read' = get_or_read_under quotients w (length row) c.index-quotients-w.result (whole (pos 0)) c.index-quotients-w.is
-            c.loop-w-test.true (sym c.requires.size) in
+    c.loop-w-test.true (sym c.requires.size) in
     let step : f w ≡ Err (record {}) = ap (λ x. less_product x c.args.factor (at quotients w)) (sym read)
-            ∙ ap (less_product c.index-row-w.result c.args.factor) (sym read') ∙ sym c.lessened.ensures.exact
-            ∙ is_wide c.lessened.result c.in-Err.field-0 c.in-Err.is in
+    ∙ ap (less_product c.index-row-w.result c.args.factor) (sym read') ∙ sym c.lessened.ensures.exact
+    ∙ is_wide c.lessened.result c.in-Err.field-0 c.in-Err.is in
     all_below-wide (length row) f w c.loop-w-test.true step
 
 pub returns-clause-lessened : goal.returns-clause-lessened
 returns-clause-lessened c =
     let row = c.args.row.now in
     all_below-ok (length row) (λ w. less_product (at row w) c.args.factor (at c.args.quotients.now w)) c.loop-w.into (whole (pos 0))
-        c.loop-w.invariant.size (λ w l. c.loop-w.invariant.made w (omega arith))
+    c.loop-w.invariant.size (λ w l. c.loop-w.invariant.made w (omega arith))

@@ -26,7 +26,7 @@ returns-in-Err-clause-wide c =
     let read = get_or_default rows r c.index-rows-row.result [] c.requires.row in
     let row_is = c.as_slice.ensures ∙ read in
     let made = made_of n rows r v c.as_slice.result.now c.at.result (Err (record {})) row_is (c.at.ensures
-            ∙ ap (λ (z : List Fraction). at z v) (sym c.as_slice.ensures)) (c.requires.rows.size r c.requires.row) c.in-Err.ensures.wide in
+    ∙ ap (λ (z : List Fraction). at z v) (sym c.as_slice.ensures)) (c.requires.rows.size r c.requires.row) c.in-Err.ensures.wide in
     wide_pivot_row n rows r v c.requires.rows c.requires.row c.requires.variable c.requires.pivot made
 
 pub returns-in-Err-lessen_rows-clause-wide : goal.returns-in-Err-lessen_rows-clause-wide
@@ -39,8 +39,8 @@ returns-in-Err-lessen_rows-clause-wide c =
     let read = get_or_default rows r c.index-rows-row.result [] c.requires.row in
     let row_is = c.as_slice.ensures ∙ read in
     let made = made_of n rows r v c.as_slice.result.now c.at.result (Ok g) row_is (c.at.ensures
-            ∙ ap (λ (z : List Fraction). at z v) (sym c.as_slice.ensures)) (c.requires.rows.size r c.requires.row)
-            c.in-Ok.ensures.quotients in
+    ∙ ap (λ (z : List Fraction). at z v) (sym c.as_slice.ensures)) (c.requires.rows.size r c.requires.row)
+    c.in-Ok.ensures.quotients in
     let wide : HasWideRow rows r v g = rw (c.as_slice-2.ensures) at c.in-Err-lessen_rows.ensures.wide in
     wide_other_row n rows r v c.requires.rows c.requires.row c.requires.variable c.requires.pivot g made wide
 
@@ -56,12 +56,12 @@ returns-clause-pivoted c =
     let read = get_or_default rows r c.index-rows-row.result [] c.requires.row in
     let row_is = c.as_slice.ensures ∙ read in
     let made = made_of n rows r v c.as_slice.result.now c.at.result (Ok g) row_is (c.at.ensures
-            ∙ ap (λ (z : List Fraction). at z v) (sym c.as_slice.ensures)) (c.requires.rows.size r c.requires.row)
-            c.in-Ok.ensures.quotients in
+    ∙ ap (λ (z : List Fraction). at z v) (sym c.as_slice.ensures)) (c.requires.rows.size r c.requires.row)
+    c.in-Ok.ensures.quotients in
     let lessened : AreLessened rows r v g spare = rw (c.as_slice-2.ensures) at c.in-Ok-lessen_rows.ensures.lessened in
     let count = c.exchange_rows.ensures.count in
     new_rows-are n rows r v c.requires.rows c.requires.row c.requires.variable c.requires.pivot g made spare
-        (slice_set after r c.swap.new.x) lessened
+    (slice_set after r c.swap.new.x) lessened
     (length-set after r c.swap.new.x ∙ count)
     (get_or-set_same after r c.swap.new.x [] (let l = c.requires.row in omega arith) ∙ c.swap.ensures.x_after)
     (λ i l apart. get_or-set_other after r i c.swap.new.x [] apart ∙ c.exchange_rows.ensures.rows i l)

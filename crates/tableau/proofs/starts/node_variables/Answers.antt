@@ -29,7 +29,7 @@ loop-j-preserved c =
     let high = to_z-of_z w64 side.1 high_fits in
     let cost = to_z-of_z w64 column.cost cost_fits in
     map-push column_variable (zip columns area) j d _ c.loop-j.variables.items c.push.new.self.items
-        (let e = length-zip columns area (omega arith) in omega arith) c.in_ok-push.ensures.items c.loop-j.invariant
+    (let e = length-zip columns area (omega arith) in omega arith) c.in_ok-push.ensures.items c.loop-j.invariant
     (rw (low, high, cost, ← c.index-columns-j.is) refl ∙ ap column_variable (sym pair))
 
 pub loop-row-init : goal.loop-row-init
@@ -41,6 +41,6 @@ loop-row-init c =
     let all = length-zip columns area (omega arith) in
     let done : c.loop-j.j ≡ length (zip columns area) = (let l = c.loop-j-test.false in let k = c.loop-j.auto.j-end in omega arith) in
     c.loop-j.invariant ∙ ap (λ k. map column_variable (take k (zip columns area))) done
-        ∙ ap (map column_variable) (take-length (zip columns area))
+    ∙ ap (map column_variable) (take-length (zip columns area))
     ∙ ap (λ (cs : List Column). map column_variable (zip cs area)) c.as_slice-columns.ensures
-        ∙ sym (append-nil (map column_variable (zip c.args.parts.now.columns area)))
+    ∙ sym (append-nil (map column_variable (zip c.args.parts.now.columns area)))

@@ -17,7 +17,7 @@ loop-column-preserved c =
     let value_is : c.from_whole.result ≡ whole (neg_ℤ (value_at coefs i)) = c.from_whole.ensures.exact ∙ ap whole (omega (arith, ints)) in
     let inside : index_at coefs i < length numbers = omega (arith, c.requires.ordered.within i test) in
     let same : length c.set.new.self ≡ length numbers = ap length c.set.ensures
-            ∙ length-set numbers (index_at coefs i) c.from_whole.result in
+    ∙ length-set numbers (index_at coefs i) c.from_whole.result in
     record {
       size = same ∙ size;
       numbers = λ v l. ap (λ (z : List Fraction). at z v) c.set.ensures

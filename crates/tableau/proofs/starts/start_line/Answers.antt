@@ -13,18 +13,18 @@ put_coefs-requires-clause-ordered c =
     let m = c.args.parts.now in
     let row = c.index-rows-k.result in
     let found : slice_get m.rows c.args.k ≡ Some row = read_at m.rows c.as_slice-rows.result.now c.args.k row c.as_slice-rows.ensures
-            (rw c.as_slice-rows.ensures c.requires.row) c.index-rows-k.is in
+    (rw c.as_slice-rows.ensures c.requires.row) c.index-rows-k.is in
     let same = ap (λ (cs : List Column). length cs) c.as_slice-columns.ensures in
     let size = c.in_ok-line.ensures.size in
     rw c.as_slice.ensures (AreOrdered-wider (length m.columns) (length c.in_ok-line.line) row.coefs (omega arith)
-        (c.requires.limits.shape.rows c.args.k row found).coefs)
+    (c.requires.limits.shape.rows c.args.k row found).coefs)
 
 pub put_coefs-requires-clause-small : goal.put_coefs-requires-clause-small
 put_coefs-requires-clause-small c =
     let m = c.args.parts.now in
     let row = c.index-rows-k.result in
     let found : slice_get m.rows c.args.k ≡ Some row = read_at m.rows c.as_slice-rows.result.now c.args.k row c.as_slice-rows.ensures
-            (rw c.as_slice-rows.ensures c.requires.row) c.index-rows-k.is in
+    (rw c.as_slice-rows.ensures c.requires.row) c.index-rows-k.is in
     rw c.as_slice.ensures (c.requires.limits.rows c.args.k row found).coefs
 
 pub returns : goal.returns
@@ -34,7 +34,7 @@ returns c =
     let k = c.args.k in
     let numbers = c.put_coefs.new.line in
     let found : slice_get m.rows k ≡ Some row = read_at m.rows c.as_slice-rows.result.now k row c.as_slice-rows.ensures
-            (rw c.as_slice-rows.ensures c.requires.row) c.index-rows-k.is in
+    (rw c.as_slice-rows.ensures c.requires.row) c.index-rows-k.is in
     let columns = ap (λ (cs : List Column). length cs) c.as_slice-columns.ensures in
     let rows = ap (λ (rs : List Row). length rs) c.as_slice-rows.ensures in
     let first = c.in_ok-line.ensures.size in

@@ -1,6 +1,39 @@
 -- Tables of files in a buffer: what a change of the buffer makes of the table.
-use Rattle.std.proofs.Common.{subst, ◌≡◌, ℕ, zero, suc, ◌+◌, ◌<◌, ◌≤◌, Bool, true, false, List, [], ◌∷◌, ◌++◌, take, drop, length, get_or,
-    set, Option, Some, None, option_map, bytes_eq, refl, sym, ap, ◌∙◌, arith, append_assoc, length-append, length-drop}
+use Rattle.std.proofs.Common.{
+  subst,
+  ◌≡◌,
+  ℕ,
+  zero,
+  suc,
+  ◌+◌,
+  ◌<◌,
+  ◌≤◌,
+  Bool,
+  true,
+  false,
+  List,
+  [],
+  ◌∷◌,
+  ◌++◌,
+  take,
+  drop,
+  length,
+  get_or,
+  set,
+  Option,
+  Some,
+  None,
+  option_map,
+  bytes_eq,
+  refl,
+  sym,
+  ap,
+  ◌∙◌,
+  arith,
+  append_assoc,
+  length-append,
+  length-drop,
+}
 use Rattle.std.proofs.lemmas.List.Sums.{sum_by-cons, sum_by-append}
 use Rattle.std.proofs.lemmas.List.{drop-drop, length-take-le, take-append-drop}
 use Rattle.std.proofs.Math.Seq.{take-add, take-append_seam, drop-append_seam, take-length}
@@ -52,7 +85,7 @@ size_of_files (l ∷ ls) b within =
     let further = length-drop (both l) b in
     let later = size_of_files ls (drop (both l) b) (omega arith) in
     let first = sum_by-cons (λ f. length f.0 + length f.1) (take l.name b, take l.content (drop l.name b))
-            (files_of ls (drop (both l) b)) in
+    (files_of ls (drop (both l) b)) in
     omega arith
 
 -- as many files as lengths
@@ -72,11 +105,11 @@ pub file_at_place : (ls : List Lengths) (b name : List ℕ) → option_map (λ p
 file_at_place [] b name = refl
 file_at_place (l ∷ ls) b name = by (later_part l b (place_of ls (drop (both l) b) name)
     ∙ file_at_place ls (drop (both l) b) name) (bytes_eq (take l.name b) name) refl where
-  by : option_map (λ p. part_of b p.content) (option_map (shifted 1 (both l)) (place_of ls (drop (both l) b) name))
-      ≡ file_of (files_of ls (drop (both l) b)) name → (t : Bool) → bytes_eq (take l.name b) name ≡ t →
-      option_map (λ p. part_of b p.content) (place_of (l ∷ ls) b name) ≡ file_of (files_of (l ∷ ls) b) name
-  by rest true e = rw e refl
-  by rest false e = rw e rest
+      by : option_map (λ p. part_of b p.content) (option_map (shifted 1 (both l)) (place_of ls (drop (both l) b) name))
+          ≡ file_of (files_of ls (drop (both l) b)) name → (t : Bool) → bytes_eq (take l.name b) name ≡ t →
+          option_map (λ p. part_of b p.content) (place_of (l ∷ ls) b name) ≡ file_of (files_of (l ∷ ls) b) name
+      by rest true e = rw e refl
+      by rest false e = rw e rest
 
 -- one content is written anew
 pub resized_set : (ls : List Lengths) (i content : ℕ) (d : Lengths) → set ls i (record { name = (get_or ls i d).name; content = content })
@@ -157,23 +190,23 @@ pub placed : (ls : List Lengths) (b name new : List ℕ) (p : Place) → total l
     Placed ls b name new p
 placed [] b name new p within is = cc
 placed (l ∷ ls) b name new p within is = by (λ q at. placed ls (drop (both l) b) name new q rest at) (bytes_eq (take l.name b) name) refl
-    where
-  rest : total ls ≤ length (drop (both l) b)
-  rest = let sum = total_cons l ls in let size = length-drop (both l) b in omega arith
+  where
+    rest : total ls ≤ length (drop (both l) b)
+    rest = let sum = total_cons l ls in let size = length-drop (both l) b in omega arith
 
-  by : ((q : Place) → place_of ls (drop (both l) b) name ≡ Some q → Placed ls (drop (both l) b) name new q) → (t : Bool) →
-      bytes_eq (take l.name b) name ≡ t → Placed (l ∷ ls) b name new p
-  by later true e =
-      let here : Place = record { index = 0; content = record { start = l.name; length = l.content } } in
-      let found : Some here ≡ Some p = sym (rw e refl) ∙ is in
-      let same : here ≡ p = cc in
-      let P : Place → Type 0 = λ q. Placed (l ∷ ls) b name new q in
-      subst P same (placed_first l ls b name new within e)
-  by later false e =
-      let found : option_map (shifted 1 (both l)) (place_of ls (drop (both l) b) name) ≡ Some p = sym (rw e refl) ∙ is in
-      let at = mapped (shifted 1 (both l)) (place_of ls (drop (both l) b) name) p found in
-      let P : Place → Type 0 = λ q. Placed (l ∷ ls) b name new q in
-      subst P at.2 (placed_later l ls b name new at.0 within e (later at.0 at.1))
+    by : ((q : Place) → place_of ls (drop (both l) b) name ≡ Some q → Placed ls (drop (both l) b) name new q) → (t : Bool) →
+        bytes_eq (take l.name b) name ≡ t → Placed (l ∷ ls) b name new p
+    by later true e =
+        let here : Place = record { index = 0; content = record { start = l.name; length = l.content } } in
+        let found : Some here ≡ Some p = sym (rw e refl) ∙ is in
+        let same : here ≡ p = cc in
+        let P : Place → Type 0 = λ q. Placed (l ∷ ls) b name new q in
+        subst P same (placed_first l ls b name new within e)
+    by later false e =
+        let found : option_map (shifted 1 (both l)) (place_of ls (drop (both l) b) name) ≡ Some p = sym (rw e refl) ∙ is in
+        let at = mapped (shifted 1 (both l)) (place_of ls (drop (both l) b) name) p found in
+        let P : Place → Type 0 = λ q. Placed (l ∷ ls) b name new q in
+        subst P at.2 (placed_later l ls b name new at.0 within e (later at.0 at.1))
 
 -- as many lengths as before
 length-resized : (ls : List Lengths) (i content : ℕ) → length (resized ls i content) ≡ length ls
@@ -251,7 +284,7 @@ files_added (l ∷ ls) b name new filled none = by (files_added ls (drop (both l
       let first : List ℕ × List ℕ = (take l.name b, take l.content (drop l.name b)) in
       ap (files_of (l ∷ (ls ++ record { name = length name; content = length new } ∷ []))) buffer_is
       ∙ rw (cut.first, cut.second, cut.third, e) (ap (λ fs. first ∷ fs)
-          (later (unmapped (shifted 1 (both l)) (place_of ls (drop (both l) b) name) gone)))
+      (later (unmapped (shifted 1 (both l)) (place_of ls (drop (both l) b) name) gone)))
 
 -- what an added file makes of the lengths, the buffer and the table
 pub record Added (ls : List Lengths) (b name new : List ℕ) : Type 0 where

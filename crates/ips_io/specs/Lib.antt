@@ -2,6 +2,7 @@ pub mod Files
 pub mod Causes
 pub mod Shelves
 pub mod Plans
+pub mod BegunNames
 pub mod MemSinks
 pub mod Places
 pub mod Tables

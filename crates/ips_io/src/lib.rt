@@ -2,6 +2,7 @@
 //! file and write a whole text over them.
 #![tactic(auto)]
 
+mod begun_names;
 mod memory_shelves;
 mod memory_sinks;
 mod places;

@@ -1,13 +1,17 @@
+//! A shelf of files in memory.
+
 ghost use Rattle.std.specs.Prelude.{◌≡◌, ◌↔◌, ◌<◌, ◌≤◌, ◌++◌, ◌∷◌, [], length, min, is_ok, is_some, true, false, Some, None, option_copied, IfOk, OnOk, OnErr, IsOk, IsSome, IsTrue, MatchResult};
 ghost use Rattle.std.specs.Bool.{OnTrue, OnFalse};
 ghost use Rattle.std.specs.Option.{ForSome};
-ghost use Rattle.ips_io.specs.Files.{file_of, Keeps, KeepsOthers};
-ghost use Rattle.ips_io.specs.Causes.{HasCause};
+ghost use Rattle.ips_io.specs.Files.{Began, file_of, Keeps, KeepsOthers};
+ghost use Rattle.ips_io.specs.Causes.{HasCause, shown_count};
+ghost use Rattle.std.proofs.Common.{arith};
 ghost use Rattle.ips_io.specs.Plans.{is_due};
-ghost use Rattle.ips_io.specs.Shelves.{Begins, IsUntold, IsWhole, Moves};
+ghost use Rattle.ips_io.specs.Shelves.{BecomesUnknown, Begins, FillsFront, IsWhole, Moves};
 ghost use Rattle.ips_io.specs.Tables.{with_file, IsWithinRoom};
 ghost use Rattle.ips_io.specs.MemShelves.{after_begin, after_failed_read, after_failed_save, after_read, after_save, opened, with_files};
 
+use crate::begun_names::BegunNames;
 use crate::places::Part;
 use crate::plans::Plan;
 use crate::tables::Table;
@@ -16,10 +20,12 @@ use ip_defs::Memory;
 use std::alloc::Global;
 use std::marker::Model;
 
-/// A shelf that keeps its files in memory, within a room that it reserves when it is made. Its calls take no memory.
+/// A shelf that keeps its files in memory, within a room that it reserves when it is made. Its calls take no memory. The names that were
+/// begun are known while they are at most eight, each of at most 255 bytes.
 #[derive(Drop)]
 pub struct MemShelf {
     table: Table,
+    names: BegunNames,
     begun: Option<Part>,
     piece: u64,
     plan: Plan,
@@ -35,7 +41,7 @@ impl Model for MemShelf {
 
     ghost Value = { ShelfState };
 
-    ghost view = { λ s. record { files = s.table.files; left = option_map (part_of s.table.buffer) s.begun; most_files = s.table.most_files; room = s.table.room; piece = s.piece; calls = s.plan; faults = s.faults; save_faults = s.save_faults } };
+    ghost view = { λ s. record { files = s.table.files; names = s.names; left = option_map (part_of s.table.buffer) s.begun; most_files = s.table.most_files; room = s.table.room; piece = s.piece; calls = s.plan; faults = s.faults; save_faults = s.save_faults } };
 
     ghost invariant = { λ s. (ForSome s.begun (λ p. p.start + p.length ≤ length s.table.buffer)) × (0 < s.piece) };
 }
@@ -44,15 +50,20 @@ impl Model for MemShelf {
 /// `piece` bytes.
 pub fn mem_shelf(alloc: Global, files: u32, bytes: u64, piece: u64) -> Result<MemShelf, Memory>
     requires { 0 < piece }
-    ensures { IfOk result (λ s. s ≡ record { files = []; left = None; most_files = files; room = bytes; piece = piece; calls = record { made = 0; failing = [] }; faults = 0; save_faults = 0 }) }
+    ensures { IfOk result (λ s. s ≡ record { files = []; names = Some []; left = None; most_files = files; room = bytes; piece = piece; calls = record { made = 0; failing = [] }; faults = 0; save_faults = 0 }) }
 {
     let table = match Table::new(alloc, files, bytes) {
         Ok(table) => table,
         Err(memory) => return Err(memory),
     };
+    let names = match BegunNames::new(alloc) {
+        Ok(names) => names,
+        Err(memory) => return Err(memory),
+    };
     match Plan::new(alloc) {
         Ok(plan) => Ok(MemShelf {
             table,
+            names,
             begun: None,
             piece,
             plan,
@@ -100,26 +111,34 @@ impl MemShelf {
 impl Shelf for MemShelf {
     ghost begun = { λ s. is_some s.left };
 
+    ghost begun_names = { λ s. s.names };
+
     ghost files = { λ s. Some s.files };
 
     ghost left = { λ s. s.left };
 
-    ghost faults = { λ s. s.faults };
+    ghost faults = { λ s. shown_count s.faults };
 
-    ghost save_faults = { λ s. s.save_faults };
+    ghost save_faults = { λ s. shown_count s.save_faults };
+
+    ghost faults_limit = { λ s. Prim.omega arith };
+
+    ghost save_faults_limit = { λ s. Prim.omega arith };
 
     /// Begins the file of a name. Fails where the call is listed or the table has no file of the name.
     fn begin(&mut self, name: &str) -> Result<(), Failed>
         ensures begun { is_some self.new.left ≡ is_ok result }
+        ensures names { Began self.old.names self.new.names (name.now ∷ []) }
         ensures content { OnOk result (Begins (Some self.old.files) (Some self.new.files) self.new.left name.now) }
         ensures err { OnErr result (Keeps (Some self.old.files) (Some self.new.files)) }
-        ensures untold { IsUntold (Some self.old.files) (Some self.new.files) name.now }
-        ensures cause { HasCause self.old.faults self.new.faults result }
-        ensures saves { self.new.save_faults ≡ self.old.save_faults }
+        ensures unknown { BecomesUnknown (Some self.old.files) (Some self.new.files) name.now }
+        ensures cause { HasCause (shown_count self.old.faults) (shown_count self.new.faults) result }
+        ensures saves { shown_count self.new.save_faults ≡ shown_count self.old.save_faults }
         ensures answers { is_ok result ≡ is_some (opened self.old name.now) }
         ensures state { self.new ≡ after_begin self.old name.now }
     {
         self.begun = None;
+        self.names.note(name);
         if !self.plan.count() {
             if let Some(part) = self.table.find(name) {
                 self.begun = Some(part);
@@ -135,12 +154,14 @@ impl Shelf for MemShelf {
         requires begun { is_some self.old.left ≡ true }
         requires room { 0 < length into.old }
         ensures begun { is_some self.new.left ≡ true }
+        ensures names { self.new.names ≡ self.old.names }
         ensures files { Some self.new.files ≡ Some self.old.files }
         ensures bound { IfOk result (λ n. n ≤ length into.new) }
         ensures bytes { IfOk result (λ n. Moves self.old.left self.new.left n into.new) }
+        ensures buffer { FillsFront into.old into.new result }
         ensures err { OnErr result (self.new.left ≡ self.old.left) }
-        ensures cause { HasCause self.old.faults self.new.faults result }
-        ensures saves { self.new.save_faults ≡ self.old.save_faults }
+        ensures cause { HasCause (shown_count self.old.faults) (shown_count self.new.faults) result }
+        ensures saves { shown_count self.new.save_faults ≡ shown_count self.old.save_faults }
         ensures answers { IsOk result ↔ (is_due self.old.calls ≡ false) }
         ensures state { MatchResult result (λ n. self.new ≡ after_read self.old n) (λ _. self.new ≡ after_failed_read self.old) }
         ensures count { IfOk result (λ n. ForSome self.old.left (λ left. n ≡ min (min self.old.piece (length into.old)) (length left))) }
@@ -167,10 +188,11 @@ impl Shelf for MemShelf {
     /// Puts a file into the table. Fails where the call is listed or the table would pass its room, and then changes no file.
     fn save(&mut self, name: &str, bytes: &[u8]) -> Result<(), Failed>
         ensures begun { is_some self.new.left ≡ false }
+        ensures names { self.new.names ≡ self.old.names }
         ensures others { KeepsOthers (Some self.old.files) (Some self.new.files) name.now }
         ensures saved { OnOk result (IsWhole (Some self.new.files) name.now bytes.now) }
-        ensures cause { HasCause self.old.save_faults self.new.save_faults result }
-        ensures faults { self.new.faults ≡ self.old.faults }
+        ensures cause { HasCause (shown_count self.old.save_faults) (shown_count self.new.save_faults) result }
+        ensures faults { shown_count self.new.faults ≡ shown_count self.old.faults }
         ensures answers { IsOk result ↔ ((is_due self.old.calls ≡ false) × IsWithinRoom self.old.most_files self.old.room (with_file self.old.files name.now bytes.now)) }
         ensures state { MatchResult result (λ _. self.new ≡ after_save self.old name.now bytes.now) (λ _. self.new ≡ after_failed_save self.old) }
     {

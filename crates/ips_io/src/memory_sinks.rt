@@ -1,7 +1,10 @@
+//! A sink of output in memory.
+
 ghost use Rattle.std.specs.Prelude.{◌≡◌, ◌↔◌, ◌<◌, ◌≤◌, ◌++◌, ◌∷◌, [], length, take, IfOk, OnErr, IsTrue, IsOk, Some, false};
 ghost use Rattle.std.specs.Bool.{OnTrue, OnFalse};
 ghost use Rattle.ips_io.specs.Files.{Takes};
-ghost use Rattle.ips_io.specs.Causes.{HasCause};
+ghost use Rattle.ips_io.specs.Causes.{HasCause, shown_count};
+ghost use Rattle.std.proofs.Common.{arith};
 ghost use Rattle.ips_io.specs.MemSinks.{after_write, refuses, taken_at_once};
 
 use crate::plans::Plan;
@@ -73,7 +76,9 @@ impl MemSink {
 impl Sink for MemSink {
     ghost taken = { λ s. Some s.taken };
 
-    ghost faults = { λ s. s.faults };
+    ghost faults = { λ s. shown_count s.faults };
+
+    ghost faults_limit = { λ s. Prim.omega arith };
 
     /// Takes as many bytes as the piece and the room allow. Fails where the call is listed or no room is left.
     fn write(&mut self, bytes: &[u8]) -> Result<usize, Failed>
@@ -82,7 +87,7 @@ impl Sink for MemSink {
         ensures bound { IfOk result (λ n. n ≤ length bytes.now) }
         ensures takes { IfOk result (λ n. Takes (Some self.old.taken) (Some self.new.taken) (take n bytes.now)) }
         ensures err { OnErr result (self.new.taken ≡ self.old.taken) }
-        ensures cause { HasCause self.old.faults self.new.faults result }
+        ensures cause { HasCause (shown_count self.old.faults) (shown_count self.new.faults) result }
         ensures answers { IsOk result ↔ (refuses self.old ≡ false) }
         ensures count { IfOk result (λ n. n ≡ taken_at_once self.old bytes.now) }
         ensures state { self.new ≡ after_write self.old bytes.now }

@@ -1,3 +1,5 @@
+//! The calls of a shelf or a sink in memory, some of which are to fail.
+
 ghost use Rattle.std.specs.Prelude.{◌≡◌, ◌↔◌, ◌<◌, ◌++◌, ◌∷◌, [], length, IfOk, IsTrue};
 ghost use Rattle.std.specs.Bool.{OnTrue, OnFalse};
 ghost use Rattle.ips_io.specs.Plans.{after_call, is_due};
@@ -6,7 +8,7 @@ use ip_defs::Memory;
 use std::alloc::Global;
 use std::marker::Model;
 
-/// The most calls that can be told to fail.
+/// The most calls that can be made to fail.
 const MOST_FAILING: usize = 8;
 
 /// The calls of a shelf or a sink in memory: how many were made, and the numbers of those that are to fail.
@@ -28,7 +30,7 @@ impl Model for Plan {
 }
 
 impl Plan {
-    /// No call made, and none that is to fail. Reserves the room for the numbers of calls.
+    /// No call made, and none that is to fail. Reserves memory for the numbers of calls.
     pub(crate) fn new(alloc: Global) -> Result<Plan, Memory>
         ensures { IfOk result (λ p. p ≡ record { made = 0; failing = [] }) }
     {

@@ -1,7 +1,9 @@
-ghost use Rattle.std.specs.Prelude.{◌≡◌, ◌≤◌, IfOk, vec_len};
-ghost use Rattle.ips_io.specs.Files.{Keeps};
+//! Reading a whole file, within a limit.
+
+ghost use Rattle.std.specs.Prelude.{◌≡◌, ◌≢◌, ◌≤◌, ◌∷◌, [], IfOk, vec_len};
+ghost use Rattle.ips_io.specs.Files.{Began, Keeps};
 ghost use Rattle.ips_io.specs.Causes.{Rose};
-ghost use Rattle.ips_io.specs.Shelves.{IsTooLong, IsUntold, IsWhole};
+ghost use Rattle.ips_io.specs.Shelves.{BecomesUnknown, IsTooLong, IsWhole};
 
 use crate::Shelf;
 use std::alloc::Global;
@@ -13,26 +15,27 @@ pub enum ReadError {
     Fault,
     /// The file has more bytes than were asked for at most.
     TooLong,
-    /// Memory was wanting.
+    /// Out of memory.
     Memory,
 }
 
-/// The bytes taken from the shelf at one turn, at most.
-const PIECE: usize = 4096;
+/// The most bytes that one read takes.
+pub(crate) const PIECE: usize = 4096;
 
-/// Reads the whole file of a name, of at most `most` bytes. `Fault` comes only where the shelf's count of failures rose, `TooLong`
-/// exactly where the shelf gave more than `most` bytes.
+/// Reads the whole file of a name, of at most `most` bytes. `Fault` comes exactly where the shelf counted a failure, and then it is the
+/// only one; `TooLong` exactly where the shelf gave more than `most` bytes. The file is begun once, and no other.
 pub fn read_all<S: Shelf>(
     alloc: Global,
     shelf: &mut S,
     name: &str,
     most: u64,
 ) -> Result<Vec<u8>, ReadError>
-    ensures later { S.faults shelf.old ≤ S.faults shelf.new }
+    ensures names { Began (S.begun_names shelf.old) (S.begun_names shelf.new) (name.now ∷ []) }
     ensures saves { S.save_faults shelf.new ≡ S.save_faults shelf.old }
     ensures files { Keeps (S.files shelf.old) (S.files shelf.new) }
-    ensures untold { IsUntold (S.files shelf.old) (S.files shelf.new) name.now }
+    ensures unknown { BecomesUnknown (S.files shelf.old) (S.files shelf.new) name.now }
     ensures fault { result ≡ Err ReadError.Fault → Rose (S.faults shelf.old) (S.faults shelf.new) }
+    ensures no_fault { result ≢ Err ReadError.Fault → S.faults shelf.new ≡ S.faults shelf.old }
     ensures whole { IfOk result (λ v. IsWhole (S.files shelf.new) name.now v.items) }
     ensures length { IfOk result (λ v. vec_len v ≤ most) }
     ensures too_long { result ≡ Err ReadError.TooLong → IsTooLong (S.files shelf.new) name.now most }

@@ -1,9 +1,13 @@
+//! Standard output.
+
 ghost use Rattle.std.specs.Prelude.{◌≡◌, None, ℕ, Option, List};
+ghost use Rattle.std.proofs.Common.{arith};
+ghost use Rattle.ips_io.specs.Causes.{shown_count};
 
 use crate::{Failed, Sink};
 use std::io::{self, Write};
 
-/// Standard output. What it took is not told.
+/// Standard output. What it took is not known.
 #[derive(Drop)]
 pub struct OutSink<R: Print + Drop> {
     rt: R,
@@ -20,7 +24,9 @@ pub fn out_sink<R: Print + Drop>(rt: R) -> OutSink<R>
 impl<R: Print + Drop> Sink for OutSink<R> {
     ghost taken = { λ s. None };
 
-    ghost faults = { λ s. s.faults };
+    ghost faults = { λ s. shown_count s.faults };
+
+    ghost faults_limit = { λ s. Prim.omega arith };
 
     fn write(&mut self, bytes: &[u8]) -> Result<usize, Failed> {
         match io::writer(&self.rt).write(bytes) {

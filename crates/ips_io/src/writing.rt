@@ -1,3 +1,5 @@
+//! Writing a whole text.
+
 ghost use Rattle.std.specs.Prelude.{◌≡◌, ℕ, take, OnOk, OnErr};
 ghost use Rattle.ips_io.specs.Files.{Takes};
 ghost use Rattle.ips_io.specs.Causes.{HasCause};

@@ -4,17 +4,17 @@ use Rattle.std.specs.Option.{MatchOption}
 use Rattle.std.proofs.Common.{refl, arith, sym, ◌∙◌}
 use Rattle.std.proofs.lemmas.List.{length-replicate}
 use Rattle.ips_io.specs.Files.{Files, file_of, Keeps}
-use Rattle.ips_io.specs.Shelves.{IsTooLong, IsUntold, IsWhole}
+use Rattle.ips_io.specs.Shelves.{IsTooLong, BecomesUnknown, IsWhole}
 use Rattle.ipsens_core.specs.Reads.{Reads, Agrees}
 
 -- one file that was read whole
-pub one_read : (before after : Option Files) (name bytes : List ℕ) → Keeps before after → IsUntold before after name →
+pub one_read : (before after : Option Files) (name bytes : List ℕ) → Keeps before after → BecomesUnknown before after name →
     IsWhole after name bytes
     → Agrees before after ((name, bytes) ∷ [])
-one_read None None name bytes keeps untold whole = refl
-one_read None (Some u) name bytes keeps untold whole = absurd (cc (keeps u refl))
-one_read (Some t) None name bytes keeps untold whole = rw (untold t refl refl) refl
-one_read (Some t) (Some u) name bytes keeps untold whole =
+one_read None None name bytes keeps unknown whole = refl
+one_read None (Some u) name bytes keeps unknown whole = absurd (cc (keeps u refl))
+one_read (Some t) None name bytes keeps unknown whole = rw (unknown t refl refl) refl
+one_read (Some t) (Some u) name bytes keeps unknown whole =
     let same : t ≡ u = cc (keeps u refl) in
     let found : file_of t name ≡ Some bytes = rw same (whole u refl) in
     rw found (refl, rw same refl)
@@ -33,13 +33,20 @@ pub record HasLongFile (before after : Option Files) (name : List ℕ) (most : �
 longer : (n : ℕ) → n < length {A = ℕ} (replicate (n + 1) 0)
 longer n = let e : length {A = ℕ} (replicate (n + 1) 0) ≡ n + 1 = length-replicate (n + 1) 0 in rw e (omega arith)
 
-pub long_read : (before after : Option Files) (name : List ℕ) (most : ℕ) → Keeps before after → IsUntold before after name →
+pub long_read : (before after : Option Files) (name : List ℕ) (most : ℕ) → Keeps before after → BecomesUnknown before after name →
     IsTooLong after name most
     → HasLongFile before after name most
-long_read before None name most keeps untold long =
-    record { bytes = replicate (most + 1) 0; long = longer most;
-        agrees = one_read before None name (replicate (most + 1) 0) keeps untold (λ u is. absurd (cc is)) }
-long_read before (Some u) name most keeps untold long =
+long_read before None name most keeps unknown long =
+    record {
+      bytes = replicate (most + 1) 0;
+      long = longer most;
+      agrees = one_read before None name (replicate (most + 1) 0) keeps unknown (λ u is. absurd (cc is));
+    }
+long_read before (Some u) name most keeps unknown long =
     let p = long u refl in
-    record { bytes = p.0; long = p.2; agrees = one_read before (Some u) name p.0 keeps untold (λ v is. let same : u ≡ v = cc is in
-        rw (sym same) p.1) }
+    record {
+      bytes = p.0;
+      long = p.2;
+      agrees = one_read before (Some u) name p.0 keeps unknown (λ v is. let same : u ≡ v = cc is in
+          rw (sym same) p.1);
+    }

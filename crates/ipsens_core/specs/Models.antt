@@ -22,4 +22,4 @@ abbrev pub ReadsModel : List ℕ → How → (Parts → Reads → Answer → Typ
 ReadsModel name how Rest =
     ReadsFile name longest_model (refuses_model (codes "too long"))
     (λ bytes rs a. MatchOption (mps_fault bytes how) (Rest (model_of bytes how) rs a)
-        (λ e. ReadsNoMore (λ b. b ≡ refuses_model (refusal_text e)) rs a))
+    (λ e. ReadsNoMore (λ b. b ≡ refuses_model (refusal_text e)) rs a))

@@ -6,9 +6,29 @@ use Rattle.mps_defs.specs.declared.texts.Side.TheVariants.{Lower, Upper}
 use Rattle.ip_defs.specs.declared.limits.What as What
 use Rattle.ip_defs.specs.declared.limits.What.TheVariants as Whats
 use Rattle.mps_defs.specs.declared.texts.MpsError.{MpsError}
-use Rattle.mps_defs.specs.declared.texts.MpsError.TheVariants.{NotUtf8, SectionOrder, UnknownSection, FieldCount, RowKind, TwiceRow,
-    UnknownRow, SplitColumn, TwiceEntry, Number, Marker, BoundKind, UnknownColumn, Continuous, NoBound, NegativeUpper, Limit, NoObjective,
-    NoEnd, Digits, Memory}
+use Rattle.mps_defs.specs.declared.texts.MpsError.TheVariants.{
+  NotUtf8,
+  SectionOrder,
+  UnknownSection,
+  FieldCount,
+  RowKind,
+  TwiceRow,
+  UnknownRow,
+  SplitColumn,
+  TwiceEntry,
+  Number,
+  Marker,
+  BoundKind,
+  UnknownColumn,
+  Continuous,
+  NoBound,
+  NegativeUpper,
+  Limit,
+  NoObjective,
+  NoEnd,
+  Digits,
+  Memory,
+}
 use Rattle.mps_defs.specs.CanonicalText.{newline}
 
 abbrev pub on_line : ℕ → List ℕ

@@ -1,7 +1,8 @@
 -- The run relation, between words, the files that are read and the answer; and what the shelf and the sink show of it.
-use Rattle.std.specs.Prelude.{◌≡◌, ℕ, List, [], take, Option, None, Some}
-use Rattle.std.specs.Option.{MatchOption, ForSome}
-use Rattle.ips_io.specs.Files.{Files, file_of, Keeps, Takes, KeepsOthers}
+use Rattle.std.specs.Prelude.{◌≡◌, ◌⊎◌, ℕ, List, [], ◌∷◌, take, Option, None, Some}
+use Rattle.std.specs.Option.{MatchOption, ForSome, option_map_or}
+use Rattle.ips_io.specs.Causes.{Rose}
+use Rattle.ips_io.specs.Files.{Files, Names, file_of, Keeps, Takes, KeepsOthers}
 use Rattle.ipsens_core.specs.Answers.{Answer, says, ReadsNoMore}
 use Rattle.ipsens_core.specs.Reads.{Reads, Agrees}
 use Rattle.ipsens_core.specs.Show.{AnswersShow}
@@ -11,15 +12,26 @@ use Rattle.ips_words.specs.Requests.{usage_text}
 use Rattle.ips_words.specs.declared.requests.Request.{Request}
 use Rattle.ips_words.specs.declared.requests.Request.TheVariants.{Solve, Check, Ask, Sweep, Recheck, Show, Trial}
 use Rattle.ipsens_core.specs.declared.statuses.Status.{Status}
-use Rattle.ipsens_core.specs.declared.statuses.Status.TheVariants.{Answered, NotProved, Usage, Refused, Budget, Wide, ReadFault,
-    WriteFault, Memory}
+use Rattle.ipsens_core.specs.declared.statuses.Status.TheVariants.{
+  Answered,
+  NotProved,
+  Usage,
+  Refused,
+  Budget,
+  Wide,
+  ReadFault,
+  WriteFault,
+  Memory,
+}
 
 -- ---- the run relation
 
 -- what is owed to a request: a line for each command that is built. No words ask for the others
 abbrev pub AnswersRequest : Request → Reads → Answer → Type 0
-AnswersRequest (Solve model tree nodes depth pivots digits box_side) = AnswersSolve model (record { digits = digits;
-    box_side = box_side }) nodes depth pivots
+AnswersRequest (Solve model tree nodes depth pivots digits box_side) = AnswersSolve model (record {
+  digits = digits;
+  box_side = box_side;
+}) nodes depth pivots
 AnswersRequest (Check model tree digits box_side) = λ rs a. ⊥
 AnswersRequest (Ask model tree questions digits box_side) = λ rs a. ⊥
 AnswersRequest (Sweep model sweep proof nodes depth pivots digits box_side) = λ rs a. ⊥
@@ -30,6 +42,27 @@ AnswersRequest (Trial number) = λ rs a. ⊥
 -- the usage line where the words are no request, else an answer to the request
 abbrev pub IsRunOf : List Word → Reads → Answer → Type 0
 IsRunOf words rs a = MatchOption (request_of words) (ReadsNoMore (λ b. b ≡ says Usage usage_text) rs a) (λ q. AnswersRequest q rs a)
+
+-- ---- the files of a request
+
+-- the files that a request names, in the order in which they are read
+abbrev pub files_named : Request → Names
+files_named (Solve model tree nodes depth pivots digits box_side) = model ∷ []
+files_named (Check model tree digits box_side) = model ∷ tree ∷ []
+files_named (Ask model tree questions digits box_side) = model ∷ tree ∷ questions ∷ []
+files_named (Sweep model sweep proof nodes depth pivots digits box_side) = model ∷ sweep ∷ []
+files_named (Recheck model sweep proof digits box_side) = model ∷ sweep ∷ proof ∷ []
+files_named (Show model digits box_side) = model ∷ []
+files_named (Trial number) = []
+
+-- those that words name: none where they are no request
+abbrev pub files_asked : List Word → Names
+files_asked words = option_map_or files_named (request_of words) []
+
+-- one failure was counted: of a file that was saved, or of the output
+abbrev pub OneRose : ℕ → ℕ → ℕ → ℕ → Type 0
+OneRose saves saves_after faults faults_after = (Rose saves saves_after × (faults_after ≡ faults))
+    ⊎ ((saves_after ≡ saves) × Rose faults faults_after)
 
 -- ---- what the outside shows
 

@@ -1,8 +1,17 @@
 -- The number of a status, with which the program ends.
 use Rattle.std.specs.Prelude.{ℕ}
 use Rattle.ipsens_core.specs.declared.statuses.Status.{Status}
-use Rattle.ipsens_core.specs.declared.statuses.Status.TheVariants.{Answered, NotProved, Usage, Refused, Budget, Wide, ReadFault,
-    WriteFault, Memory}
+use Rattle.ipsens_core.specs.declared.statuses.Status.TheVariants.{
+  Answered,
+  NotProved,
+  Usage,
+  Refused,
+  Budget,
+  Wide,
+  ReadFault,
+  WriteFault,
+  Memory,
+}
 
 abbrev pub code_of : Status → ℕ
 code_of Answered = 0

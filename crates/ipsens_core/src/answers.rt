@@ -1,6 +1,5 @@
 //! Answers on their way out: why there is none, and how a made one is written.
 
-ghost use Rattle.std.specs.Prelude.{◌≤◌};
 ghost use Rattle.ipsens_core.specs.Internal.Writes.{IsSent, Writes};
 
 use crate::statuses::Status;
@@ -20,7 +19,6 @@ pub enum Stop {
 
 /// Writes the whole text of an answer, and gives its status, or that writing failed.
 pub fn finish<K: Sink>(out: &mut K, status: Status, text: &[u8]) -> Status
-    ensures later { K.faults out.old ≤ K.faults out.new }
     ensures writes { Writes (K.taken out.old) (K.taken out.new) (K.faults out.old) (K.faults out.new) status text.now result }
 {
     match write_all(out, text) {
@@ -31,7 +29,6 @@ pub fn finish<K: Sink>(out: &mut K, status: Status, text: &[u8]) -> Status
 
 /// Writes a made answer, or gives the status that says why there is none.
 pub fn send<K: Sink>(out: &mut K, made: Result<Made, Stop>) -> Status
-    ensures later { K.faults out.old ≤ K.faults out.new }
     ensures sent { IsSent (K.taken out.old) (K.taken out.new) (K.faults out.old) (K.faults out.new) made result }
 {
     match made {

@@ -1,9 +1,9 @@
 //! The model file of a command: it is read to its end, and understood or refused.
 
-ghost use Rattle.std.specs.Prelude.{◌≡◌, ◌≢◌, ◌≤◌, IfOk, codes, length};
+ghost use Rattle.std.specs.Prelude.{◌≡◌, ◌≢◌, ◌≤◌, ◌∷◌, [], IfOk, codes, length};
 ghost use Rattle.ip_model.specs.Sizes.{first_crossed};
 ghost use Rattle.ips_io.specs.Causes.{Rose};
-ghost use Rattle.ips_io.specs.Files.{Keeps};
+ghost use Rattle.ips_io.specs.Files.{Began, Keeps};
 ghost use Rattle.mps_defs.specs.TextModels.{IsHow};
 ghost use Rattle.ipsens_core.specs.RefusalTexts.{refusal_text};
 ghost use Rattle.ipsens_core.specs.Internal.Made.{IsModelFile, IsModelText, IsRefusalOf, IsWithoutModel};
@@ -67,7 +67,8 @@ fn understand(alloc: Global, bytes: &[u8], how: How) -> Result<IntModel, NoModel
     }
 }
 
-/// Reads the model file of a name: its model, or the text of its refusal. `ReadFault` comes only where the shelf's count of failures rose.
+/// Reads the model file of a name: its model, or the text of its refusal. `ReadFault` comes exactly where the shelf counted
+/// a failure.
 pub fn read_model<S: Shelf>(
     alloc: Global,
     name: &Name,
@@ -78,9 +79,10 @@ pub fn read_model<S: Shelf>(
     ensures file { IsModelFile (S.files shelf.old) (S.files shelf.new) name.now how result }
     ensures uncrossed { IfOk result (λ m. first_crossed m ≡ None) }
     ensures keeps { Keeps (S.files shelf.old) (S.files shelf.new) }
-    ensures later { S.faults shelf.old ≤ S.faults shelf.new }
+    ensures names { Began (S.begun_names shelf.old) (S.begun_names shelf.new) (name.now ∷ []) }
     ensures saves { S.save_faults shelf.new ≡ S.save_faults shelf.old }
     ensures fault { result ≡ Err NoModel.ReadFault → Rose (S.faults shelf.old) (S.faults shelf.new) }
+    ensures no_fault { result ≢ Err NoModel.ReadFault → S.faults shelf.new ≡ S.faults shelf.old }
 {
     match read_all(alloc, shelf, name.as_str(), LONGEST_MODEL) {
         Ok(bytes) => understand(alloc, bytes.as_slice(), how),

@@ -1,17 +1,17 @@
 //! The command `solve`: a model file is read, searched for a cheapest plan, and answered.
 
-ghost use Rattle.std.specs.Prelude.{◌≡◌, ◌⊎◌, ◌<◌, ◌≤◌, IfOk};
+ghost use Rattle.std.specs.Prelude.{◌≡◌, ◌≢◌, ◌∷◌, [], ◌<◌, ◌≤◌, IfOk};
 ghost use Rattle.branching.specs.Counts.{AreCountsWithin};
 ghost use Rattle.branching.specs.Outcomes.{IsRightOutcome, IsTrueOutcome};
 ghost use Rattle.branching.specs.Sizes.{AreAmple, IsAnswer};
 ghost use Rattle.ip_model.specs.Sizes.{allowance as most_nodes_of, first_crossed};
 ghost use Rattle.ips_io.specs.Causes.{Rose};
-ghost use Rattle.ips_io.specs.Files.{Keeps};
+ghost use Rattle.ips_io.specs.Files.{Began, Keeps};
 ghost use Rattle.mps_defs.specs.TextModels.{IsHow};
 ghost use Rattle.ips_words.specs.Requests.{AreLimits};
 ghost use Rattle.ipsens_core.specs.Answers.{says};
 ghost use Rattle.ipsens_core.specs.Internal.Made.{IsMade};
-ghost use Rattle.ipsens_core.specs.Runs.{AnswersRequest, RunMeets, shows};
+ghost use Rattle.ipsens_core.specs.Runs.{AnswersRequest, OneRose, RunMeets, files_named, shows};
 ghost use Rattle.ipsens_core.specs.Solve.{AnswersSolve, HasOutcome, IsSolve, limits_for};
 
 use crate::answers::{Made, Stop, send};
@@ -79,7 +79,10 @@ fn answer<S: Shelf>(
     requires limits { AreLimits asked.nodes asked.depth asked.pivots }
     ensures made { IfOk result (IsMade (AnswersSolve name.now how asked.nodes asked.depth asked.pivots) (S.files shelf.old) (S.files shelf.new)) }
     ensures keeps { Keeps (S.files shelf.old) (S.files shelf.new) }
+    ensures names { Began (S.begun_names shelf.old) (S.begun_names shelf.new) (name.now ∷ []) }
+    ensures saves { S.save_faults shelf.new ≡ S.save_faults shelf.old }
     ensures fault { result ≡ Err Stop.ReadFault → Rose (S.faults shelf.old) (S.faults shelf.new) }
+    ensures no_fault { result ≢ Err Stop.ReadFault → S.faults shelf.new ≡ S.faults shelf.old }
 {
     match read_model(alloc, name, how, shelf) {
         Ok(model) => match solved(alloc, &model, asked) {
@@ -100,7 +103,10 @@ pub fn solve_at<S: Shelf, K: Sink>(
     requires command { IsSolve request.now }
     ensures answer { RunMeets (AnswersRequest request.now) (shows (S.files shelf.old) (S.files shelf.new) (K.taken out.old) (K.taken out.new)) result }
     ensures read_cause { result ≡ Status.ReadFault → Rose (S.faults shelf.old) (S.faults shelf.new) }
-    ensures write_cause { result ≡ Status.WriteFault → Rose (S.save_faults shelf.old) (S.save_faults shelf.new) ⊎ Rose (K.faults out.old) (K.faults out.new) }
+    ensures no_read_fault { result ≢ Status.ReadFault → S.faults shelf.new ≡ S.faults shelf.old }
+    ensures write_cause { result ≡ Status.WriteFault → OneRose (S.save_faults shelf.old) (S.save_faults shelf.new) (K.faults out.old) (K.faults out.new) }
+    ensures no_write_fault { result ≢ Status.WriteFault → (S.save_faults shelf.new ≡ S.save_faults shelf.old) × (K.faults out.new ≡ K.faults out.old) }
+    ensures begun { Began (S.begun_names shelf.old) (S.begun_names shelf.new) (files_named request.now) }
     ensures no_usage { result ≡ Status.Usage → ⊥ }
 {
     match request {

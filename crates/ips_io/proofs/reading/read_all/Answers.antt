@@ -9,15 +9,16 @@ returns-in-Ok-eq0-clause-whole g c = reads_end _ _ _ _ _ _ _ _ c.in-Ok-eq0.field
 pub returns-then-n-room-clause-too_long : goal.returns-then-n-room-clause-too_long
 returns-then-n-room-clause-too_long g c _ =
     reads_beyond _ _ _ _ _ _ _ _ _ c.in-Ok-read.ensures.bound (omega arith) c.in-Ok-read.ensures.files c.loop-bytes.invariant.content
-        c.in-Ok-read.ensures.bytes
+    c.in-Ok-read.ensures.bytes
 
 pub loop-bytes-preserved : goal.loop-bytes-preserved
 loop-bytes-preserved g c = record {
   begun = c.in-Ok-read.ensures.begun;
-  later = omega (arith, c.in-Ok-read.ensures.cause.later);
+  names = λ now is. c.loop-bytes.invariant.names now (sym c.in-Ok-read.ensures.names ∙ is);
+  faults = c.in-Ok-read.ensures.cause.stands ∙ c.loop-bytes.invariant.faults;
   saves = c.in-Ok-read.ensures.saves ∙ c.loop-bytes.invariant.saves;
   files = λ t told. c.loop-bytes.invariant.files t (sym c.in-Ok-read.ensures.files ∙ told);
-  untold = λ t told lost. c.loop-bytes.invariant.untold t told (sym c.in-Ok-read.ensures.files ∙ lost);
+  unknown = λ t told lost. c.loop-bytes.invariant.unknown t told (sym c.in-Ok-read.ensures.files ∙ lost);
   room = within_limit _ _ _ _ _ c.read.new.into c.in-Ok-extend_from_slice.ensures.len c.if-n-room.false c.len.ensures
       c.loop-bytes.invariant.room;
   content = λ t told.

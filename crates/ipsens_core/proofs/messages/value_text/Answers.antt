@@ -11,5 +11,5 @@ returns c =
     let back : to_z w64 (of_z w64 c.args.value) ≡ c.args.value = omega (arith, ints) in
     let number = c.as_str.ensures.value ∙ c.in_ok-number.ensures ∙ ap (λ z. signed_decimal z ++ codes "\n") back in
     c.in_ok-push_str.ensures.bytes ∙ ap (λ bs. bs ++ c.as_str.result.now) c.in_ok-line.ensures
-        ∙ ap (λ bs. (codes "value " ++ c.args.name.now ++ codes " ") ++ bs) number
-        ∙ value_text_is c.args.name.now (signed_decimal c.args.value)
+    ∙ ap (λ bs. (codes "value " ++ c.args.name.now ++ codes " ") ++ bs) number
+    ∙ value_text_is c.args.name.now (signed_decimal c.args.value)

@@ -12,6 +12,6 @@ returns-clause-answer g c =
     let taken_after = g.K.Sink.taken c.send.new.out in
     let owed = AnswersShow c.in-Show.model (record { digits = c.in-Show.digits; box_side = c.in-Show.box_side }) in
     let meets = sent_meets owed files files_after taken taken_after (g.K.Sink.faults c.args.out.now) (g.K.Sink.faults c.send.new.out)
-            c.answer-made.result c.send.result
+    c.answer-made.result c.send.result
     c.answer-made.ensures.made c.answer-made.ensures.keeps c.send.ensures.sent in
     subst (λ q. RunMeets (AnswersRequest q) (shows files files_after taken taken_after) c.send.result) (sym c.in-Show.is) meets

@@ -19,10 +19,10 @@ returns-clause-bytes c old told =
     let count : part.start + n - part.start ≡ n = omega arith in
     let copied : c.copy_from_slice.new.self ≡ take n (drop part.start b) =
     c.copy_from_slice.ensures.after ∙ ap (λ k. take k (drop part.start c.buffer.result.now)) count
-        ∙ ap (λ xs. take n (drop part.start xs)) c.buffer.ensures
+    ∙ ap (λ xs. take n (drop part.start xs)) c.buffer.ensures
     in
     let P : List ℕ → Type 0 = λ x. Moved x (Some (part_of b (record { start = part.start + n; length = part.length - n }))) n
-            (c.copy_from_slice.new.self ++ drop n c.args.into.now) in
+    (c.copy_from_slice.new.self ++ drop n c.args.into.now) in
     subst P same (moved_part b part n c.args.into.now c.copy_from_slice.new.self within fits some copied)
 
 pub returns-clause-state : goal.returns-clause-state

@@ -15,4 +15,4 @@ pub returns-then-put-clause-saved : goal.returns-then-put-clause-saved
 returns-then-put-clause-saved c new now =
     let after : c.put.new.self.files ≡ new = cc in
     ap (λ fs. file_of fs c.args.name.now) (sym after ∙ c.if-put.ensures.files)
-        ∙ put_file c.self.inside.table.files c.args.name.now c.args.bytes.now
+    ∙ put_file c.self.inside.table.files c.args.name.now c.args.bytes.now

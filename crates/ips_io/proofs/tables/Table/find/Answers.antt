@@ -14,7 +14,7 @@ returns-in-Some-clause-within c =
     let at = rw (c.as_slice.ensures.value, c.as_slice-2.ensures.value, c.as_bytes.ensures.value) at c.in-Some.ensures in
     let filled = c.self.invariant.0 ∙ c.self.inside.buffer.ok.0 in
     rw (← c.self.view_is) (changed c.self.inside.lengths.items c.self.inside.buffer.items c.args.name.now [] c.in-Some.place filled
-        (sym at)).within
+    (sym at)).within
 
 pub returns-in-None-clause-content : goal.returns-in-None-clause-content
 returns-in-None-clause-content c =

@@ -1,9 +1,9 @@
 -- Lists of a model, one element at a time.
-use Rattle.std.specs.Prelude.{◌≡◌, ℕ, zero, suc, ◌+◌, ◌<◌, ◌==◌, Bool, true, false, cond, not, List, [], ◌∷◌, ◌++◌, length, map, drop,
-    if◌then◌else◌, Some, None, slice_get, unsigned_abs, ℤ, pos, negsuc}
+use Rattle.std.specs.Prelude.{◌≡◌, ℕ, zero, suc, ◌+◌, ◌<◌, ◌==◌, Bool, true, false, cond, not, List, [], ◌∷◌, ◌++◌, length, map, drop}
+use Rattle.std.specs.Prelude.{if◌then◌else◌, Some, None, slice_get, unsigned_abs, ℤ, pos, negsuc}
 use Rattle.std.specs.Option.{is_some}
 use Rattle.ip_defs.specs.Lists.{when}
-use Rattle.mps_defs.specs.declared.texts.How.{How}
+use Rattle.mps_defs.specs.declared.reading.How.{How}
 use Rattle.ip_defs.specs.declared.programs.Column.{Column}
 use Rattle.ip_defs.specs.declared.programs.Row.{Row}
 use Rattle.mps_reader.specs.declared.draft.RowDraft.{RowDraft}
@@ -12,10 +12,10 @@ use Rattle.std.proofs.Common.{arith, refl, sym, ap, ◌∙◌, get_or, append_as
 use Rattle.std.proofs.lemmas.Int.{ints, clamps}
 use Rattle.std.proofs.Math.Dec.{eqb-suc-zero}
 use Rattle.mps_defs.specs.TextModels.{units}
-use Rattle.mps_defs.specs.declared.texts.Number.{Number}
+use Rattle.mps_defs.specs.declared.reading.Number.{Number}
 use Rattle.mps_reader.specs.Internal.Clamps.{clamped, clamped_coefs, clamped_column, clamped_row}
-use Rattle.mps_reader.specs.Internal.Drafted.{drafted_coefs, drafted_column, drafted_columns, drafted_row, drafted_rows, cost_head,
-    cost_rest, is_free_kind}
+use Rattle.mps_reader.specs.Internal.Drafted.{drafted_coefs, drafted_column, drafted_columns, drafted_row, drafted_rows, cost_head}
+use Rattle.mps_reader.specs.Internal.Drafted.{cost_rest, is_free_kind}
 
 -- a list from a place on
 pub drop_at : {A : Type 0} (xs : List A) (j : ℕ) (d : A) → j < length xs → drop j xs ≡ get_or xs j d ∷ drop (j + 1) xs

@@ -1,7 +1,7 @@
 -- What a draft says of the whole is what its lines say.
-use Rattle.std.specs.Prelude.{◌≡◌, ℕ, zero, suc, ◌<◌, ◌≤◌, max, ◌||◌, if◌then◌else◌, neg_ℤ, filter, Bool, true, false, not, ◌&&◌, cond,
-    List, [], ◌∷◌, ◌++◌, length, map, flat_map, find, position, slice_get, Option, None, Some, option_map, unwrap_or, bytes_eq, codes,
-    Result, Ok, Err, ℤ}
+use Rattle.std.specs.Prelude.{◌≡◌, ℕ, zero, suc, ◌<◌, ◌≤◌, max, ◌||◌, if◌then◌else◌, neg_ℤ, filter, Bool, true, false, not, ◌&&◌, cond}
+use Rattle.std.specs.Prelude.{List, [], ◌∷◌, ◌++◌, length, map, flat_map, find, position, slice_get, Option, None, Some, option_map}
+use Rattle.std.specs.Prelude.{unwrap_or, bytes_eq, codes, Result, Ok, Err, ℤ}
 use Rattle.std.specs.List.{list_any}
 use Rattle.std.specs.Option.{option_map_or, is_none, ForSome}
 use Rattle.std.proofs.Common.{refl, arith, ap, sym, ◌∙◌, get_or, subst}
@@ -11,15 +11,15 @@ use Rattle.ip_defs.specs.Lists.{first_of, when}
 use Rattle.mps_defs.specs.Lists.{is_among}
 use Rattle.ip_defs.specs.Limits.{AreOrdered, IsRowShaped, IsWellShaped}
 use Rattle.mps_defs.specs.Records.{Line, row_lines, row_name, row_kind, is_free, objective, column_names, kept_entries, row_names}
-use Rattle.mps_defs.specs.Faults.{is_ended, continuous_faults, bound_missing, upper_faults, is_negative_upper, limit_faults,
-    faults_of_lines, lower_is_missing, upper_is_missing}
-use Rattle.mps_defs.specs.TextModels.{units, no_number, decimals_in, column_from, row_from, model_from, row_decimals, lower_entry,
-    upper_entry, upper_side, lower_by, written_in, written_for}
-use Rattle.mps_defs.specs.declared.texts.Number.{Number}
-use Rattle.mps_defs.specs.declared.texts.How.{How}
-use Rattle.mps_defs.specs.declared.texts.Side.TheVariants.{Lower, Upper}
-use Rattle.mps_defs.specs.declared.texts.MpsError.{MpsError}
-use Rattle.mps_defs.specs.declared.texts.MpsError.TheVariants.{Continuous, NoBound, NegativeUpper, NoObjective, NoEnd, Limit}
+use Rattle.mps_defs.specs.Faults.{is_ended, continuous_faults, bound_missing, upper_faults, is_negative_upper, limit_faults}
+use Rattle.mps_defs.specs.Faults.{faults_of_lines, lower_is_missing, upper_is_missing}
+use Rattle.mps_defs.specs.TextModels.{units, no_number, decimals_in, column_from, row_from, model_from, row_decimals, lower_entry}
+use Rattle.mps_defs.specs.TextModels.{upper_entry, upper_side, lower_by, written_in, written_for}
+use Rattle.mps_defs.specs.declared.reading.Number.{Number}
+use Rattle.mps_defs.specs.declared.reading.How.{How}
+use Rattle.mps_defs.specs.declared.reading.Side.TheVariants.{Lower, Upper}
+use Rattle.mps_defs.specs.declared.reading.MpsError.{MpsError}
+use Rattle.mps_defs.specs.declared.reading.MpsError.TheVariants.{Continuous, NoBound, NegativeUpper, NoObjective, NoEnd, Limit}
 use Rattle.ip_defs.specs.declared.programs.Parts.{Parts}
 use Rattle.ip_defs.specs.declared.programs.Row.{Row}
 use Rattle.ip_defs.specs.declared.programs.Column.{Column}
@@ -32,8 +32,9 @@ use Rattle.mps_reader.specs.declared.whole.Rule.TheVariants.{Integer, Bounded, N
 use Rattle.mps_reader.specs.Internal.Below.{AreBelowLarge, AreWithin, AreRowsBelow}
 use Rattle.mps_reader.specs.Internal.Clamps.{clamped_coefs, clamped_row, clamped_column, clamped_parts}
 use Rattle.mps_defs.specs.Faults.{IsFirst}
-use Rattle.mps_reader.specs.Internal.Drafted.{asked, column_faults, is_negative_bound, is_end, is_free_kind, drafted_coefs, drafted_row,
-    drafted_rows, drafted_columns, drafted_decimals, drafted_lower, drafted_model, drafted_column_faults, drafted_row_names}
+use Rattle.mps_reader.specs.Internal.Drafted.{asked, column_faults, is_negative_bound, is_end, is_free_kind, drafted_coefs, drafted_row}
+use Rattle.mps_reader.specs.Internal.Drafted.{drafted_rows, drafted_columns, drafted_decimals, drafted_lower, drafted_model}
+use Rattle.mps_reader.specs.Internal.Drafted.{drafted_column_faults, drafted_row_names}
 use Rattle.mps_reader.specs.Internal.Drafted.{drafted_column_names}
 use Rattle.mps_reader.specs.Internal.Finished.{IsDrafted, IsFinished, IsLimited}
 use Rattle.mps_reader.specs.Internal.Progress.{Stands, ColumnStands, section_word, kind_word, upper_said}
@@ -94,7 +95,7 @@ rows_below ls d s few i r at =
 
 rows_shaped : (how : How) (n : ℕ) (names : List (List ℕ)) (rs : List RowDraft) → length names ≡ length rs
     → ((i : ℕ) (name : List ℕ) (r : RowDraft) → slice_get names i ≡ Some name → slice_get rs i ≡ Some r →
-        IsRowShaped n (clamped_row (drafted_row how name r)))
+    IsRowShaped n (clamped_row (drafted_row how name r)))
     → (i : ℕ) (row : Row) → slice_get (map clamped_row (drafted_rows how names rs)) i ≡ Some row → IsRowShaped n row
 rows_shaped how n [] rs e h i row at = absurd cc
 rows_shaped how n (name ∷ names) [] e h i row at = absurd (omega arith)
@@ -138,7 +139,7 @@ model_shaped ls d how name r o s digits named at =
                 (clamped_coefs (drafted_coefs (drafted_decimals how y)
                 (written_in (kept_entries (codes "COLUMNS") ls)
                 (column_names ls) n)))) (sym columns) (coefs_ordered (kept_entries (codes "COLUMNS") ls) (column_names ls) n
-                    (drafted_decimals how y)));
+                (drafted_decimals how y)));
           })
           i x found;
     }

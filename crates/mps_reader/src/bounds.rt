@@ -5,7 +5,8 @@ ghost use Rattle.mps_defs.specs.Lists.{is_among, last_of, where_true};
 ghost use Rattle.mps_defs.specs.Numbers.{is_large, number_of};
 ghost use Rattle.mps_defs.specs.Records.{Line, bound_kind, takes_none, takes_number as takes_number_of, words_of, item};
 ghost use Rattle.mps_defs.specs.TextModels.{is_negative_number, no_number, rounded_down as rounded_down_of, rounded_up as rounded_up_of};
-ghost use Rattle.mps_reader.specs.Internal.BoundWords.{IsBound, Says, after_bound as after_bound_of, bound_word, has_right_count, integer_words, lower_of, numbered_words, plain_words, upper_of};
+ghost use Rattle.mps_reader.specs.Internal.BoundWords.{IsBound, Says, after_bound as after_bound_of, bound_word, has_right_count};
+ghost use Rattle.mps_reader.specs.Internal.BoundWords.{integer_words, lower_of, numbered_words, plain_words, upper_of};
 ghost use Rattle.mps_reader.specs.declared.draft.ColumnDraft.{ColumnDraft as ColumnDraftOf};
 ghost use Rattle.mps_reader.specs.Internal.Progress.{IsTaken, Stands};
 

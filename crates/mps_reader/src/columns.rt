@@ -1,10 +1,11 @@
-ghost use Rattle.std.specs.Prelude.{◌≡◌, ◌==◌, ◌∷◌, ◌&&◌, ◌||◌, ℕ, [], List, IfOk, None, OnOk, bytes_eq, codes, length, map, not, position, slice_index_or, string_bytes, true, false};
+ghost use Rattle.std.specs.Prelude.{◌≡◌, ◌==◌, ◌∷◌, ◌&&◌, ◌||◌, ℕ, [], List, IfOk, None, OnOk, bytes_eq, codes, length, map, not, position};
+ghost use Rattle.std.specs.Prelude.{slice_index_or, string_bytes, true, false};
 ghost use Rattle.std.specs.Option.{option_map_or};
 ghost use Rattle.mps_defs.specs.Lists.{is_among};
 ghost use Rattle.ip_defs.specs.Lists.{when};
 ghost use Rattle.mps_defs.specs.Records.{Line, column_name, is_marker as is_marker_of, items_of, words_of, item};
 ghost use Rattle.mps_defs.specs.Faults.{is_split, is_right_marker};
-ghost use Rattle.mps_defs.specs.declared.texts.MpsError.TheVariants as Out;
+ghost use Rattle.mps_defs.specs.declared.reading.MpsError.TheVariants as Out;
 ghost use Rattle.mps_reader.specs.Internal.Progress.{BoundsStand, ColumnsStand, IsTaken, Stands};
 ghost use Rattle.mps_reader.specs.Internal.Taking.{IsColumnAdded, IsColumnOpen, IsDone, IsMarked};
 

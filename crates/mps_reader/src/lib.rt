@@ -11,6 +11,7 @@ mod fields;
 mod finish;
 mod lines;
 mod reader;
+mod reading;
 mod right_sides;
 mod rounding;
 mod row_list;
@@ -19,8 +20,7 @@ mod sections;
 mod sets;
 #[cfg(test)]
 mod tests;
-mod texts;
 mod whole;
 
 pub use mps_defs::{How, MpsError, Side};
-pub use texts::read;
+pub use reading::read;

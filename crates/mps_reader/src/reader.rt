@@ -1,7 +1,7 @@
 ghost use Rattle.std.specs.Prelude.{◌≡◌, ℕ, ◌≤◌, ◌^◌, List, false, codes, length, map};
 ghost use Rattle.std.specs.List.{list_any};
 ghost use Rattle.mps_defs.specs.Lists.{is_among};
-ghost use Rattle.mps_defs.specs.Records.{Line, lines_of, opens_end, without_return, words_of, item};
+ghost use Rattle.mps_defs.specs.Records.{Line, lines_of, is_end_line, without_return, words_of, item};
 ghost use Rattle.mps_reader.specs.Internal.Progress.{IsTaken, Stands};
 ghost use Rattle.mps_reader.specs.Internal.Reading.{IsDraftOf, IsLineTaken, last_section as last_word_of, lines_by};
 
@@ -38,7 +38,7 @@ fn take_item(alloc: Global, draft: &mut Draft, line: u32, fields: &[&str]) -> Re
 
 /// Takes a line of a text, and tells whether it is the ENDATA line. Comments and lines without a field are skipped.
 fn take_line(alloc: Global, draft: &mut Draft, number: u32, text: &str) -> Result<bool, MpsError>
-    ensures { (ps : List (ℕ × List ℕ)) → Stands (lines_by ps) draft.old → list_any opens_end ps ≡ false → IsLineTaken ps (number, without_return text.now) draft.new result }
+    ensures { (ps : List (ℕ × List ℕ)) → Stands (lines_by ps) draft.old → list_any is_end_line ps ≡ false → IsLineTaken ps (number, without_return text.now) draft.new result }
 {
     let text = cut_return(text);
     if is_comment(text) {

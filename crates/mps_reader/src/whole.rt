@@ -1,6 +1,7 @@
 ghost use Rattle.std.specs.Prelude.{◌≡◌, length, map, string_bytes};
 ghost use Rattle.mps_defs.specs.Faults.{lower_is_missing as lower_is_missing_of, upper_is_missing as upper_is_missing_of};
-ghost use Rattle.mps_reader.specs.Internal.Drafted.{AnswersFaults, asked, missing_sides, column_faults, is_negative_bound as is_negative_bound_of};
+ghost use Rattle.mps_reader.specs.Internal.Drafted.{AnswersFaults, asked, missing_sides, column_faults};
+ghost use Rattle.mps_reader.specs.Internal.Drafted.{is_negative_bound as is_negative_bound_of};
 ghost use Rattle.mps_defs.specs.TextModels.{IsHow};
 
 use crate::column_list::{lower_of, upper_of};

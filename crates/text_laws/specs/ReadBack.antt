@@ -3,7 +3,7 @@ use Rattle.std.specs.Prelude.{◌≡◌, ℕ, ◌≤◌, true, false, List, [], 
 use Rattle.std.specs.Int.RustNames.{unsigned_abs}
 use Rattle.std.specs.Option.{option_map_or}
 use Rattle.std.specs.Str.{is_utf8}
-use Rattle.mps_defs.specs.Lists.{is_among}
+use Rattle.mps_defs.specs.Lists.{AreDistinct}
 use Rattle.ip_defs.specs.Limits.{IsWithinLimits}
 use Rattle.mps_defs.specs.Numbers.{least_decimals}
 use Rattle.mps_defs.specs.CanonicalText.{canonical_text, is_printable, right_side}
@@ -12,12 +12,7 @@ use Rattle.mps_defs.specs.Faults.{mps_fault, model_of}
 use Rattle.ip_defs.specs.declared.programs.Column.{Column}
 use Rattle.ip_defs.specs.declared.programs.Row.{Row}
 use Rattle.ip_defs.specs.declared.programs.Parts.{Parts}
-use Rattle.mps_defs.specs.declared.texts.How.{How}
-
--- no text stands twice in a list
-abbrev pub AreDistinct : List (List ℕ) → Type 0
-AreDistinct [] = ⊤
-AreDistinct (x ∷ xs) = (is_among x xs ≡ false) × AreDistinct xs
+use Rattle.mps_defs.specs.declared.reading.How.{How}
 
 -- the least decimals that write z / 10^decimals
 abbrev pub needed_decimals : ℕ → ℤ → ℕ

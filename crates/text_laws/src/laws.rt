@@ -1,4 +1,5 @@
-ghost use Rattle.text_laws.specs.ReadBack.{CanonicalTextsAreReadBack, CanonicalTextsHaveNoFault, ModelsReadAreCanonical, ModelsReadArePrintedAndReadBack};
+ghost use Rattle.text_laws.specs.ReadBack.{CanonicalTextsAreReadBack, CanonicalTextsHaveNoFault, ModelsReadAreCanonical};
+ghost use Rattle.text_laws.specs.ReadBack.{ModelsReadArePrintedAndReadBack};
 
 /// The canonical text of a program has no fault, and its model is the program itself: for each printable program within its limits
 /// whose names are UTF-8 and differ, and whose decimals are the least ones that write its amounts, and no fewer than the digits asked

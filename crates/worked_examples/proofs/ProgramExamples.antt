@@ -25,9 +25,9 @@ program columns' rows' = record { objective = codes "cost"; cost_decimals = 0; c
 abbrev three_rows : Parts
 three_rows = program
     (column (codes "a") (negsuc 4) (pos 0) (pos 10) ∷ column (codes "b") (negsuc 3) (pos 0) (pos 10) ∷ column (codes "c") (negsuc 2)
-        (pos 0) (pos 10) ∷ [])
+    (pos 0) (pos 10) ∷ [])
     (row ((0, pos 2) ∷ (1, pos 3) ∷ (2, pos 1) ∷ []) None (Some (pos 5)) ∷ row ((0, pos 4) ∷ (1, pos 1) ∷ (2, pos 2) ∷ []) None
-        (Some (pos 11)) ∷ row ((0, pos 3) ∷ (1, pos 4) ∷ (2, pos 2) ∷ []) None (Some (pos 8)) ∷ [])
+    (Some (pos 11)) ∷ row ((0, pos 3) ∷ (1, pos 4) ∷ (2, pos 2) ∷ []) None (Some (pos 8)) ∷ [])
 
 abbrev best : List ℤ
 best = pos 2 ∷ pos 0 ∷ pos 1 ∷ []

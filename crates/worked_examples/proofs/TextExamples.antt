@@ -2,12 +2,13 @@
 use Rattle.std.specs.Prelude.{◌≡◌, [], ◌∷◌, codes, refl, None, Some, pos, negsuc}
 use Rattle.std.specs.Str.{is_utf8, chars}
 use Rattle.mps_defs.specs.Faults.{mps_fault, model_of}
-use Rattle.mps_defs.specs.declared.texts.Side.TheVariants.{Lower, Upper}
-use Rattle.ip_defs.specs.declared.limits.What.TheVariants.{Cost as WCost, Lower as WLower, Upper as WUpper, RowName as WRowName,
-    Coef as WCoef, Side as WSide, Constant as WConstant}
-use Rattle.mps_defs.specs.declared.texts.MpsError.TheVariants.{NotUtf8, SectionOrder, UnknownSection, FieldCount, RowKind, TwiceRow,
-    UnknownRow, SplitColumn, TwiceEntry, Number, Marker, BoundKind, UnknownColumn, Continuous, NoBound, NegativeUpper, Limit, NoObjective,
-    NoEnd, Digits}
+use Rattle.mps_defs.specs.declared.reading.Side.TheVariants.{Lower, Upper}
+use Rattle.ip_defs.specs.declared.limits.What.TheVariants.{Cost as WCost, Lower as WLower, Upper as WUpper, RowName as WRowName}
+use Rattle.ip_defs.specs.declared.limits.What.TheVariants.{Coef as WCoef, Side as WSide, Constant as WConstant}
+use Rattle.mps_defs.specs.declared.reading.MpsError.TheVariants.{NotUtf8, SectionOrder, UnknownSection, FieldCount, RowKind, TwiceRow}
+use Rattle.mps_defs.specs.declared.reading.MpsError.TheVariants.{UnknownRow, SplitColumn, TwiceEntry, Number, Marker, BoundKind}
+use Rattle.mps_defs.specs.declared.reading.MpsError.TheVariants.{UnknownColumn, Continuous, NoBound, NegativeUpper, Limit, NoObjective}
+use Rattle.mps_defs.specs.declared.reading.MpsError.TheVariants.{NoEnd, Digits}
 
 pub text_v1-fault : mps_fault (codes "NAME example\nROWS\n N cost\n L r1\n L r2\n L r3\nCOLUMNS\n M 'MARKER' 'INTORG'\n a cost -5 r1 2\n a
     r2 4 r3 3\n b cost -4 r1 3\n b r2 1 r3 4\n c cost -3 r1 1\n c r2 2 r3 2\n M 'MARKER' 'INTEND'\nRHS\n RHS r1 5 r2 11\n RHS r3

@@ -6,8 +6,8 @@ use Rattle.mps_defs.specs.Faults.{limit_faults, faults_of_lines}
 use Rattle.mps_defs.specs.Records.{Line}
 use Rattle.mps_defs.specs.TextModels.{model_from}
 use Rattle.ip_defs.specs.declared.programs.Parts.{Parts}
-use Rattle.mps_defs.specs.declared.texts.How.{How}
-use Rattle.mps_defs.specs.declared.texts.MpsError.{MpsError}
+use Rattle.mps_defs.specs.declared.reading.How.{How}
+use Rattle.mps_defs.specs.declared.reading.MpsError.{MpsError}
 use Rattle.mps_reader.specs.declared.draft.RowDraft.{RowDraft}
 use Rattle.mps_reader.specs.declared.draft.Draft.{Draft}
 use Rattle.mps_defs.specs.Faults.{IsFirst}

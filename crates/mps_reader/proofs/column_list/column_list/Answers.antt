@@ -1,7 +1,7 @@
 use Rattle.std.proofs.Common.{arith, sym, ap, ◌∙◌, ◌≡◌, ◌++◌, ℕ, suc, ◌+◌, List, [], drop, get_or, ◌∷◌, map}
 use Rattle.std.specs.Prelude.{string_bytes, false, None}
 use Rattle.std.specs.Option.{is_some}
-use Rattle.mps_defs.specs.declared.texts.Number.{Number}
+use Rattle.mps_defs.specs.declared.reading.Number.{Number}
 use Rattle.ip_defs.specs.declared.programs.Column.{Column}
 use Rattle.mps_reader.specs.declared.draft.ColumnDraft.{ColumnDraft}
 use Rattle.mps_reader.specs.Internal.Clamps.{clamped_column}

@@ -1,7 +1,7 @@
 use Rattle.std.proofs.Common.{sym, ap, ◌∙◌, ◌≡◌, ◌++◌, List, map, subst}
 use Rattle.std.specs.Prelude.{string_bytes, None}
 use Rattle.ip_defs.specs.Lists.{first_of}
-use Rattle.mps_defs.specs.declared.texts.MpsError.{MpsError}
+use Rattle.mps_defs.specs.declared.reading.MpsError.{MpsError}
 use Rattle.mps_reader.specs.declared.whole.Rule.{Rule}
 use Rattle.mps_reader.specs.declared.whole.Rule.TheVariants.{Integer, Bounded, NotNegative}
 use Rattle.mps_defs.specs.Faults.{IsFirst}

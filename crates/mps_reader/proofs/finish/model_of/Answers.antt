@@ -16,7 +16,7 @@ model_with-requires-clause-below c few = rows_below c.requires.stands.0 c.args.d
 pub model_with-requires-clause-shaped : goal.model_with-requires-clause-shaped
 model_with-requires-clause-shaped c =
     objective_shaped c.requires.stands.0 c.args.draft.now c.args.how c.in-Some.objective c.requires.stands.1 c.requires.how.digits
-        c.in-Some.is
+    c.in-Some.is
 
 pub returns-in-Some : goal.returns-in-Some
 returns-in-Some c ls s =

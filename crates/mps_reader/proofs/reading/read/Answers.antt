@@ -5,11 +5,11 @@ use Rattle.std.proofs.lemmas.Str.{IsUtf8-from_is_utf8, is_utf8-from_IsUtf8}
 use Rattle.ip_defs.specs.Lists.{first_of}
 use Rattle.mps_defs.specs.Records.{lines_of}
 use Rattle.mps_defs.specs.Faults.{IsFirst, all_line_faults, faults_of_lines}
-use Rattle.mps_defs.specs.declared.texts.MpsError.TheVariants as Out
+use Rattle.mps_defs.specs.declared.reading.MpsError.TheVariants as Out
 use Rattle.mps_reader.specs.Internal.Progress.{Stands}
 use Rattle.mps_reader.proofs.FaultLaws.{read_model, read_fault}
 use Rattle.mps_reader.proofs.UncrossedLaws.{answer_uncrossed}
-use Rattle.mps_reader.proofs.texts.read.Goals as goal
+use Rattle.mps_reader.proofs.reading.read.Goals as goal
 
 pub returns-in-Ok-draft_of-clause-model : goal.returns-in-Ok-draft_of-clause-model
 returns-in-Ok-draft_of-clause-model c =

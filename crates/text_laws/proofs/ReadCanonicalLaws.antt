@@ -34,11 +34,11 @@ use Rattle.ip_defs.proofs.ListLaws.{each_weaker, each_get, none_append, none_whe
 use Rattle.mps_defs.proofs.ListLaws.{get_from_map}
 
 -- what it says of a text that it has no fault
-record IsFaultless (text : List ℕ) (how : How) : Type 0 where
-  valid : is_utf8 text ≡ true
-  lines : all_line_faults (lines_of text) ≡ []
-  objective : (l : Line) × (find is_free (row_lines (lines_of text)) ≡ Some l)
-  limits : limits_of (model_of text how) ≡ []
+pub record IsFaultless (text : List ℕ) (how : How) : Type 0 where
+  pub valid : is_utf8 text ≡ true
+  pub lines : all_line_faults (lines_of text) ≡ []
+  pub objective : (l : Line) × (find is_free (row_lines (lines_of text)) ≡ Some l)
+  pub limits : limits_of (model_of text how) ≡ []
 
 no_limits : (m : Parts) → limit_faults m ≡ [] → limits_of m ≡ []
 no_limits m e = by (limits_of m) e
@@ -47,7 +47,7 @@ no_limits m e = by (limits_of m) e
     by [] f = refl
     by (l ∷ ls) f = absurd cc
 
-faultless : (text : List ℕ) (how : How) → mps_fault text how ≡ None → IsFaultless text how
+pub faultless : (text : List ℕ) (how : How) → mps_fault text how ≡ None → IsFaultless text how
 faultless text how none = by (is_utf8 text) refl none
   where
     ls : List Line
@@ -88,7 +88,7 @@ faultless text how none = by (is_utf8 text) refl none
 
 -- ---- names
 
-find_each : {A : Type 0} (P : A → Type 0) (test : A → Bool) (xs : List A) (x : A) → Each P xs → find test xs ≡ Some x → P x
+pub find_each : {A : Type 0} (P : A → Type 0) (test : A → Bool) (xs : List A) (x : A) → Each P xs → find test xs ≡ Some x → P x
 find_each P test [] x all at = absurd cc
 find_each {A} P test (y ∷ ys) x all at = by (test y) at (λ g. find_each P test ys x all.1 g)
   where

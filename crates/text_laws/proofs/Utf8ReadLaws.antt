@@ -39,7 +39,7 @@ none_inside test low c high = none_passes test (encode c) (λ k l. by k l (test 
     by k l false e = refl
 
 -- a text has a first part
-first_part : (test : ℕ → Bool) (xs : List ℕ) → (a : List ℕ) × (more : List (List ℕ)) × (slice_split test xs ≡ a ∷ more)
+pub first_part : (test : ℕ → Bool) (xs : List ℕ) → (a : List ℕ) × (more : List (List ℕ)) × (slice_split test xs ≡ a ∷ more)
 first_part test [] = ([], [], refl)
 first_part test (x ∷ xs) = by (test x) refl (first_part test xs)
   where

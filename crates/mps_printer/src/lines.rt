@@ -60,7 +60,8 @@ pub fn push_amount(
     units: i128,
     decimals: u8,
 ) -> Result<(), Memory>
-    ensures { OnOk result (string_bytes text.new ≡ string_bytes text.old ++ written_text (triple first.now second.now (decimal_text units decimals))) }
+    ensures { OnOk result (string_bytes text.new ≡ string_bytes text.old
+        ++ written_text (triple first.now second.now (decimal_text units decimals))) }
 {
     let amount = decimal_text(alloc, units, decimals)?;
     push_triple(text, first, second, amount.as_str())

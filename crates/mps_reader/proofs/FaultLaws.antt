@@ -8,7 +8,7 @@ use Rattle.mps_defs.specs.Records.{Line, lines_of, objective, column_names}
 use Rattle.std.specs.Str.{is_utf8}
 use Rattle.mps_defs.specs.Faults.{ReadMeets}
 use Rattle.ip_defs.specs.declared.programs.Parts.{Parts}
-use Rattle.mps_reader.specs.Internal.Finished.{IsFinished}
+use Rattle.mps_reader.specs.Internal.DraftModels.{IsFinished}
 use Rattle.mps_defs.specs.TextModels.{model_from}
 use Rattle.mps_defs.specs.declared.reading.How.{How}
 use Rattle.mps_defs.specs.declared.reading.MpsError.{MpsError}
@@ -17,7 +17,7 @@ use Rattle.mps_defs.specs.Faults.{IsFirst, all_line_faults, bound_missing, conti
 use Rattle.mps_defs.specs.Faults.{upper_faults}
 use Rattle.mps_reader.specs.Internal.Drafted.{AnswersFaults, column_faults}
 use Rattle.mps_reader.specs.declared.draft.ColumnDraft.{ColumnDraft}
-use Rattle.mps_reader.proofs.FinishLaws.{drop_at, drop_mapped}
+use Rattle.mps_reader.proofs.ModelListLaws.{drop_at, drop_mapped}
 
 -- where there is no fault, an error is that of memory
 pub from_none : (e : MpsError) → IsFirst None e → (o : Option MpsError) → IsFirst o e

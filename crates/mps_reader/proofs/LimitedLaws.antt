@@ -15,7 +15,7 @@ use Rattle.mps_defs.specs.declared.reading.MpsError.TheVariants as Out
 use Rattle.mps_reader.specs.declared.draft.ColumnDraft.{ColumnDraft}
 use Rattle.mps_reader.specs.Internal.Clamps.{clamped_parts}
 use Rattle.mps_reader.specs.Internal.Drafted.{drafted_columns, cost_rest}
-use Rattle.mps_reader.specs.Internal.Finished.{IsMade, IsLimited}
+use Rattle.mps_reader.specs.Internal.DraftModels.{IsMade, IsLimited}
 use Rattle.mps_reader.proofs.ClampLaws.{limits_same, clamped_same}
 use Rattle.mps_reader.proofs.FaultLaws.{first_is}
 

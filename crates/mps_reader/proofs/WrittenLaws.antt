@@ -15,7 +15,7 @@ use Rattle.mps_defs.specs.declared.reading.Number.{Number}
 use Rattle.mps_reader.specs.Internal.Below.{AreBelowLarge, AreWithin}
 use Rattle.mps_reader.specs.Internal.Clamps.{clamped, clamped_coefs}
 use Rattle.mps_reader.specs.Internal.Drafted.{drafted_coefs}
-use Rattle.mps_reader.proofs.FinishLaws.{clamped_nothing}
+use Rattle.mps_reader.proofs.ModelListLaws.{clamped_nothing}
 use Rattle.std.proofs.lemmas.Bool.{true≢false}
 use Rattle.mps_defs.proofs.RisingLaws.{coefs_rise, mapped_rises, rises_within, rises_at}
 

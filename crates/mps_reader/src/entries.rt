@@ -107,7 +107,8 @@ impl RowDraft {
 
     /// Writes a number that counts.
     fn write(&mut self, owner: Owner, line: u32, number: Number) -> Result<(), MpsError>
-        ensures { IsDone (when (nat_lt 9 (decimals_in number)) (Out.Digits line) ++ when (has_number owner self.old) (Out.TwiceEntry line)) (λ _. IsPut owner number self.old self.new) result }
+        ensures { IsDone (when (nat_lt 9 (decimals_in number)) (Out.Digits line)
+            ++ when (has_number owner self.old) (Out.TwiceEntry line)) (λ _. IsPut owner number self.old self.new) result }
     {
         if decimals_of(number) > 9 {
             return Err(MpsError::Digits { line });
@@ -149,7 +150,8 @@ pub fn take_entry(
     row: &str,
     text: &str,
 ) -> Result<(), MpsError>
-    ensures { (ls : List Line) (es : List Entry) (name : List ℕ) → RowsHave ls owner es rows.old → Owns ls owner name → IsEntryTaken ls owner es rows.new (entry_of line name row.now text.now) result }
+    ensures { (ls : List Line) (es : List Entry) (name : List ℕ) → RowsHave ls owner es rows.old → Owns ls owner name
+        → IsEntryTaken ls owner es rows.new (entry_of line name row.now text.now) result }
 {
     let (place, number) = read_entry(rows, line, row, text)?;
     let is_objective = rows.is_objective(place);
@@ -172,7 +174,8 @@ pub fn take_entries(
     line: u32,
     fields: &[&str],
 ) -> Result<(), MpsError>
-    ensures { (ls : List Line) (es : List Entry) (name : List ℕ) → RowsHave ls owner es rows.old → Owns ls owner name → AreEntriesTaken ls owner es rows.new (entries_from line name (map (λ f. f.now) fields.now)) result }
+    ensures { (ls : List Line) (es : List Entry) (name : List ℕ) → RowsHave ls owner es rows.old → Owns ls owner name
+        → AreEntriesTaken ls owner es rows.new (entries_from line name (map (λ f. f.now) fields.now)) result }
 {
     match fields {
         [row, text, rest @ ..] => {

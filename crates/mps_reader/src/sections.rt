@@ -82,7 +82,8 @@ fn are_before(sections: &[Section], later: Section) -> bool
 
 /// Whether a section that another needs, where it comes later in the order, is among those before it.
 fn has_needed(sections: &[Section], needed: Section, section: Section) -> bool
-    ensures { result ≡ (not (is_before_of (section_word needed) (section_word section)) || is_among (section_word needed) (map section_word sections.now)) }
+    ensures { result ≡ (not (is_before_of (section_word needed) (section_word section))
+        || is_among (section_word needed) (map section_word sections.now)) }
 {
     !is_before(needed, section) || has_section(sections, needed)
 }
@@ -105,7 +106,8 @@ pub fn last_section(sections: &[Section]) -> Option<Section>
 
 /// Takes a section line. `UnknownSection` comes where its word is none of the seven, then `SectionOrder` where it may not come now.
 pub fn take_section(draft: &mut Draft, line: u32, word: &str) -> Result<(), MpsError>
-    ensures { (before : List Line) (others : List (List ℕ)) → Stands before draft.old → IsTaken before (opening line (word.now ∷ others) word.now) draft.new result }
+    ensures { (before : List Line) (others : List (List ℕ)) → Stands before draft.old
+        → IsTaken before (opening line (word.now ∷ others) word.now) draft.new result }
 {
     let section = match section_of(word) {
         Some(section) => section,

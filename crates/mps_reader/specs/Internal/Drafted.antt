@@ -4,8 +4,8 @@ use Rattle.std.specs.Prelude.{map, filter, string_bytes, Option, None, Some, opt
 use Rattle.std.specs.Int.RustNames.{unsigned_abs}
 use Rattle.std.specs.Option.{is_none}
 use Rattle.ip_defs.specs.Lists.{when, first_of}
-use Rattle.mps_reader.specs.declared.whole.Rule.{Rule}
-use Rattle.mps_reader.specs.declared.whole.Rule.TheVariants.{Integer, Bounded, NotNegative}
+use Rattle.mps_reader.specs.declared.column_rules.Rule.{Rule}
+use Rattle.mps_reader.specs.declared.column_rules.Rule.TheVariants.{Integer, Bounded, NotNegative}
 use Rattle.mps_defs.specs.Faults.{IsFirst, lower_is_missing, upper_is_missing}
 use Rattle.mps_defs.specs.TextModels.{units, no_number, row_sides, box_low, box_high}
 use Rattle.mps_defs.specs.declared.reading.Number.{Number}

@@ -6,7 +6,7 @@ use Rattle.ip_defs.specs.declared.programs.Column.{Column}
 use Rattle.mps_reader.specs.declared.draft.ColumnDraft.{ColumnDraft}
 use Rattle.mps_reader.specs.Internal.Clamps.{clamped_column}
 use Rattle.mps_reader.specs.Internal.Drafted.{drafted_column, drafted_columns, cost_rest, cost_head}
-use Rattle.mps_reader.proofs.FinishLaws.{columns_more, cost_taken, cost_left, drop_at, drop_mapped}
+use Rattle.mps_reader.proofs.ModelListLaws.{columns_more, cost_taken, cost_left, drop_at, drop_mapped}
 use Rattle.mps_reader.proofs.column_list.column_list.Goals as goal
 use Rattle.mps_reader.proofs.column_list.column_list.Goals.{then-is_some, else-is_some}
 

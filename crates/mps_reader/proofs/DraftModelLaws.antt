@@ -28,7 +28,7 @@ use Rattle.mps_reader.specs.declared.sections.Section.TheVariants as Sections
 use Rattle.mps_reader.specs.declared.draft.RowDraft.{RowDraft}
 use Rattle.mps_reader.specs.declared.draft.ColumnDraft.{ColumnDraft}
 use Rattle.mps_reader.specs.declared.draft.Draft.{Draft}
-use Rattle.mps_reader.specs.declared.whole.Rule.TheVariants.{Integer, Bounded, NotNegative}
+use Rattle.mps_reader.specs.declared.column_rules.Rule.TheVariants.{Integer, Bounded, NotNegative}
 use Rattle.mps_reader.specs.Internal.Below.{AreBelowLarge, AreWithin, AreRowsBelow}
 use Rattle.mps_reader.specs.Internal.Clamps.{clamped_coefs, clamped_row, clamped_column, clamped_parts}
 use Rattle.mps_defs.specs.Faults.{IsFirst}
@@ -36,7 +36,7 @@ use Rattle.mps_reader.specs.Internal.Drafted.{asked, column_faults, is_negative_
 use Rattle.mps_reader.specs.Internal.Drafted.{drafted_rows, drafted_columns, drafted_decimals, drafted_lower, drafted_model}
 use Rattle.mps_reader.specs.Internal.Drafted.{drafted_column_faults, drafted_row_names}
 use Rattle.mps_reader.specs.Internal.Drafted.{drafted_column_names}
-use Rattle.mps_reader.specs.Internal.Finished.{IsDrafted, IsFinished, IsLimited}
+use Rattle.mps_reader.specs.Internal.DraftModels.{IsDrafted, IsFinished, IsLimited}
 use Rattle.mps_reader.specs.Internal.Progress.{Stands, ColumnStands, section_word, kind_word, upper_said}
 use Rattle.mps_reader.proofs.WrittenLaws.{entries_below, entries_within, written_for_below, coefs_ordered}
 use Rattle.mps_reader.proofs.FaultLaws.{first_later}

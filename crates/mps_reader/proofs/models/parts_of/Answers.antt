@@ -10,8 +10,8 @@ use Rattle.ip_defs.specs.declared.programs.Row.{Row}
 use Rattle.mps_reader.specs.declared.draft.RowDraft.{RowDraft}
 use Rattle.mps_reader.specs.Internal.Clamps.{clamped, clamped_column, clamped_row}
 use Rattle.mps_reader.specs.Internal.Drafted.{drafted_columns, drafted_rows, drafted_decimals, drafted_row_names, drafted_column_names}
-use Rattle.mps_reader.proofs.FinishLaws.{mapped_at}
-use Rattle.mps_reader.proofs.finish.parts_of.Goals as goal
+use Rattle.mps_reader.proofs.ModelListLaws.{mapped_at}
+use Rattle.mps_reader.proofs.models.parts_of.Goals as goal
 
 pub returns : goal.returns
 returns c name r named at =

@@ -9,17 +9,17 @@ ghost use Rattle.mps_reader.specs.Internal.Below.{AreRowsBelow, AreWithin, IsRow
 ghost use Rattle.mps_reader.specs.Internal.Clamps.{clamped as clamped_of, clamped_parts};
 ghost use Rattle.mps_reader.specs.Internal.Drafted.{AnswersFaults, drafted_column_faults, drafted_model, is_end as is_end_of};
 ghost use Rattle.mps_reader.specs.Internal.Drafted.{drafted_row_names};
-ghost use Rattle.mps_reader.specs.Internal.Finished.{HasCounts, IsDrafted, IsFinished, IsLimited, IsMade};
+ghost use Rattle.mps_reader.specs.Internal.DraftModels.{HasCounts, IsDrafted, IsFinished, IsLimited, IsMade};
 ghost use Rattle.mps_defs.specs.TextModels.{IsHow};
 ghost use Rattle.mps_reader.specs.Internal.Progress.{Stands};
 ghost use Rattle.mps_reader.specs.declared.draft.RowDraft.{RowDraft};
 
 use crate::clamps::clamped;
 use crate::column_list::column_list;
+use crate::column_rules::{Rule, check_columns};
 use crate::draft::{Draft, RowDraft};
 use crate::row_list::{NO_NUMBER, decimals_of, name_of, row_list};
 use crate::sections::Section;
-use crate::whole::{Rule, check_columns};
 use decimals::units;
 use ip_defs::{Limit, Listed, Parts, What};
 use ip_model::{IntModel, make};
@@ -80,7 +80,9 @@ fn parts_of(alloc: Global, draft: &Draft, objective: usize, how: How) -> Result<
     requires counts { HasCounts draft.now }
     requires below { AreRowsBelow draft.now.rows.rows.items }
     requires objective { objective < length draft.now.rows.rows.items }
-    ensures { (name : List ℕ) (r : RowDraft) → slice_get (drafted_row_names draft.now) objective ≡ Some name → slice_get draft.now.rows.rows.items objective ≡ Some r → IfOk result (λ m. m ≡ clamped_parts (drafted_model draft.now how name r)) }
+    ensures { (name : List ℕ) (r : RowDraft) → slice_get (drafted_row_names draft.now) objective ≡ Some name
+        → slice_get draft.now.rows.rows.items objective ≡ Some r
+        → IfOk result (λ m. m ≡ clamped_parts (drafted_model draft.now how name r)) }
 {
     let row = &draft.rows.rows[objective];
     let names = draft.rows.names.as_slice();
@@ -125,8 +127,10 @@ fn model_within(
     requires counts { HasCounts draft.now }
     requires below { length draft.now.columns.columns.items ≤ 4096 → AreRowsBelow draft.now.rows.rows.items }
     requires objective { objective < length draft.now.rows.rows.items }
-    requires shaped { (name : List ℕ) × (r : RowDraft) × (slice_get (drafted_row_names draft.now) objective ≡ Some name) × (slice_get draft.now.rows.rows.items objective ≡ Some r) × IsWellShaped (clamped_parts (drafted_model draft.now how name r)) }
-    ensures { (name : List ℕ) (r : RowDraft) → slice_get (drafted_row_names draft.now) objective ≡ Some name → slice_get draft.now.rows.rows.items objective ≡ Some r → IsLimited (drafted_model draft.now how name r) result }
+    requires shaped { (name : List ℕ) × (r : RowDraft) × (slice_get (drafted_row_names draft.now) objective ≡ Some name)
+        × (slice_get draft.now.rows.rows.items objective ≡ Some r) × IsWellShaped (clamped_parts (drafted_model draft.now how name r)) }
+    ensures { (name : List ℕ) (r : RowDraft) → slice_get (drafted_row_names draft.now) objective ≡ Some name
+        → slice_get draft.now.rows.rows.items objective ≡ Some r → IsLimited (drafted_model draft.now how name r) result }
 {
     if draft.columns.columns.len() > MOST_COLUMNS {
         return Err(MpsError::Limit {
@@ -153,8 +157,10 @@ fn model_with(
     requires counts { HasCounts draft.now }
     requires below { length draft.now.columns.columns.items ≤ 4096 → AreRowsBelow draft.now.rows.rows.items }
     requires objective { objective < length draft.now.rows.rows.items }
-    requires shaped { (name : List ℕ) × (r : RowDraft) × (slice_get (drafted_row_names draft.now) objective ≡ Some name) × (slice_get draft.now.rows.rows.items objective ≡ Some r) × IsWellShaped (clamped_parts (drafted_model draft.now how name r)) }
-    ensures { (name : List ℕ) (r : RowDraft) → slice_get (drafted_row_names draft.now) objective ≡ Some name → slice_get draft.now.rows.rows.items objective ≡ Some r → IsDrafted draft.now how name r result }
+    requires shaped { (name : List ℕ) × (r : RowDraft) × (slice_get (drafted_row_names draft.now) objective ≡ Some name)
+        × (slice_get draft.now.rows.rows.items objective ≡ Some r) × IsWellShaped (clamped_parts (drafted_model draft.now how name r)) }
+    ensures { (name : List ℕ) (r : RowDraft) → slice_get (drafted_row_names draft.now) objective ≡ Some name
+        → slice_get draft.now.rows.rows.items objective ≡ Some r → IsDrafted draft.now how name r result }
 {
     match check_draft(alloc, draft, how) {
         Ok(()) => model_within(alloc, draft, objective, how),

@@ -9,7 +9,7 @@ use Rattle.mps_defs.specs.declared.reading.MpsError.TheVariants as Out
 use Rattle.mps_reader.specs.Internal.Progress.{Stands}
 use Rattle.mps_reader.proofs.FaultLaws.{read_model, read_fault}
 use Rattle.mps_reader.proofs.UncrossedLaws.{answer_uncrossed}
-use Rattle.mps_reader.proofs.reading.read.Goals as goal
+use Rattle.mps_reader.proofs.reader.read.Goals as goal
 
 pub returns-in-Ok-draft_of-clause-model : goal.returns-in-Ok-draft_of-clause-model
 returns-in-Ok-draft_of-clause-model c =

@@ -2,12 +2,12 @@ use Rattle.std.proofs.Common.{sym, ap, ◌∙◌, ◌≡◌, ◌++◌, List, map
 use Rattle.std.specs.Prelude.{string_bytes, None}
 use Rattle.ip_defs.specs.Lists.{first_of}
 use Rattle.mps_defs.specs.declared.reading.MpsError.{MpsError}
-use Rattle.mps_reader.specs.declared.whole.Rule.{Rule}
-use Rattle.mps_reader.specs.declared.whole.Rule.TheVariants.{Integer, Bounded, NotNegative}
+use Rattle.mps_reader.specs.declared.column_rules.Rule.{Rule}
+use Rattle.mps_reader.specs.declared.column_rules.Rule.TheVariants.{Integer, Bounded, NotNegative}
 use Rattle.mps_defs.specs.Faults.{IsFirst}
 use Rattle.mps_reader.specs.Internal.Drafted.{AnswersFaults, asked, column_faults, drafted_column_names}
 use Rattle.mps_reader.proofs.FaultLaws.{first_here, first_later, answers_later}
-use Rattle.mps_reader.proofs.finish.check_draft.Goals as goal
+use Rattle.mps_reader.proofs.models.check_draft.Goals as goal
 
 pub returns-in-Err : goal.returns-in-Err
 returns-in-Err c =

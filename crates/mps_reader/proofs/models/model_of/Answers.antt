@@ -1,8 +1,8 @@
 use Rattle.std.proofs.Common.{sym, ap, ◌∙◌, ◌≡◌, false, true}
 use Rattle.std.specs.List.{list_any}
 use Rattle.mps_reader.specs.Internal.Drafted.{is_end}
-use Rattle.mps_reader.proofs.WholeLaws.{unended_is, aimless_is, finished_is, objective_there, objective_shaped, rows_below}
-use Rattle.mps_reader.proofs.finish.model_of.Goals as goal
+use Rattle.mps_reader.proofs.DraftModelLaws.{unended_is, aimless_is, finished_is, objective_there, objective_shaped, rows_below}
+use Rattle.mps_reader.proofs.models.model_of.Goals as goal
 
 pub returns-then-not-has_end : goal.returns-then-not-has_end
 returns-then-not-has_end c ls s =

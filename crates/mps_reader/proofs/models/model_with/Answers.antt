@@ -1,5 +1,5 @@
-use Rattle.mps_reader.proofs.WholeLaws.{drafted_is}
-use Rattle.mps_reader.proofs.finish.model_with.Goals as goal
+use Rattle.mps_reader.proofs.DraftModelLaws.{drafted_is}
+use Rattle.mps_reader.proofs.models.model_with.Goals as goal
 
 pub returns-in-Ok : goal.returns-in-Ok
 returns-in-Ok c name r named at =

@@ -3,7 +3,7 @@ use Rattle.std.specs.Prelude.{string_bytes}
 use Rattle.ip_defs.specs.Limits.{IsWellShaped}
 use Rattle.mps_reader.specs.Internal.Drafted.{drafted_model, drafted_decimals, drafted_column_names}
 use Rattle.mps_reader.proofs.LimitedLaws.{count_columns, many_columns, limited_is}
-use Rattle.mps_reader.proofs.finish.model_within.Goals as goal
+use Rattle.mps_reader.proofs.models.model_within.Goals as goal
 use Rattle.std.proofs.lemmas.List.{length-map}
 
 pub returns-then-len-gt-MOST_COLUMNS : goal.returns-then-len-gt-MOST_COLUMNS

@@ -6,7 +6,7 @@ use Rattle.mps_defs.specs.Faults.{IsFirst}
 use Rattle.mps_reader.specs.declared.draft.ColumnDraft.{ColumnDraft}
 use Rattle.mps_reader.specs.Internal.Drafted.{asked}
 use Rattle.mps_reader.proofs.FaultLaws.{faults_from, first_here, first_later}
-use Rattle.mps_reader.proofs.whole.check_columns.Goals as goal
+use Rattle.mps_reader.proofs.column_rules.check_columns.Goals as goal
 
 abbrev no_column : ColumnDraft
 no_column = record { is_integer = false; lower = None; upper = None }

@@ -60,7 +60,7 @@ least-drop m k =
     least-same (has_decimals (m * 10) (suc k)) (has_decimals m k) 0 (suc k) (has_decimals-ten m k)
     ∙ least-more (has_decimals m k) 0 k (passes_at_k m k)
 
--- where no place passes before it, the last one is the least
+-- where no place before it will do, the last one is the least
 pub least-none : (g : ℕ → Bool) (i n : ℕ) → ((d : ℕ) → d < n → g (d + i) ≡ false) → least_from g i n ≡ n + i
 least-none g i zero h = omega arith
 least-none g i (suc n) h =
@@ -71,7 +71,7 @@ least-none g i (suc n) h =
     let sum : n + suc i ≡ suc n + i = omega arith in
     ap (λ b. if b then i else least_from g (suc i) n) here ∙ rest ∙ sum
 
--- a number that does not end with a zero has a rest by each power of ten
+-- a number that does not end with a zero leaves a remainder by each power of ten
 pub low_digit : (n j : ℕ) → (n % 10 ≡ 0 → ⊥) → 0 < n % 10 ^ suc j
 low_digit n j odd =
     let parts = mod-mul n (ten_positive j) (ten_above) in

@@ -1,6 +1,6 @@
--- Digits as numbers, one more at a time; the digits of a rest; and the number of a fraction in its least decimals.
-use Rattle.std.specs.Prelude.{◌≡◌, ℕ, zero, suc, ◌+◌, ◌-◌, ◌*◌, ◌^◌, ◌<◌, ◌≤◌, Bool, true, false, ◌&&◌, ◌||◌, not, ◌==◌, ◌/◌, ◌%◌,
-    if◌then◌else◌, nat_le, List, [], ◌∷◌, ◌++◌, length, take, drop, cond, ℤ, pos, negsuc, IfSome, ◌*ℤ◌}
+-- Digits as numbers, one more at a time; the digits of a remainder; and the number of a fraction in its fewest decimals.
+use Rattle.std.specs.Prelude.{◌≡◌, ℕ, zero, suc, ◌+◌, ◌-◌, ◌*◌, ◌^◌, ◌<◌, ◌≤◌, Bool, true, false, ◌&&◌, ◌||◌, not, ◌==◌, ◌/◌, ◌%◌}
+use Rattle.std.specs.Prelude.{if◌then◌else◌, nat_le, List, [], ◌∷◌, ◌++◌, length, take, drop, cond, ℤ, pos, negsuc, IfSome, ◌*ℤ◌}
 use Rattle.std.specs.List.{list_all, list_any, before_first, after_first, position_or_len}
 use Rattle.std.specs.Int.{w128}
 use Rattle.std.specs.Int.RustNames.{unsigned_abs, FitsSigned}
@@ -12,11 +12,11 @@ use Rattle.std.proofs.lemmas.List.{take_more, length-take, length-drop}
 use Rattle.std.proofs.lemmas.Int.{unsigned_abs-mul, ints}
 use Rattle.decimals.proofs.DecimalLaws.{least_units, units-none, units-keep, units-drop, least-keep, least-drop}
 use Rattle.mps_defs.specs.Lists.{where_true}
-use Rattle.mps_defs.specs.Numbers.{is_number, is_infinity, is_minus, number_of, fraction_of, is_digit, is_point, is_exponent_mark,
-    is_exponent, is_numeral, without_sign, whole_part, rest_part, exponent_part, value_from, places, signed, number_from, least_decimals,
-    over_tens}
+use Rattle.mps_defs.specs.Numbers.{is_number, is_infinity, is_minus, number_of, fraction_of, is_digit, is_point, is_exponent_mark}
+use Rattle.mps_defs.specs.Numbers.{is_exponent, is_numeral, without_sign, whole_part, fraction_part, exponent_part, value_from, places}
+use Rattle.mps_defs.specs.Numbers.{signed, number_from, least_decimals, over_tens}
 use Rattle.decimals.specs.Decimals.{IsBelowLarge}
-use Rattle.mps_defs.specs.declared.texts.Number.TheVariants.{Dec, Large}
+use Rattle.mps_defs.specs.declared.reading.Number.TheVariants.{Dec, Large}
 use Rattle.ip_defs.proofs.BoolLaws.{both_true}
 use Rattle.mps_defs.proofs.NumberLaws.{ten_positive, signed_size}
 
@@ -46,30 +46,30 @@ ten_more i = rw add-one (pow-suc 10 i)
 pub tens_rise : (i k : ℕ) → i ≤ k → 10 ^ i ≤ 10 ^ k
 tens_rise i k l = pow-le-pow_right (omega arith) l
 
--- room for one more digit
+-- one more digit fits
 pub digit_room : (s v i n d : ℕ) → v + 1 ≤ (s + 1) * 10 ^ i → i < n → d ≤ 9
     → (10 * v + d + 1 ≤ (s + 1) * 10 ^ (i + 1)) × ((s + 1) * 10 ^ (i + 1) ≤ (s + 1) * 10 ^ n)
 digit_room s v i n d h l small =
     let more : (s + 1) * 10 ^ (i + 1) ≡ (s + 1) * 10 ^ i * 10 = ap (λ y. (s + 1) * y) (ten_more i) ∙ sym (mul_assoc (s + 1) (10 ^ i) 10) in
     (omega arith, mul-le-mul_left (s + 1) (tens_rise (i + 1) n (omega arith)))
 
--- the digits of a rest, one place at a time
-pub places_step : (k rest : ℕ) → (rest ≡ 0 → ⊥) → places (suc k) rest ≡ (48 + rest / 10 ^ k) ∷ places k (rest % 10 ^ k)
-places_step k rest some = by (rest == 0) refl
+-- the digits of a remainder, one place at a time
+pub places_step : (k remainder : ℕ) → (remainder ≡ 0 → ⊥) → places (suc k) remainder ≡ (48 + remainder / 10 ^ k) ∷ places k (remainder % 10 ^ k)
+places_step k remainder some = by (remainder == 0) refl
   where
-    by : (t : Bool) → (rest == 0) ≡ t
-        → (if t then [] else (48 + rest / 10 ^ k) ∷ places k (rest % 10 ^ k)) ≡ (48 + rest / 10 ^ k) ∷ places k (rest % 10 ^ k)
-    by true e = absurd (some (eqb-true rest 0 e))
+    by : (t : Bool) → (remainder == 0) ≡ t
+        → (if t then [] else (48 + remainder / 10 ^ k) ∷ places k (remainder % 10 ^ k)) ≡ (48 + remainder / 10 ^ k) ∷ places k (remainder % 10 ^ k)
+    by true e = absurd (some (eqb-true remainder 0 e))
     by false e = refl
 
 -- a digit is below ten
-pub digit_below : (k rest : ℕ) → rest < 10 ^ (k + 1) → rest / 10 ^ k < 10
-digit_below k rest l = div_below rest (10 ^ k) 10 (ten_positive k) (let e = ten_more k in let s = mul_comm (10 ^ k) 10 in omega arith)
+pub digit_below : (k remainder : ℕ) → remainder < 10 ^ (k + 1) → remainder / 10 ^ k < 10
+digit_below k remainder l = div_below remainder (10 ^ k) 10 (ten_positive k) (let e = ten_more k in let s = mul_comm (10 ^ k) 10 in omega arith)
 
--- a number of so many places has a place where it is not 0
-pub left_positive : (left rest : ℕ) → (rest ≡ 0 → ⊥) → rest < 10 ^ left → left ≡ suc (left - 1)
-left_positive zero rest some l = absurd (some (omega arith))
-left_positive (suc k) rest some l = omega arith
+-- a number below 10^left that is not 0 has a place left
+pub left_positive : (left remainder : ℕ) → (remainder ≡ 0 → ⊥) → remainder < 10 ^ left → left ≡ suc (left - 1)
+left_positive zero remainder some l = absurd (some (omega arith))
+left_positive (suc k) remainder some l = omega arith
 
 -- what stands before and after a first place is no longer than all
 pub parts_short : (p : ℕ → Bool) (xs : List ℕ) → length (before_first p xs) + length (after_first p xs) ≤ length xs
@@ -80,7 +80,7 @@ parts_short p xs =
     omega arith
 
 -- the digits of a numeral are no more than its characters
-pub digits_short : (body : List ℕ) → length (whole_part body) + length (rest_part body) ≤ length body
+pub digits_short : (body : List ℕ) → length (whole_part body) + length (fraction_part body) ≤ length body
 digits_short body =
     let number = parts_short is_point (before_first is_exponent_mark body) in
     let all = parts_short is_exponent_mark body in
@@ -102,8 +102,8 @@ pub exponent_digits : (body : List ℕ) → is_numeral body ≡ true
     → (list_all is_digit (without_sign (exponent_part body)) ≡ true) × (length (without_sign (exponent_part body)) ≤ 4)
 exponent_digits body e =
     by (list_any is_exponent_mark body) refl
-    (both_true (list_all is_digit (whole_part body) && list_all is_digit (rest_part body) && nat_le 1
-    (length (whole_part body ++ rest_part body))) (not (list_any is_exponent_mark body) || is_exponent (exponent_part body)) e).1
+    (both_true (list_all is_digit (whole_part body) && list_all is_digit (fraction_part body) && nat_le 1
+    (length (whole_part body ++ fraction_part body))) (not (list_any is_exponent_mark body) || is_exponent (exponent_part body)) e).1
   where
     by : (t : Bool) → list_any is_exponent_mark body ≡ t → (not t || is_exponent (exponent_part body)) ≡ true
         → (list_all is_digit (without_sign (exponent_part body)) ≡ true) × (length (without_sign (exponent_part body)) ≤ 4)
@@ -149,7 +149,7 @@ zero_dropped n (suc k) e l =
       ap (least_decimals (n / 10)) less ∙ sym (least-drop (n / 10) k) ∙ ap (λ y. least_decimals y (suc k)) ten,
     )
 
--- the size of a product with a power of ten
+-- how large a product with a power of ten can be
 pub scaled_size : (units : ℤ) (written wanted : ℕ) → unsigned_abs units < 10 ^ (20 + written) → written ≤ wanted → wanted ≤ 9
     → unsigned_abs (units *ℤ pos (10 ^ (wanted - written))) < 10 ^ 29
 scaled_size units written wanted h l most =
@@ -177,29 +177,29 @@ more_units_fit units written wanted more below fits most is = by (nat_le written
         let none : more ≡ 0 = omega arith in
         rw (none, one) fits
 
--- one more digit of a rest is written
-pub place_written : (all before now encoded : List ℕ) (left rest place whole below letter : ℕ) → all ≡ before ++ places left rest
-    → (rest ≡ 0 → ⊥) → rest < 10 ^ left → place ≡ left - 1 → whole ≡ rest / 10 ^ place → below ≡ rest % 10 ^ place → letter ≡ 48 + whole
+-- one more digit of a remainder is written
+pub place_written : (all before now encoded : List ℕ) (left remainder place whole below letter : ℕ) → all ≡ before ++ places left remainder
+    → (remainder ≡ 0 → ⊥) → remainder < 10 ^ left → place ≡ left - 1 → whole ≡ remainder / 10 ^ place → below ≡ remainder % 10 ^ place → letter ≡ 48 + whole
     → (letter < 128 → encoded ≡ letter ∷ []) → now ≡ before ++ encoded → (all ≡ now ++ places (left - 1) below) × (below < 10 ^ (left - 1))
-place_written all before now encoded left rest place whole below letter is some small at-place is-whole is-below is-letter ascii pushed =
+place_written all before now encoded left remainder place whole below letter is some small at-place is-whole is-below is-letter ascii pushed =
     let k = left - 1 in
-    let positive = left_positive left rest some small in
-    let step : places left rest ≡ (48 + rest / 10 ^ k) ∷ places k (rest % 10 ^ k) =
-    ap (λ (n : ℕ). places n rest) positive ∙ places_step k rest some in
+    let positive = left_positive left remainder some small in
+    let step : places left remainder ≡ (48 + remainder / 10 ^ k) ∷ places k (remainder % 10 ^ k) =
+    ap (λ (n : ℕ). places n remainder) positive ∙ places_step k remainder some in
     let tens = ap (λ (n : ℕ). 10 ^ n) at-place in
-    let whole' : whole ≡ rest / 10 ^ k = is-whole ∙ ap (λ (n : ℕ). rest / n) tens in
-    let below' : below ≡ rest % 10 ^ k = is-below ∙ ap (λ (n : ℕ). rest % n) tens in
+    let whole' : whole ≡ remainder / 10 ^ k = is-whole ∙ ap (λ (n : ℕ). remainder / n) tens in
+    let below' : below ≡ remainder % 10 ^ k = is-below ∙ ap (λ (n : ℕ). remainder % n) tens in
     let size : 10 ^ left ≡ 10 ^ (k + 1) = let e : left ≡ k + 1 = omega arith in ap (λ (n : ℕ). 10 ^ n) e in
-    let digit = digit_below k rest (omega arith) in
-    let letter' : letter ≡ 48 + rest / 10 ^ k = omega arith in
+    let digit = digit_below k remainder (omega arith) in
+    let letter' : letter ≡ 48 + remainder / 10 ^ k = omega arith in
     let code = ascii (omega arith) in
-    let tail : places left rest ≡ letter ∷ places k below =
-    step ∙ ap (λ (b : ℕ). b ∷ places k (rest % 10 ^ k)) (sym letter') ∙ ap (λ (r : ℕ). letter ∷ places k r) (sym below') in
+    let tail : places left remainder ≡ letter ∷ places k below =
+    step ∙ ap (λ (b : ℕ). b ∷ places k (remainder % 10 ^ k)) (sym letter') ∙ ap (λ (r : ℕ). letter ∷ places k r) (sym below') in
     let here : before ++ (letter ∷ places k below) ≡ now ++ places k below =
     sym (append_assoc before (letter ∷ []) (places k below))
     ∙ ap (λ (e : List ℕ). (before ++ e) ++ places k below) (sym code)
     ∙ ap (λ (e : List ℕ). e ++ places k below) (sym pushed) in
-    let room = ten_positive k in
+    let positive = ten_positive k in
     (is ∙ ap (λ (e : List ℕ). before ++ e) tail ∙ here, omega arith)
 
 -- a fraction below 10^20 in its least decimals
@@ -213,7 +213,7 @@ least_units_below n k small =
     let joined = ap (λ (y : ℕ). 10 ^ y) sum in
     div_below (n * 10 ^ d) (10 ^ k) (10 ^ (20 + d)) (ten_positive k) (omega arith)
 
--- a number that is not Large is below 10^20 in size
+-- a number that is not Large has an absolute value below 10^20
 pub number_below : (negative : Bool) (n k : ℕ) → IsBelowLarge (number_from negative n k)
 number_below negative n k = by (nat_le (10 ^ (20 + k)) n) refl
   where
@@ -226,13 +226,13 @@ number_below negative n k = by (nat_le (10 ^ (20 + k)) n) refl
         let below = least_units_below n k small in
         omega arith
 
--- a number of a text that is not Large is below 10^20 in size
+-- so has a number of a text that is not Large
 pub read_below : (text : List ℕ) → IfSome (number_of text) IsBelowLarge
 read_below text = by (is_number text) (is_infinity (without_sign text))
   where
     by : (t u : Bool)
         → IfSome (where_true t (if u then Large (is_minus text)
-            else number_from (is_minus text) (fraction_of (without_sign text)).0 (fraction_of (without_sign text)).1)) IsBelowLarge
+        else number_from (is_minus text) (fraction_of (without_sign text)).0 (fraction_of (without_sign text)).1)) IsBelowLarge
     by false u = tt
     by true true = tt
     by true false = number_below (is_minus text) (fraction_of (without_sign text)).0 (fraction_of (without_sign text)).1
@@ -250,10 +250,10 @@ zero_reached (suc k) =
 pub zero_fraction : (negative : Bool) (n k : ℕ) → n ≡ 0 → Dec (pos 0) 0 ≡ number_from negative n k
 zero_fraction negative n k e =
     let nothing = zero_reached k in
-    let room = ten_positive (20 + k) in
+    let positive = ten_positive (20 + k) in
     let none = zero_reached 0 in
     unsigned negative
-    ∙ least_reached negative 0 k 0 0 room (none.0 ∙ sym nothing.0) (none.1 ∙ sym nothing.1) none.0 none.1
+    ∙ least_reached negative 0 k 0 0 positive (none.0 ∙ sym nothing.0) (none.1 ∙ sym nothing.1) none.0 none.1
     ∙ ap (λ (m : ℕ). number_from negative m k) (sym e)
   where
     unsigned : (b : Bool) → Dec (pos 0) 0 ≡ Dec (signed b 0) 0

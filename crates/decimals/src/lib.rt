@@ -1,4 +1,4 @@
-//! The exact numbers of texts: how one is read, how it is counted in units, and how units are written.
+//! Exact decimal numbers: reading them, counting them in units of a power of ten, and writing units.
 #![tactic(auto)]
 
 mod numbers;
@@ -6,11 +6,11 @@ mod numerals;
 mod scales;
 #[cfg(test)]
 mod tests;
-mod texts;
+mod writing;
 
 pub use ip_defs::Memory;
 pub use mps_defs::Number;
 pub use numbers::read_number;
 pub use numerals::{are_digits, value_from};
 pub use scales::{scaled, units};
-pub use texts::decimal_text;
+pub use writing::decimal_text;

@@ -1,6 +1,11 @@
+//! The parts of a numeral: what stands before and after its point and its exponent mark.
+
 ghost use Rattle.std.specs.Prelude.{◌≡◌, ◌+◌, ◌*◌, ◌^◌, ◌<◌, ◌≤◌, true, length, position};
 ghost use Rattle.std.specs.List.{list_all, list_any, before_first, after_first};
-ghost use Rattle.mps_defs.specs.Numbers.{is_digit, is_point, is_exponent_mark, is_minus as is_minus_of, without_sign as without_sign_of, value_from as value_from_of, is_exponent as is_exponent_of, whole_part as whole_part_of, rest_part as rest_part_of, exponent_part as exponent_part_of, is_numeral as is_numeral_of, is_infinity as is_infinity_of};
+ghost use Rattle.mps_defs.specs.Numbers.{is_digit, is_point, is_exponent_mark, is_minus as is_minus_of, without_sign as without_sign_of};
+ghost use Rattle.mps_defs.specs.Numbers.{value_from as value_from_of, is_exponent as is_exponent_of, whole_part as whole_part_of};
+ghost use Rattle.mps_defs.specs.Numbers.{fraction_part as fraction_part_of, exponent_part as exponent_part_of, is_numeral as is_numeral_of};
+ghost use Rattle.mps_defs.specs.Numbers.{is_infinity as is_infinity_of};
 
 /// The text without one sign at its start.
 pub fn without_sign(text: &[u8]) -> &[u8]
@@ -8,7 +13,11 @@ pub fn without_sign(text: &[u8]) -> &[u8]
 {
     match text {
         [] => text,
-        [b, rest @ ..] => if *b == b'+' || *b == b'-' { rest } else { text },
+        [b, unsigned @ ..] => if *b == b'+' || *b == b'-' {
+            unsigned
+        } else {
+            text
+        },
     }
 }
 
@@ -98,8 +107,8 @@ pub fn whole_part(body: &[u8]) -> &[u8]
 }
 
 /// The digits after the point of a numeral without its sign.
-pub fn rest_part(body: &[u8]) -> &[u8]
-    ensures { result.now ≡ rest_part_of body.now }
+pub fn fraction_part(body: &[u8]) -> &[u8]
+    ensures { result.now ≡ fraction_part_of body.now }
 {
     after_point(before_mark(body))
 }
@@ -117,10 +126,10 @@ pub fn is_numeral(body: &[u8]) -> bool
     ensures { result ≡ is_numeral_of body.now }
 {
     let whole = whole_part(body);
-    let rest = rest_part(body);
-    let has_digits = !whole.is_empty() || !rest.is_empty();
+    let fraction = fraction_part(body);
+    let has_digits = !whole.is_empty() || !fraction.is_empty();
     let has_exponent = !has_mark(body) || is_exponent(exponent_part(body));
-    are_digits(whole) && are_digits(rest) && has_digits && has_exponent
+    are_digits(whole) && are_digits(fraction) && has_digits && has_exponent
 }
 
 /// Whether the text is a word for infinity.
@@ -130,10 +139,10 @@ pub fn is_infinity(body: &[u8]) -> bool
     body.eq_ignore_ascii_case(b"inf") || body.eq_ignore_ascii_case(b"infinity")
 }
 
-/// What digits stand for, after a number that stands before them.
+/// The number that digits write after those of `start`.
 pub fn value_from(start: u128, digits: &[u8]) -> u128
     requires digits { list_all is_digit digits.now ≡ true }
-    requires room { (start + 1) * 10 ^ length digits.now < 2 ^ 128 }
+    requires fits { (start + 1) * 10 ^ length digits.now < 2 ^ 128 }
     ensures value { result ≡ value_from_of start digits.now }
     ensures small { result + 1 ≤ (start + 1) * 10 ^ length digits.now }
 {

@@ -2,7 +2,7 @@
 use Rattle.std.specs.Prelude.{◌≡◌, ℕ, List, [], ◌∷◌, ◌++◌, codes, refl, None, Some, pos}
 use Rattle.std.specs.Fmt.{digits}
 use Rattle.mps_defs.specs.Faults.{model_of}
-use Rattle.mps_defs.specs.declared.texts.How.{How}
+use Rattle.mps_defs.specs.declared.reading.How.{How}
 use Rattle.ipsens_core.specs.AnswerTexts.{answer_lines, budget_lines}
 
 abbrev plain_how : How

@@ -27,11 +27,11 @@ use Rattle.std.specs.Prelude.{
 }
 use Rattle.std.specs.Fmt.{signed_decimal}
 use Rattle.std.proofs.Common.{arith, ap, sym, ◌∙◌, append_assoc}
-use Rattle.mps_defs.specs.Numbers.{decimal_text, size_text}
+use Rattle.mps_defs.specs.Numbers.{decimal_text, unsigned_text}
 use Rattle.ip_defs.specs.Program.{at}
 use Rattle.ipsens_core.specs.RefusalTexts.{on_column, refused_model, side_text}
 use Rattle.ipsens_core.specs.AnswerTexts.{value_line}
-use Rattle.mps_defs.specs.declared.texts.Side.TheVariants.{Lower, Upper}
+use Rattle.mps_defs.specs.declared.reading.Side.TheVariants.{Lower, Upper}
 use Rattle.ip_defs.specs.declared.programs.Column.{Column}
 use Rattle.std.proofs.lemmas.List.{append-nil}
 
@@ -45,7 +45,7 @@ values_more (d ∷ cs) (x ∷ xs) (suc j) c e l = ap (λ bs. value_line (d, x) +
     ∙ sym (append_assoc (value_line (d, x)) (flat_map value_line (take j (zip cs xs))) (value_line (c, at xs j)))
 
 -- a whole amount is written without decimals
-size_of_whole : (n : ℕ) → size_text n 0 ≡ decimal n
+size_of_whole : (n : ℕ) → unsigned_text n 0 ≡ decimal n
 size_of_whole n =
     let whole : n / 1 ≡ n = omega arith in
     let rest : n % 1 ≡ 0 = omega arith in

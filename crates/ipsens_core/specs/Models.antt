@@ -3,7 +3,7 @@ use Rattle.std.specs.Prelude.{◌≡◌, ℕ, List, codes}
 use Rattle.std.specs.Option.{MatchOption}
 use Rattle.ip_defs.specs.declared.programs.Parts.{Parts}
 use Rattle.mps_defs.specs.Faults.{mps_fault, model_of}
-use Rattle.mps_defs.specs.declared.texts.How.{How}
+use Rattle.mps_defs.specs.declared.reading.How.{How}
 use Rattle.ipsens_core.specs.Answers.{Answer, says, ReadsFile, ReadsNoMore}
 use Rattle.ipsens_core.specs.Reads.{Reads}
 use Rattle.ipsens_core.specs.RefusalTexts.{refusal_text, refused_model}

@@ -1,12 +1,12 @@
 -- The printed text of the refusal of a model file.
 use Rattle.std.specs.Prelude.{ℕ, List, [], ◌++◌, codes, decimal}
 use Rattle.ip_defs.specs.Program.{cost}
-use Rattle.mps_defs.specs.declared.texts.Side.{Side}
-use Rattle.mps_defs.specs.declared.texts.Side.TheVariants.{Lower, Upper}
+use Rattle.mps_defs.specs.declared.reading.Side.{Side}
+use Rattle.mps_defs.specs.declared.reading.Side.TheVariants.{Lower, Upper}
 use Rattle.ip_defs.specs.declared.limits.What as What
 use Rattle.ip_defs.specs.declared.limits.What.TheVariants as Whats
-use Rattle.mps_defs.specs.declared.texts.MpsError.{MpsError}
-use Rattle.mps_defs.specs.declared.texts.MpsError.TheVariants.{
+use Rattle.mps_defs.specs.declared.reading.MpsError.{MpsError}
+use Rattle.mps_defs.specs.declared.reading.MpsError.TheVariants.{
   NotUtf8,
   SectionOrder,
   UnknownSection,

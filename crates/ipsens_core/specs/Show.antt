@@ -3,7 +3,7 @@ use Rattle.std.specs.Prelude.{◌≡◌, ℕ, List, codes}
 use Rattle.std.specs.Bool.{MatchBool}
 use Rattle.ip_defs.specs.declared.programs.Parts.{Parts}
 use Rattle.mps_defs.specs.CanonicalText.{canonical_text, is_printable}
-use Rattle.mps_defs.specs.declared.texts.How.{How}
+use Rattle.mps_defs.specs.declared.reading.How.{How}
 use Rattle.ipsens_core.specs.Answers.{Answer, says, ReadsNoMore}
 use Rattle.ipsens_core.specs.Models.{ReadsModel, refuses_model}
 use Rattle.ipsens_core.specs.Reads.{Reads}

@@ -2,7 +2,7 @@
 use Rattle.std.specs.Prelude.{◌≡◌, ℕ, List, Option, None, Some, codes, ℤ}
 use Rattle.ip_defs.specs.declared.programs.Parts.{Parts}
 use Rattle.ip_model.specs.Sizes.{allowance}
-use Rattle.mps_defs.specs.declared.texts.How.{How}
+use Rattle.mps_defs.specs.declared.reading.How.{How}
 use Rattle.proof_tree.specs.declared.claims.Claim.{Claim}
 use Rattle.proof_tree.specs.declared.claims.Claim.TheVariants as Claims
 use Rattle.branching.specs.declared.budgets.BudgetWhat.{BudgetWhat}

@@ -1,6 +1,6 @@
 -- The columns of a text as more lines come: which came, which begin, and whether markers are in force.
-use Rattle.std.specs.Prelude.{◌≡◌, ℕ, nat_le, Bool, true, false, cond, ◌&&◌, ◌||◌, not, List, [], ◌∷◌, ◌++◌, length, map, filter, bytes_eq,
-    codes}
+use Rattle.std.specs.Prelude.{◌≡◌, ℕ, nat_le, Bool, true, false, cond, ◌&&◌, ◌||◌, not, List, [], ◌∷◌, ◌++◌, length, map, filter, bytes_eq}
+use Rattle.std.specs.Prelude.{codes}
 use Rattle.std.specs.Option.{option_map_or}
 use Rattle.std.proofs.Common.{refl, ap, sym, ◌∙◌, subst}
 use Rattle.std.proofs.lemmas.List.{append-nil, map-append}
@@ -9,8 +9,8 @@ use Rattle.ip_defs.specs.Lists.{when}
 use Rattle.ip_defs.proofs.ListLaws.{filter-append}
 use Rattle.ip_defs.proofs.TextLaws.{text_same}
 use Rattle.mps_defs.specs.Lists.{last_of, with_earlier, is_among}
-use Rattle.mps_defs.specs.Records.{Line, items_of, field, is_marker, in_force, column_lines, column_name, column_names, has_column,
-    is_new_column, first_lines}
+use Rattle.mps_defs.specs.Records.{Line, items_of, field, is_marker, in_force, column_lines, column_name, column_names, has_column}
+use Rattle.mps_defs.specs.Records.{is_new_column, first_lines}
 use Rattle.mps_defs.proofs.ListLaws.{by_last, with_earlier-add, one_kept}
 use Rattle.mps_defs.proofs.LineLaws.{items_of-append}
 

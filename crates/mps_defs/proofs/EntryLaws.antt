@@ -1,6 +1,6 @@
 -- The entries of a section as more lines come, and which of them are kept.
-use Rattle.std.specs.Prelude.{◌≡◌, Bool, true, false, ◌&&◌, ◌||◌, not, ℕ, List, ◌++◌, map, filter, flat_map, find, Option, None, Some,
-    option_map, bytes_eq, codes}
+use Rattle.std.specs.Prelude.{◌≡◌, Bool, true, false, ◌&&◌, ◌||◌, not, ℕ, List, ◌++◌, map, filter, flat_map, find, Option, None, Some}
+use Rattle.std.specs.Prelude.{option_map, bytes_eq, codes}
 use Rattle.std.specs.Option.{option_map_or}
 use Rattle.std.proofs.Common.{ap, sym, ◌∙◌}
 use Rattle.std.proofs.lemmas.Grind.{flat_map-append}
@@ -8,15 +8,15 @@ use Rattle.ip_defs.specs.Lists.{first_of}
 use Rattle.ip_defs.proofs.BoolLaws.{left_true, right_true}
 use Rattle.ip_defs.proofs.TextLaws.{text_same}
 use Rattle.mps_defs.specs.Lists.{is_among}
-use Rattle.mps_defs.specs.Records.{Line, Entry, items_of, row_name, is_free, is_objective, is_dropped_row, is_columns, set_of, entries_of,
-    all_entries, is_kept, is_kept_set}
+use Rattle.mps_defs.specs.Records.{Line, Entry, items_of, row_name, is_free, is_objective, is_dropped_row, is_columns, set_of, entries_of}
+use Rattle.mps_defs.specs.Records.{all_entries, is_kept, is_kept_set}
 use Rattle.mps_defs.proofs.LineLaws.{items_of-append}
 
 pub all_entries-append : (word : List ℕ) (xs ys : List Line) → all_entries word (xs ++ ys) ≡ all_entries word xs ++ all_entries word ys
 all_entries-append word xs ys =
     ap (flat_map entries_of) (items_of-append word xs ys) ∙ flat_map-append entries_of (items_of word xs) (items_of word ys)
 
--- what is kept is told by the lines of ROWS and the first line of the section
+-- the lines of ROWS and the first line of the section decide what is kept
 abbrev pub objective_in : List Line → List ℕ → Bool
 objective_in rows name = option_map_or (bytes_eq name) (option_map row_name (find is_free rows)) false
 

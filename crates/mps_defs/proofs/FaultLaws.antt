@@ -11,8 +11,9 @@ use Rattle.ip_defs.proofs.BoolLaws.{left_true}
 use Rattle.ip_defs.proofs.ListLaws.{none_append, none_when}
 use Rattle.mps_defs.specs.Lists.{after_those, is_among}
 use Rattle.mps_defs.specs.Records.{Line, opening, words_of}
-use Rattle.mps_defs.specs.Faults.{line_faults, item_faults, section_faults, faults_after, all_line_faults, place_of, is_before, may_come}
-use Rattle.mps_defs.specs.declared.texts.MpsError.TheVariants.{SectionOrder, UnknownSection}
+use Rattle.mps_defs.specs.Faults.{line_faults, item_faults, section_faults, faults_after, all_line_faults, section_place, is_before}
+use Rattle.mps_defs.specs.Faults.{may_come}
+use Rattle.mps_defs.specs.declared.reading.MpsError.TheVariants.{SectionOrder, UnknownSection}
 use Rattle.mps_defs.proofs.ListLaws.{after_append}
 
 pub faults_append : (before xs ys : List Line) → faults_after before (xs ++ ys) ≡ faults_after before xs ++ faults_after (before ++ xs) ys
@@ -32,7 +33,7 @@ no_fault_more before l none here = faults-add before l ∙ ap (λ k. k ++ line_f
 -- ---- section lines
 
 -- one has no fault where its word has a place and may come
-pub opening_right : (before : List Line) (n : ℕ) (fields : List (List ℕ)) (word : List ℕ) → is_none (place_of word) ≡ false
+pub opening_right : (before : List Line) (n : ℕ) (fields : List (List ℕ)) (word : List ℕ) → is_none (section_place word) ≡ false
     → may_come (words_of before) word ≡ true → line_faults before (opening n fields word) ≡ []
 opening_right before n fields word here come =
     ap (λ t. when t (UnknownSection n) ++ when (not (may_come (words_of before) word)) (SectionOrder n)) here
@@ -42,7 +43,7 @@ opening_right before n fields word here come =
 pub opening_came : (before : List Line) (l : Line) → l.is_item ≡ false → line_faults before l ≡ []
     → may_come (words_of before) l.section ≡ true
 opening_came before l item e =
-    let known = when (is_none (place_of l.section)) (UnknownSection l.number) in
+    let known = when (is_none (section_place l.section)) (UnknownSection l.number) in
     let order = when (not (may_come (words_of before) l.section)) (SectionOrder l.number) in
     let own : section_faults before l ≡ [] = ap (λ t. if t then item_faults before l else section_faults before l) (sym item) ∙ e in
     let parts = none_append known order own in

@@ -6,3 +6,4 @@ pub mod LineLaws
 pub mod ColumnLaws
 pub mod EntryLaws
 pub mod FaultLaws
+pub mod UncrossedLaws

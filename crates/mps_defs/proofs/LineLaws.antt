@@ -5,17 +5,17 @@ use Rattle.std.proofs.Common.{ap, ◌∙◌}
 use Rattle.std.proofs.lemmas.List.{append-nil, map-append}
 use Rattle.ip_defs.proofs.ListLaws.{filter-append}
 use Rattle.mps_defs.specs.Lists.{last_of}
-use Rattle.mps_defs.specs.Records.{Line, opens, first_field, last_word, items_of, words_of, row_lines}
+use Rattle.mps_defs.specs.Records.{Line, is_section_line, first_field, last_word, items_of, words_of, row_lines}
 use Rattle.mps_defs.proofs.ListLaws.{last_of-add}
 
 -- the section word after one more line
-pub last_word-add : (ps : List (ℕ × List ℕ)) (p : ℕ × List ℕ) → last_word (ps ++ p ∷ []) ≡ (if opens p then first_field p else last_word ps)
-last_word-add ps p = ap (λ l. option_map_or first_field (last_of l) []) (filter-append opens ps (p ∷ [])) ∙ by (opens p)
+pub last_word-add : (ps : List (ℕ × List ℕ)) (p : ℕ × List ℕ) → last_word (ps ++ p ∷ []) ≡ (if is_section_line p then first_field p else last_word ps)
+last_word-add ps p = ap (λ l. option_map_or first_field (last_of l) []) (filter-append is_section_line ps (p ∷ [])) ∙ by (is_section_line p)
   where
-    by : (b : Bool) → option_map_or first_field (last_of (filter opens ps ++ cond b (p ∷ []) [])) []
+    by : (b : Bool) → option_map_or first_field (last_of (filter is_section_line ps ++ cond b (p ∷ []) [])) []
         ≡ (if b then first_field p else last_word ps)
-    by true = ap (λ o. option_map_or first_field o []) (last_of-add (filter opens ps) p)
-    by false = ap (λ l. option_map_or first_field (last_of l) []) (append-nil (filter opens ps))
+    by true = ap (λ o. option_map_or first_field o []) (last_of-add (filter is_section_line ps) p)
+    by false = ap (λ l. option_map_or first_field (last_of l) []) (append-nil (filter is_section_line ps))
 
 -- ---- the words of the section lines
 
@@ -32,9 +32,9 @@ words_stay ls l item =
     ∙ append-nil (words_of ls)
 
 pub words_grow : (ls : List Line) (l : Line) → l.is_item ≡ false → words_of (ls ++ l ∷ []) ≡ words_of ls ++ l.section ∷ []
-words_grow ls l opens =
+words_grow ls l section =
     words_of-append ls (l ∷ [])
-    ∙ ap (λ t. words_of ls ++ map (λ (k : Line). k.section) (cond (not t) (l ∷ []) [])) opens
+    ∙ ap (λ t. words_of ls ++ map (λ (k : Line). k.section) (cond (not t) (l ∷ []) [])) section
 
 -- ---- the data lines of a section
 

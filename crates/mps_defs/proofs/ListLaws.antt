@@ -1,6 +1,6 @@
 -- Lists from their ends, elements with those before each, and what a list that a function is applied to has at a place.
-use Rattle.std.specs.Prelude.{◌≡◌, ℕ, zero, suc, ◌<◌, Bool, true, false, cond, ◌||◌, List, [], ◌∷◌, ◌++◌, length, map, filter, Option,
-    None, Some, option_map, slice_get, bytes_eq, if◌then◌else◌}
+use Rattle.std.specs.Prelude.{◌≡◌, ℕ, zero, suc, ◌<◌, Bool, true, false, cond, ◌||◌, List, [], ◌∷◌, ◌++◌, length, map, filter, Option, None}
+use Rattle.std.specs.Prelude.{Some, option_map, slice_get, bytes_eq, if◌then◌else◌}
 use Rattle.std.specs.List.{list_any}
 use Rattle.std.specs.Option.{option_or}
 use Rattle.std.proofs.Common.{refl, arith, sym, ◌∙◌, ap, subst}
@@ -47,7 +47,7 @@ after_append before (x ∷ xs) ys =
 pub with_earlier-add : {A : Type 0} (xs : List A) (x : A) → with_earlier (xs ++ x ∷ []) ≡ with_earlier xs ++ (xs, x) ∷ []
 with_earlier-add xs x = after_append [] xs (x ∷ [])
 
--- ---- up to the first that passes
+-- ---- up to the first that meets a test
 
 pub through-append : {A : Type 0} (test : A → Bool) (xs ys : List A) → list_any test xs ≡ false
     → through_first test (xs ++ ys) ≡ xs ++ through_first test ys
@@ -70,7 +70,7 @@ pub any_of_map : {A B : Type 0} (test : B → Bool) (f : A → B) (xs : List A) 
 any_of_map test f [] = refl
 any_of_map test f (x ∷ xs) = ap (λ t. test (f x) || t) (any_of_map test f xs)
 
--- what passes among none passes among none of the fewer that a filter keeps
+-- a test that none meets is met by none of the fewer that a filter keeps
 pub none_of_fewer : {A : Type 0} (test keeps : A → Bool) (xs : List A) → list_any test xs ≡ false → list_any test (filter keeps xs) ≡ false
 none_of_fewer test keeps [] none = refl
 none_of_fewer {A} test keeps (x ∷ xs) none = by (keeps x) (none_of_fewer test keeps xs (right_false (test x) (list_any test xs) none))
@@ -88,7 +88,7 @@ fewer_among f keeps name xs e =
 
 -- ---- what stands at a place
 
--- where no element passes, none that stands at a place does
+-- where no element meets the test, the one at a place does not
 pub fails_at : {A : Type 0} (test : A → Bool) (xs : List A) (i : ℕ) (x : A) → list_any test xs ≡ false → slice_get xs i ≡ Some x
     → test x ≡ false
 fails_at test [] i x none at = absurd cc

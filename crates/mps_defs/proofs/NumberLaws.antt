@@ -1,4 +1,4 @@
--- Powers of ten, the size of a number with a sign, and the largest of some numbers.
+-- Powers of ten, the absolute value of a number with a sign, and the largest of some numbers.
 use Rattle.std.specs.Prelude.{◌≡◌, ℕ, zero, suc, ◌^◌, ◌<◌, max, Bool, true, false, List, [], ◌∷◌, ◌++◌}
 use Rattle.std.specs.Int.RustNames.{unsigned_abs}
 use Rattle.std.proofs.Common.{refl, arith, ap, ◌∙◌}
@@ -10,7 +10,7 @@ use Rattle.mps_defs.specs.TextModels.{largest}
 pub ten_positive : (k : ℕ) → 0 < 10 ^ k
 ten_positive k = one-le-pow k 10 (omega arith)
 
--- a size with its sign
+-- an absolute value with its sign
 pub signed_size : (negative : Bool) (n : ℕ) → unsigned_abs (signed negative n) ≡ n
 signed_size false n = refl
 signed_size true zero = refl

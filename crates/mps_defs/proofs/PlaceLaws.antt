@@ -1,6 +1,6 @@
--- The first place where a test passes, and the places of names.
-use Rattle.std.specs.Prelude.{◌≡◌, ℕ, zero, suc, ◌+◌, nat_lt, Bool, true, false, cond, not, ◌||◌, if◌then◌else◌, List, [], ◌∷◌, ◌++◌,
-    length, position, slice_get, Option, None, Some, option_map, bytes_eq}
+-- The first place where a test holds, and the places of names.
+use Rattle.std.specs.Prelude.{◌≡◌, ℕ, zero, suc, ◌+◌, nat_lt, Bool, true, false, cond, not, ◌||◌, if◌then◌else◌, List, [], ◌∷◌, ◌++◌}
+use Rattle.std.specs.Prelude.{length, position, slice_get, Option, None, Some, option_map, bytes_eq}
 use Rattle.std.specs.List.{list_any, position_or_len}
 use Rattle.std.specs.Option.{option_or, is_some}
 use Rattle.std.proofs.Common.{refl, arith, sym, ◌∙◌, ap}
@@ -62,7 +62,7 @@ position_append test (x ∷ xs) ys =
     by false None None = refl
     by false None (Some i) = ap Some (omega arith)
 
--- there is a place where an element passes
+-- there is a place where some element meets the test
 pub place_where_any : {A : Type 0} (test : A → Bool) (xs : List A) → is_some (position test xs) ≡ list_any test xs
 place_where_any test [] = refl
 place_where_any test (x ∷ xs) = ap is_some (position_cons test x xs) ∙ by (test x) (position test xs) (place_where_any test xs)

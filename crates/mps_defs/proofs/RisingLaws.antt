@@ -1,13 +1,13 @@
 -- Pairs by rising number, as what is written for a row by column.
-use Rattle.std.specs.Prelude.{ℕ, zero, suc, ◌+◌, ◌<◌, ◌≤◌, ◌==◌, Bool, true, false, not, cond, List, [], ◌∷◌, length, map, filter,
-    filter_map, Option, None, Some, option_map, ℤ, ⊤}
+use Rattle.std.specs.Prelude.{ℕ, zero, suc, ◌+◌, ◌<◌, ◌≤◌, ◌==◌, Bool, true, false, not, cond, List, [], ◌∷◌, length, map, filter}
+use Rattle.std.specs.Prelude.{filter_map, Option, None, Some, option_map, ℤ, ⊤}
 use Rattle.std.specs.Int.RustNames.{unsigned_abs}
 use Rattle.std.specs.List.{enumerate_from, cons_option}
 use Rattle.std.proofs.Common.{arith}
 use Rattle.ip_defs.specs.Limits.{index_at}
 use Rattle.mps_defs.specs.Records.{Entry}
 use Rattle.mps_defs.specs.TextModels.{units, written_at, written_in, placed, coefs_in}
-use Rattle.mps_defs.specs.declared.texts.Number.{Number}
+use Rattle.mps_defs.specs.declared.reading.Number.{Number}
 
 -- the numbers rise from lo on and stay below hi
 abbrev pub Rises : {V : Type 0} → ℕ → ℕ → List (ℕ × V) → Type 0

@@ -1,6 +1,6 @@
 -- The canonical MPS text of a model, and the models that it can be read back for.
-use Rattle.std.specs.Prelude.{ℕ, ◌==◌, Bool, true, false, ◌&&◌, ◌||◌, not, if◌then◌else◌, List, [], ◌∷◌, ◌++◌, length, map, flat_map, find,
-    Option, bytes_eq, codes, ℤ, pos, neg_ℤ, ◌-ℤ◌}
+use Rattle.std.specs.Prelude.{ℕ, ◌==◌, Bool, true, false, ◌&&◌, ◌||◌, not, if◌then◌else◌, List, [], ◌∷◌, ◌++◌, length, map, flat_map, find}
+use Rattle.std.specs.Prelude.{Option, bytes_eq, codes, ℤ, pos, neg_ℤ, ◌-ℤ◌}
 use Rattle.std.specs.Fmt.{signed_decimal}
 use Rattle.std.specs.List.{enumerate_from, list_any, list_all, concat}
 use Rattle.std.specs.Option.{option_map_or, is_none, is_some}
@@ -41,8 +41,8 @@ pair a b = (true, a ∷ b ∷ [])
 abbrev pub triple : List ℕ → List ℕ → List ℕ → Written
 triple a b c = (true, a ∷ b ∷ c ∷ [])
 
-abbrev pub bound : List ℕ → List ℕ → ℤ → Written
-bound kind name n = (true, kind ∷ codes "BND" ∷ name ∷ signed_decimal n ∷ [])
+abbrev pub bound_line : List ℕ → List ℕ → ℤ → Written
+bound_line kind name n = (true, kind ∷ codes "BND" ∷ name ∷ signed_decimal n ∷ [])
 
 -- the line of a column in a row, where a coefficient stands
 abbrev pub coef_line : ℕ → List ℕ → Row → List Written
@@ -58,7 +58,7 @@ columns_block m =
     else triple (codes "M") (codes "'MARKER'") (codes "'INTORG'") ∷ flat_map (column_block m) (enumerate_from 0 m.columns)
     ++ triple (codes "M") (codes "'MARKER'") (codes "'INTEND'") ∷ []
 
--- the right side of a row: the low side of G, else the high side
+-- the right side of a row: the lower side of G, else the upper side
 abbrev pub right_side : Row → Option ℤ
 right_side r = if is_from_below r then r.low else r.high
 
@@ -86,7 +86,7 @@ canonical_lines m =
     ++ head (codes "COLUMNS") ∷ columns_block m
     ++ head (codes "RHS") ∷ constant_line m ++ flat_map rhs_line m.rows
     ++ head (codes "RANGES") ∷ flat_map range_line m.rows
-    ++ head (codes "BOUNDS") ∷ flat_map (λ c. bound (codes "LO") c.name c.lo ∷ bound (codes "UP") c.name c.hi ∷ []) m.columns
+    ++ head (codes "BOUNDS") ∷ flat_map (λ c. bound_line (codes "LO") c.name c.lo ∷ bound_line (codes "UP") c.name c.hi ∷ []) m.columns
     ++ head (codes "ENDATA") ∷ []
 
 -- one blank before each field of a data line

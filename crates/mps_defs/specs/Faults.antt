@@ -1,7 +1,7 @@
 -- What is wrong with an MPS text, in the order in which refusals are answered: line by line, each line judged from itself and the
 -- lines before it; then the end of the text, the objective, the columns, and the limits of the model.
-use Rattle.std.specs.Prelude.{◌≡◌, ℕ, ◌==◌, nat_lt, nat_le, Bool, false, ◌&&◌, ◌||◌, not, if◌then◌else◌, List, [], ◌∷◌, ◌++◌, length, map,
-    flat_map, position, Option, None, Some, bytes_eq, codes, ℤ, neg_ℤ, Result, Ok, Err}
+use Rattle.std.specs.Prelude.{◌≡◌, ℕ, ◌==◌, nat_lt, nat_le, Bool, false, ◌&&◌, ◌||◌, not, if◌then◌else◌, List, [], ◌∷◌, ◌++◌, length, map}
+use Rattle.std.specs.Prelude.{flat_map, position, Option, None, Some, bytes_eq, codes, ℤ, neg_ℤ, Result, Ok, Err}
 use Rattle.std.specs.List.{list_any, list_all}
 use Rattle.std.specs.Option.{option_map_or, is_none}
 use Rattle.std.specs.Str.{is_utf8}
@@ -9,19 +9,21 @@ use Rattle.std.specs.Int.Signed.{lt_z}
 use Rattle.ip_defs.specs.Lists.{when, first_of}
 use Rattle.mps_defs.specs.Lists.{last_of, after_those, with_earlier, is_among}
 use Rattle.mps_defs.specs.Numbers.{is_number, decimals_of}
-use Rattle.mps_defs.specs.Records.{Line, Entry, lines_of, field, items_of, words_of, row_kind, row_name, row_names, objective, is_marker,
-    in_force, column_name, column_names, has_column, entries_of, all_entries, is_kept, takes_number, takes_none, bound_column, bound_text}
-use Rattle.mps_defs.specs.TextModels.{is_negative_number, lower_side, upper_side, lower_entry, upper_entry, is_integer, kind_is,
-    model_from, number_or_zero}
+use Rattle.mps_defs.specs.Records.{Line, Entry, lines_of, field, items_of, words_of, row_kind, row_name, row_names, objective, is_marker}
+use Rattle.mps_defs.specs.Records.{in_force, column_name, column_names, has_column, entries_of, all_entries, is_kept, takes_number}
+use Rattle.mps_defs.specs.Records.{takes_none, bound_column, bound_text}
+use Rattle.mps_defs.specs.TextModels.{is_negative_number, lower_side, upper_side, lower_entry, upper_entry, is_integer, kind_is, model_from}
+use Rattle.mps_defs.specs.TextModels.{number_or_zero}
 use Rattle.ip_defs.specs.Limits.{limits_of}
-use Rattle.mps_defs.specs.declared.texts.How.{How}
+use Rattle.mps_defs.specs.declared.reading.How.{How}
 use Rattle.ip_defs.specs.declared.programs.Parts.{Parts}
-use Rattle.mps_defs.specs.declared.texts.Side.TheVariants.{Lower, Upper}
-use Rattle.mps_defs.specs.declared.texts.MpsError.{MpsError}
-use Rattle.mps_defs.specs.declared.texts.MpsError.TheVariants as Out
-use Rattle.mps_defs.specs.declared.texts.MpsError.TheVariants.{NotUtf8, SectionOrder, UnknownSection, FieldCount, RowKind, TwiceRow,
-    UnknownRow, SplitColumn, TwiceEntry, Number, Marker, BoundKind, UnknownColumn, Continuous, NoBound, NegativeUpper, Limit, NoObjective,
-    NoEnd, Digits}
+use Rattle.mps_defs.specs.declared.reading.Side.TheVariants.{Lower, Upper}
+use Rattle.mps_defs.specs.declared.reading.MpsError.{MpsError}
+use Rattle.mps_defs.specs.declared.reading.MpsError.TheVariants as Out
+use Rattle.mps_defs.specs.declared.reading.MpsError.TheVariants.{NotUtf8, SectionOrder, UnknownSection, FieldCount, RowKind, TwiceRow}
+use Rattle.mps_defs.specs.declared.reading.MpsError.TheVariants.{UnknownRow, SplitColumn, TwiceEntry, Number, Marker, BoundKind}
+use Rattle.mps_defs.specs.declared.reading.MpsError.TheVariants.{UnknownColumn, Continuous, NoBound, NegativeUpper, Limit, NoObjective}
+use Rattle.mps_defs.specs.declared.reading.MpsError.TheVariants.{NoEnd, Digits}
 
 -- section lines
 
@@ -30,11 +32,11 @@ section_words =
     codes "NAME" ∷ codes "ROWS" ∷ codes "COLUMNS" ∷ codes "RHS" ∷ codes "RANGES" ∷ codes "BOUNDS" ∷ codes "ENDATA" ∷ []
 
 -- the place of a word in the order of sections
-abbrev pub place_of : List ℕ → Option ℕ
-place_of word = position (bytes_eq word) section_words
+abbrev pub section_place : List ℕ → Option ℕ
+section_place word = position (bytes_eq word) section_words
 
 abbrev pub is_before : List ℕ → List ℕ → Bool
-is_before word later = option_map_or (λ i. option_map_or (nat_lt i) (place_of later) false) (place_of word) false
+is_before word later = option_map_or (λ i. option_map_or (nat_lt i) (section_place later) false) (section_place word) false
 
 -- a section may come after those before it: each is earlier in the order, and none that it needs is missing
 abbrev pub may_come : List (List ℕ) → List ℕ → Bool
@@ -45,7 +47,7 @@ may_come words word =
 
 abbrev pub section_faults : List Line → Line → List MpsError
 section_faults before l =
-    when (is_none (place_of l.section)) (UnknownSection l.number)
+    when (is_none (section_place l.section)) (UnknownSection l.number)
     ++ when (not (may_come (words_of before) l.section)) (SectionOrder l.number)
 
 -- data lines

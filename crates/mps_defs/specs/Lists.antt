@@ -1,4 +1,4 @@
--- Words on lists that the definitions of texts share.
+-- Functions on lists that the definitions of texts share.
 use Rattle.std.specs.Prelude.{◌≡◌, ℕ, zero, suc, Bool, false, if◌then◌else◌, List, [], ◌∷◌, ◌++◌, Option, None, Some, bytes_eq, ⊤}
 use Rattle.std.specs.List.{list_any}
 
@@ -20,21 +20,21 @@ after_those before (x ∷ xs) = (before, x) ∷ after_those (before ++ x ∷ [])
 abbrev pub with_earlier : {A : Type 0} → List A → List (List A × A)
 with_earlier xs = after_those [] xs
 
--- a text is among others
+-- a name is among others
 abbrev pub is_among : List ℕ → List (List ℕ) → Bool
 is_among name names = list_any (bytes_eq name) names
 
--- no text stands twice in a list
+-- no name stands twice in a list
 abbrev pub AreDistinct : List (List ℕ) → Type 0
 AreDistinct [] = ⊤
 AreDistinct (x ∷ xs) = (is_among x xs ≡ false) × AreDistinct xs
 
--- the least of the n numbers from i on that passes, and i + n where none does
+-- the least of the n numbers from i on that meets the test, and i + n where none does
 abbrev pub least_from : (ℕ → Bool) → ℕ → ℕ → ℕ
 least_from test i zero = i
 least_from test i (suc n) = let later = least_from test (suc i) n in if test i then i else later
 
--- up to the first one that passes, with it
+-- up to and with the first one that meets the test
 abbrev pub through_first : {A : Type 0} → (A → Bool) → List A → List A
 through_first test [] = []
 through_first test (x ∷ xs) = if test x then x ∷ [] else x ∷ through_first test xs

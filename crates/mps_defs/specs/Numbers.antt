@@ -1,12 +1,14 @@
 -- The numbers of a text, and the decimal texts that are printed. A number is an optional sign, then a numeral (digits with an
 -- optional point, and an optional exponent of one to four digits) or a word for infinity; it has at most 32 characters.
-use Rattle.std.specs.Prelude.{ℕ, zero, suc, ◌+◌, ◌-◌, ◌*◌, ◌/◌, ◌%◌, ◌^◌, ◌==◌, nat_le, Bool, true, false, ◌&&◌, ◌||◌, not, if◌then◌else◌,
-    List, [], ◌∷◌, ◌++◌, length, Option, None, ℤ, pos, negsuc, neg_ℤ, ◌-ℤ◌, ◌*ℤ◌, decimal, codes}
+use Rattle.std.specs.Prelude.{ℕ, zero, suc, ◌+◌, ◌-◌, ◌*◌, ◌/◌, ◌%◌, ◌^◌, ◌==◌, nat_le, Bool, true, false, ◌&&◌, ◌||◌, not, if◌then◌else◌}
+use Rattle.std.specs.Prelude.{List, [], ◌∷◌, ◌++◌, length, Option, None, Some, ℤ, pos, negsuc, neg_ℤ, ◌-ℤ◌, ◌*ℤ◌, decimal, codes}
 use Rattle.std.specs.List.{list_any, list_all, before_first, after_first}
 use Rattle.std.specs.Str.{str_eq_ignore_ascii_case}
+use Rattle.std.specs.Prelude.{int_div}
+use Rattle.std.specs.Int.RustNames.{unsigned_abs}
 use Rattle.mps_defs.specs.Lists.{where_true, least_from}
-use Rattle.mps_defs.specs.declared.texts.Number.{Number}
-use Rattle.mps_defs.specs.declared.texts.Number.TheVariants.{Dec, Large}
+use Rattle.mps_defs.specs.declared.reading.Number.{Number}
+use Rattle.mps_defs.specs.declared.reading.Number.TheVariants.{Dec, Large}
 
 abbrev pub is_digit : ℕ → Bool
 is_digit b = nat_le 48 b && nat_le b 57
@@ -31,7 +33,7 @@ abbrev pub without_sign : List ℕ → List ℕ
 without_sign [] = []
 without_sign (b ∷ bs) = if is_sign b then bs else b ∷ bs
 
--- what digits stand for
+-- the natural number that digits write, after those of n
 abbrev pub value_from : ℕ → List ℕ → ℕ
 value_from n [] = n
 value_from n (d ∷ ds) = value_from (10 * n + (d - 48)) ds
@@ -42,12 +44,12 @@ digits_value ds = value_from 0 ds
 abbrev pub signed : Bool → ℕ → ℤ
 signed negative n = if negative then neg_ℤ (pos n) else pos n
 
--- the parts of a numeral without its sign: WHOLE, or WHOLE.REST, then eEXPONENT, where they stand
+-- the parts of a numeral without its sign, WHOLE or WHOLE.FRACTION and then perhaps eEXPONENT
 abbrev pub whole_part : List ℕ → List ℕ
 whole_part body = before_first is_point (before_first is_exponent_mark body)
 
-abbrev pub rest_part : List ℕ → List ℕ
-rest_part body = after_first is_point (before_first is_exponent_mark body)
+abbrev pub fraction_part : List ℕ → List ℕ
+fraction_part body = after_first is_point (before_first is_exponent_mark body)
 
 abbrev pub exponent_part : List ℕ → List ℕ
 exponent_part body = after_first is_exponent_mark body
@@ -59,8 +61,8 @@ is_exponent part = let ds = without_sign part in nat_le 1 (length ds) && nat_le 
 -- digits with an optional point, then an exponent where a mark stands
 abbrev pub is_numeral : List ℕ → Bool
 is_numeral body =
-    list_all is_digit (whole_part body) && list_all is_digit (rest_part body)
-    && nat_le 1 (length (whole_part body ++ rest_part body))
+    list_all is_digit (whole_part body) && list_all is_digit (fraction_part body)
+    && nat_le 1 (length (whole_part body ++ fraction_part body))
     && (not (list_any is_exponent_mark body) || is_exponent (exponent_part body))
 
 abbrev pub is_infinity : List ℕ → Bool
@@ -72,16 +74,16 @@ is_number text = nat_le (length text) 32 && (is_infinity (without_sign text) || 
 
 -- a numeral is its digits times ten to this power
 abbrev pub power_of : List ℕ → ℤ
-power_of body = signed (is_minus (exponent_part body)) (digits_value (without_sign (exponent_part body))) -ℤ pos (length (rest_part body))
+power_of body = signed (is_minus (exponent_part body)) (digits_value (without_sign (exponent_part body))) -ℤ pos (length (fraction_part body))
 
--- the value of n times ten to a power, as a fraction: the numerator, and the tens of the denominator
+-- the value of n times ten to a power, as a fraction: the numerator, and the power of ten that is the denominator
 abbrev pub over_tens : ℕ → ℤ → ℕ × ℕ
 over_tens n (pos p) = (n * 10 ^ p, 0)
 over_tens n (negsuc p) = (n, suc p)
 
 -- a numeral without its sign, as such a fraction
 abbrev pub fraction_of : List ℕ → ℕ × ℕ
-fraction_of body = over_tens (digits_value (whole_part body ++ rest_part body)) (power_of body)
+fraction_of body = over_tens (digits_value (whole_part body ++ fraction_part body)) (power_of body)
 
 -- n / 10^k has d decimals at most
 abbrev pub has_decimals : ℕ → ℕ → ℕ → Bool
@@ -113,20 +115,25 @@ abbrev pub is_large : Number → Bool
 is_large (Dec units decimals) = false
 is_large (Large negative) = true
 
--- the value times 10^k, where it is whole and the number is not Large
+-- z / n, where it is whole
+abbrev pub whole_quotient : ℤ → ℕ → Option ℤ
+whole_quotient z n = where_true (unsigned_abs z % n == 0) (int_div z (pos n))
+
+-- the value times 10^k, where that is whole and the number is not Large
 abbrev pub exact_units : Number → ℕ → Option ℤ
-exact_units (Dec units decimals) k = where_true (nat_le decimals k) (units *ℤ pos (10 ^ (k - decimals)))
+exact_units (Dec units decimals) k =
+    if nat_le decimals k then Some (units *ℤ pos (10 ^ (k - decimals))) else whole_quotient units (10 ^ (decimals - k))
 exact_units (Large negative) k = None
 
--- the digits of rest in k places, without the zeros at their end
+-- the digits of the remainder in k places, without the zeros at their end
 abbrev pub places : ℕ → ℕ → List ℕ
-places zero rest = []
-places (suc k) rest = if rest == 0 then [] else (48 + rest / 10 ^ k) ∷ places k (rest % 10 ^ k)
+places zero remainder = []
+places (suc k) remainder = if remainder == 0 then [] else (48 + remainder / 10 ^ k) ∷ places k (remainder % 10 ^ k)
 
 -- n units with k decimals, written
-abbrev pub size_text : ℕ → ℕ → List ℕ
-size_text n k = decimal (n / 10 ^ k) ++ (if n % 10 ^ k == 0 then [] else 46 ∷ places k (n % 10 ^ k))
+abbrev pub unsigned_text : ℕ → ℕ → List ℕ
+unsigned_text n k = decimal (n / 10 ^ k) ++ (if n % 10 ^ k == 0 then [] else 46 ∷ places k (n % 10 ^ k))
 
 abbrev pub decimal_text : ℤ → ℕ → List ℕ
-decimal_text (pos n) k = size_text n k
-decimal_text (negsuc n) k = 45 ∷ size_text (suc n) k
+decimal_text (pos n) k = unsigned_text n k
+decimal_text (negsuc n) k = 45 ∷ unsigned_text (suc n) k

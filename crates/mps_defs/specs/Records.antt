@@ -1,6 +1,6 @@
 -- The lines of an MPS text, up to the ENDATA line, and what they write: rows, columns, entries and bounds.
-use Rattle.std.specs.Prelude.{ℕ, ◌-◌, ◌%◌, ◌==◌, nat_le, Bool, true, false, ◌&&◌, ◌||◌, not, if◌then◌else◌, List, [], ◌∷◌, ◌++◌, length,
-    take, drop, map, filter, flat_map, find, Option, option_map, slice_index_or, bytes_eq, codes}
+use Rattle.std.specs.Prelude.{ℕ, ◌-◌, ◌%◌, ◌==◌, nat_le, Bool, true, false, ◌&&◌, ◌||◌, not, if◌then◌else◌, List, [], ◌∷◌, ◌++◌, length}
+use Rattle.std.specs.Prelude.{take, drop, map, filter, flat_map, find, Option, option_map, slice_index_or, bytes_eq, codes}
 use Rattle.std.specs.List.{slice_split, enumerate_from}
 use Rattle.std.specs.Option.{option_map_or}
 use Rattle.mps_defs.specs.Lists.{with_earlier, through_first, is_among, last_of}
@@ -52,22 +52,22 @@ abbrev pub first_field : ℕ × List ℕ → List ℕ
 first_field p = slice_index_or (fields_of p.1) 0 []
 
 -- a line is a section line
-abbrev pub opens : ℕ × List ℕ → Bool
-opens p = not (begins_with is_blank p.1)
+abbrev pub is_section_line : ℕ × List ℕ → Bool
+is_section_line p = not (begins_with is_blank p.1)
 
-abbrev pub opens_end : ℕ × List ℕ → Bool
-opens_end p = opens p && bytes_eq (first_field p) (codes "ENDATA")
+abbrev pub is_end_line : ℕ × List ℕ → Bool
+is_end_line p = is_section_line p && bytes_eq (first_field p) (codes "ENDATA")
 
 -- the word of the last section line, none before the first
 abbrev pub last_word : List (ℕ × List ℕ) → List ℕ
-last_word ps = option_map_or first_field (last_of (filter opens ps)) []
+last_word ps = option_map_or first_field (last_of (filter is_section_line ps)) []
 
 abbrev pub line_of : List (ℕ × List ℕ) × (ℕ × List ℕ) → Line
-line_of p = record { number = p.1.0; is_item = not (opens p.1); section = last_word (p.0 ++ p.1 ∷ []); fields = fields_of p.1.1 }
+line_of p = record { number = p.1.0; is_item = not (is_section_line p.1); section = last_word (p.0 ++ p.1 ∷ []); fields = fields_of p.1.1 }
 
 -- up to the ENDATA line
 abbrev pub lines_of : List ℕ → List Line
-lines_of text = map line_of (with_earlier (through_first opens_end (numbered text)))
+lines_of text = map line_of (with_earlier (through_first is_end_line (numbered text)))
 
 abbrev pub field : Line → ℕ → List ℕ
 field l i = slice_index_or l.fields i []
@@ -146,13 +146,13 @@ pub record Entry : Type 0 where
   pub row : List ℕ
   pub text : List ℕ
 
-abbrev pub entry : ℕ → List ℕ → List ℕ → List ℕ → Entry
-entry line owner row text = record { line = line; owner = owner; row = row; text = text }
+abbrev pub entry_of : ℕ → List ℕ → List ℕ → List ℕ → Entry
+entry_of line owner row text = record { line = line; owner = owner; row = row; text = text }
 
 abbrev pub entries_from : ℕ → List ℕ → List (List ℕ) → List Entry
 entries_from n owner [] = []
 entries_from n owner (f ∷ []) = []
-entries_from n owner (f ∷ g ∷ fs) = entry n owner f g ∷ entries_from n owner fs
+entries_from n owner (f ∷ g ∷ fs) = entry_of n owner f g ∷ entries_from n owner fs
 
 -- whether the first field of a line of RHS or RANGES names a set
 abbrev pub names_set : Line → Bool

@@ -1,6 +1,7 @@
 -- The model of a text: each number is looked up in the whole list of what the text writes.
-use Rattle.std.specs.Prelude.{◌≤◌, ◌≤ℤ◌, ℕ, ◌+◌, ◌-◌, ◌^◌, ◌==◌, max, Bool, ◌&&◌, ◌||◌, not, if◌then◌else◌, List, [], ◌∷◌, ◌++◌, map,
-    filter, filter_map, find, fold, Option, None, Some, option_map, unwrap_or, bytes_eq, codes, ℤ, pos, neg_ℤ, ◌+ℤ◌, ◌-ℤ◌, ◌*ℤ◌}
+use Rattle.std.specs.Prelude.{◌≤◌, ◌≤ℤ◌, ℕ, ◌+◌, ◌-◌, ◌^◌, ◌==◌, max, Bool, ◌&&◌, ◌||◌, not, if◌then◌else◌, List, [], ◌∷◌, ◌++◌, map}
+use Rattle.std.specs.Prelude.{filter, filter_map, find, fold, Option, None, Some, option_map, unwrap_or, bytes_eq, codes, ℤ, pos, neg_ℤ}
+use Rattle.std.specs.Prelude.{◌+ℤ◌, ◌-ℤ◌, ◌*ℤ◌}
 use Rattle.std.specs.List.{enumerate_from, list_any}
 use Rattle.std.specs.Option.{option_map_or, ForSome}
 use Rattle.std.specs.Int.{int_div_euclid}
@@ -9,11 +10,11 @@ use Rattle.std.specs.Int.Signed.{lt_z}
 use Rattle.mps_defs.specs.Lists.{where_true, last_of, is_among}
 use Rattle.mps_defs.specs.Numbers.{number_of, decimals_of, is_large, signed}
 use Rattle.ip_defs.specs.Certificates.{ceiling}
-use Rattle.mps_defs.specs.Records.{Line, Entry, objective, kept_entries, column_names, first_lines, column_name, in_force, row_lines,
-    row_kind, row_name, is_free, bounds_on, bound_kind, bound_text, takes_number}
-use Rattle.mps_defs.specs.declared.texts.Number.{Number}
-use Rattle.mps_defs.specs.declared.texts.Number.TheVariants.{Dec, Large}
-use Rattle.mps_defs.specs.declared.texts.How.{How}
+use Rattle.mps_defs.specs.Records.{Line, Entry, objective, kept_entries, column_names, first_lines, column_name, in_force, row_lines}
+use Rattle.mps_defs.specs.Records.{row_kind, row_name, is_free, bounds_on, bound_kind, bound_text, takes_number}
+use Rattle.mps_defs.specs.declared.reading.Number.{Number}
+use Rattle.mps_defs.specs.declared.reading.Number.TheVariants.{Dec, Large}
+use Rattle.mps_defs.specs.declared.reading.How.{How}
 use Rattle.ip_defs.specs.declared.programs.Column.{Column}
 use Rattle.ip_defs.specs.declared.programs.Row.{Row}
 use Rattle.ip_defs.specs.declared.programs.Parts.{Parts}
@@ -21,7 +22,7 @@ use Rattle.ip_defs.specs.declared.programs.Parts.{Parts}
 abbrev pub no_number : Number
 no_number = Dec (pos 0) 0
 
--- what a field says, and 0 where it is no number
+-- the number in a field, and 0 where the field is no number
 abbrev pub number_or_zero : List ℕ → Number
 number_or_zero text = unwrap_or (number_of text) no_number
 
@@ -29,7 +30,7 @@ abbrev pub is_negative_number : Number → Bool
 is_negative_number (Dec units decimals) = lt_z units (pos 0)
 is_negative_number (Large negative) = negative
 
--- the number in units of 10^-k; a Large one stands for 10^20 of the written units with its sign, which exceeds each limit
+-- the number in units of 10^-k; a Large one counts as 10^20 of the written units with its sign, which exceeds each limit
 abbrev pub units : ℕ → Number → ℤ
 units k (Dec u d) = u *ℤ pos (10 ^ (k - d))
 units k (Large negative) = signed negative (10 ^ (20 + k))
@@ -53,7 +54,7 @@ sets_lower l = kind_is (codes "LO" ∷ codes "LI" ∷ codes "FX" ∷ codes "FR" 
 abbrev pub sets_upper : Line → Bool
 sets_upper l = kind_is (codes "UP" ∷ codes "UI" ∷ codes "FX" ∷ codes "FR" ∷ codes "PL" ∷ codes "BV" ∷ []) l
 
--- the side that an entry gives: BV gives 0 and 1, FR, MI and PL none, the others their number, rounded inwards, but none where it
+-- the bound that a line gives: BV gives 0 and 1, FR, MI and PL none, the others their number, rounded inwards, but none where it
 -- is Large towards that side
 abbrev pub lower_by : Line → Option ℤ
 lower_by l =
@@ -67,7 +68,7 @@ upper_by l =
     if kind_is (codes "BV" ∷ []) l then Some (pos 1)
     else (where_true (takes_number l && not (is_large n && not (is_negative_number n))) (rounded_down n))
 
--- the last entry for a side stands; without one the lower side is 0 and the upper one is absent
+-- the last line for a bound counts; without one the lower bound is 0 and the upper one is absent
 abbrev pub lower_entry : List Line → List ℕ → Option Line
 lower_entry ls name = last_of (filter sets_lower (bounds_on ls name))
 
@@ -80,7 +81,7 @@ lower_side ls name = option_map_or lower_by (lower_entry ls name) (Some (pos 0))
 abbrev pub upper_side : List Line → List ℕ → Option ℤ
 upper_side ls name = option_map_or upper_by (upper_entry ls name) None
 
--- how a text may be asked to be read: at most nine decimals, and a box side between 0 and 2^24 where one is given
+-- what a caller may ask for: at most nine decimals, and a box side between 0 and 2^24 where one is given
 pub record IsHow (how : How) : Type 0 where
   pub digits : how.digits ≤ 9
   pub box_side : ForSome how.box_side (λ b. (pos 0 ≤ℤ b) × (b ≤ℤ pos (2 ^ 24)))
@@ -118,7 +119,7 @@ row_decimals ls how row =
     largest how.digits
     (decimals_in (kept_entries (codes "COLUMNS") ls ++ kept_entries (codes "RHS") ls ++ kept_entries (codes "RANGES") ls) row)
 
--- the table of row sides: v is the right side, r the range and s its size, in units; finite says that the range is not Large
+-- the table of row sides: v is the right side, r the range and s its absolute value, in units; finite: the range is not Large
 abbrev pub range_sides : List ℕ → ℤ → Bool → ℤ → ℕ → Option ℤ × Option ℤ
 range_sides kind v finite r s =
     let low = where_true finite (v -ℤ pos s) in
@@ -133,7 +134,7 @@ plain_sides kind v =
     if bytes_eq kind (codes "L") then (None, Some v)
     else (if bytes_eq kind (codes "G") then (Some v, None) else (Some v, Some v))
 
--- a Large right side gives a row without sides
+-- a Large right side on the free side of its row leaves the row without sides
 abbrev pub is_open : List ℕ → Number → Bool
 is_open kind b =
     is_large b && ((bytes_eq kind (codes "L") && not (is_negative_number b)) || (bytes_eq kind (codes "G") && is_negative_number b))

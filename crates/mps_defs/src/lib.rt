@@ -3,6 +3,6 @@
 //! The definitions in `specs/` are about the whole list of lines of a text, and know no reader.
 #![tactic(auto)]
 
-mod texts;
+mod reading;
 
-pub use texts::{How, MpsError, Number, Side};
+pub use reading::{How, MpsError, Number, Side};

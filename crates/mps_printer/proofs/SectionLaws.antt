@@ -24,7 +24,7 @@ six x1 x2 x3 x4 x5 x6 line =
 
 pub sections_are : (m : Parts)
     → ((((lines_text (row_section m) ++ lines_text (column_section m)) ++ lines_text (side_section m)) ++ lines_text (range_section m))
-        ++ lines_text (bound_section m)) ++ written_text (head (codes "ENDATA"))
+    ++ lines_text (bound_section m)) ++ written_text (head (codes "ENDATA"))
     ≡ canonical_text m
 sections_are m =
     six (row_section m) (column_section m) (head (codes "RHS") ∷ constant_line m) (flat_map rhs_line m.rows) (range_section m)
@@ -45,8 +45,8 @@ between start word first last blocks =
 -- COLUMNS where there is a column: the blocks of lines between the marker lines
 pub columns_are : (m : Parts) (start : List ℕ) → (length m.columns == 0) ≡ false
     → (((start ++ written_text (head (codes "COLUMNS"))) ++ written_text (triple (codes "M") (codes "'MARKER'") (codes "'INTORG'")))
-        ++ lines_text (flat_map (column_block m) (enumerate_from 0 m.columns)))
-        ++ written_text (triple (codes "M") (codes "'MARKER'") (codes "'INTEND'"))
+    ++ lines_text (flat_map (column_block m) (enumerate_from 0 m.columns)))
+    ++ written_text (triple (codes "M") (codes "'MARKER'") (codes "'INTEND'"))
     ≡ start ++ lines_text (column_section m)
 columns_are m start e =
     let first = triple (codes "M") (codes "'MARKER'") (codes "'INTORG'") in

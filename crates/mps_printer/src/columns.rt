@@ -19,7 +19,8 @@ fn push_entries(
     entries: &[(u32, i64)],
 ) -> Result<(), Memory>
     requires { (i : ℕ) → i < length entries.now → index_at entries.now i < length rows.now }
-    ensures { OnOk result (string_bytes text.new ≡ string_bytes text.old ++ lines_text (flat_map (entry_line name.now rows.now) entries.now)) }
+    ensures { OnOk result (string_bytes text.new ≡ string_bytes text.old
+        ++ lines_text (flat_map (entry_line name.now rows.now) entries.now)) }
 {
     for (i, coefficient) in entries {
         let row = &rows[*i as usize];
@@ -38,7 +39,8 @@ fn push_block(
     entries: &[(u32, i64)],
 ) -> Result<(), Memory>
     requires { (i : ℕ) → i < length entries.now → index_at entries.now i < length parts.now.rows }
-    ensures { OnOk result (string_bytes text.new ≡ string_bytes text.old ++ lines_text (triple column.now.name parts.now.objective (value_text parts.now column.now.cost) ∷ flat_map (entry_line column.now.name parts.now.rows) entries.now)) }
+    ensures { OnOk result (string_bytes text.new ≡ string_bytes text.old
+        ++ lines_text (triple column.now.name parts.now.objective (value_text parts.now column.now.cost) ∷ flat_map (entry_line column.now.name parts.now.rows) entries.now)) }
 {
     let name = column.name.as_str();
     let units = i128::from(column.cost);
@@ -56,7 +58,8 @@ fn push_block(
 /// Adds the lines of each column.
 fn push_blocks(alloc: Global, text: &mut String, parts: &Parts) -> Result<(), Memory>
     requires { IsWithinLimits parts.now }
-    ensures { OnOk result (string_bytes text.new ≡ string_bytes text.old ++ lines_text (flat_map (column_block parts.now) (enumerate_from 0 parts.now.columns))) }
+    ensures { OnOk result (string_bytes text.new ≡ string_bytes text.old
+        ++ lines_text (flat_map (column_block parts.now) (enumerate_from 0 parts.now.columns))) }
 {
     let lists = entries_by_column(alloc, parts)?;
     for (j, column) in parts.columns.as_slice().iter().enumerate() {

@@ -21,7 +21,8 @@ fn empty_lists(alloc: Global, count: usize) -> Result<Vec<Coefs>, Memory>
 fn push_row(lists: &mut Vec<Coefs>, row: u32, coefs: &[(u32, i64)]) -> Result<(), Memory>
     requires { AreOrdered (length lists.old.items) coefs.now }
     ensures size { length lists.new.items ≡ length lists.old.items }
-    ensures lists { OnOk result ((j : ℕ) → j < length lists.old.items → slice_index_or lists.new.items j [] ≡ slice_index_or lists.old.items j [] ++ listed_for j row coefs.now) }
+    ensures lists { OnOk result ((j : ℕ) → j < length lists.old.items
+        → slice_index_or lists.new.items j [] ≡ slice_index_or lists.old.items j [] ++ listed_for j row coefs.now) }
 {
     for (column, coefficient) in coefs {
         lists[*column as usize].push((row, *coefficient))?;
@@ -34,7 +35,8 @@ fn push_row(lists: &mut Vec<Coefs>, row: u32, coefs: &[(u32, i64)]) -> Result<()
 pub fn entries_by_column(alloc: Global, parts: &Parts) -> Result<Vec<Coefs>, Memory>
     requires { IsWithinLimits parts.now }
     ensures size { IfOk result (λ v. length v.items ≡ length parts.now.columns) }
-    ensures lists { IfOk result (λ v. (j : ℕ) → j < length parts.now.columns → slice_index_or v.items j [] ≡ column_entries j 0 parts.now.rows) }
+    ensures lists { IfOk result (λ v. (j : ℕ) → j < length parts.now.columns
+        → slice_index_or v.items j [] ≡ column_entries j 0 parts.now.rows) }
 {
     let mut lists = empty_lists(alloc, parts.columns.as_slice().len())?;
     for (i, row) in parts.rows.as_slice().iter().enumerate() {

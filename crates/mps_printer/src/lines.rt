@@ -1,7 +1,7 @@
 ghost use Rattle.std.specs.Prelude.{◌≡◌, ◌++◌, ◌∷◌, [], IfOk, OnOk, string_bytes};
 ghost use Rattle.std.specs.Fmt.{signed_decimal};
 ghost use Rattle.mps_defs.specs.Numbers.{decimal_text};
-ghost use Rattle.mps_defs.specs.CanonicalText.{bound, head, pair, triple, written_text};
+ghost use Rattle.mps_defs.specs.CanonicalText.{bound_line, head, pair, triple, written_text};
 
 use decimals::decimal_text;
 use ip_defs::Memory;
@@ -60,7 +60,8 @@ pub fn push_amount(
     units: i128,
     decimals: u8,
 ) -> Result<(), Memory>
-    ensures { OnOk result (string_bytes text.new ≡ string_bytes text.old ++ written_text (triple first.now second.now (decimal_text units decimals))) }
+    ensures { OnOk result (string_bytes text.new ≡ string_bytes text.old
+        ++ written_text (triple first.now second.now (decimal_text units decimals))) }
 {
     let amount = decimal_text(alloc, units, decimals)?;
     push_triple(text, first, second, amount.as_str())
@@ -81,7 +82,7 @@ pub fn push_bound(
     name: &str,
     side: i64,
 ) -> Result<(), Memory>
-    ensures { OnOk result (string_bytes text.new ≡ string_bytes text.old ++ written_text (bound kind.now name.now side)) }
+    ensures { OnOk result (string_bytes text.new ≡ string_bytes text.old ++ written_text (bound_line kind.now name.now side)) }
 {
     let number = whole_text(alloc, side)?;
     push_field(text, kind)?;

@@ -1,6 +1,6 @@
 -- How a draft grows by a line of BOUNDS.
-use Rattle.std.specs.Prelude.{◌≡◌, ℕ, zero, suc, Bool, true, false, cond, List, [], ◌∷◌, ◌++◌, length, map, filter, position, slice_get,
-    slice_set, Option, Some, option_map, unwrap_or, not, ◌&&◌, ◌||◌, bytes_eq, codes, string_bytes, refl}
+use Rattle.std.specs.Prelude.{◌≡◌, ℕ, zero, suc, Bool, true, false, cond, List, [], ◌∷◌, ◌++◌, length, map, filter, position, slice_get}
+use Rattle.std.specs.Prelude.{slice_set, Option, Some, option_map, unwrap_or, not, ◌&&◌, ◌||◌, bytes_eq, codes, string_bytes, refl}
 use Rattle.std.specs.Option.{option_map_or, is_none, is_some}
 use Rattle.std.specs.List.{list_any}
 use Rattle.std.proofs.Common.{◌<◌, get_or, sym, ◌∙◌, ap, subst, arith}
@@ -13,26 +13,27 @@ use Rattle.ip_defs.specs.Lists.{first_of, when}
 use Rattle.mps_defs.specs.Lists.{last_of, is_among, where_true}
 use Rattle.std.specs.Option.{option_or}
 use Rattle.mps_defs.specs.Numbers.{is_number, number_of}
-use Rattle.mps_defs.specs.Records.{Line, items_of, words_of, set_of, kept_entries, bound_kind, bound_set, bound_column, bound_text,
-    bounds_on, takes_number, takes_none, column_name, column_names, first_lines, has_column, in_force, item, row_names}
+use Rattle.mps_defs.specs.Records.{Line, items_of, words_of, set_of, kept_entries, bound_kind, bound_set, bound_column, bound_text}
+use Rattle.mps_defs.specs.Records.{bounds_on, takes_number, takes_none, column_name, column_names, first_lines, has_column, in_force, item}
+use Rattle.mps_defs.specs.Records.{row_names}
 use Rattle.mps_defs.specs.Faults.{line_faults, bound_faults}
-use Rattle.mps_defs.specs.TextModels.{is_integer, kind_is, lower_by, lower_entry, no_number, sets_lower, sets_upper, upper_entry,
-    number_or_zero}
-use Rattle.mps_defs.specs.declared.texts.Number.{Number}
-use Rattle.mps_defs.specs.declared.texts.MpsError.TheVariants.{SectionOrder, BoundKind as WrongKind, FieldCount, UnknownColumn,
-    Number as NoNumber}
+use Rattle.mps_defs.specs.TextModels.{is_integer, kind_is, lower_by, lower_entry, no_number, sets_lower, sets_upper, upper_entry}
+use Rattle.mps_defs.specs.TextModels.{number_or_zero}
+use Rattle.mps_defs.specs.declared.reading.Number.{Number}
+use Rattle.mps_defs.specs.declared.reading.MpsError.TheVariants.{SectionOrder, BoundKind as WrongKind, FieldCount, UnknownColumn}
+use Rattle.mps_defs.specs.declared.reading.MpsError.TheVariants.{Number as NoNumber}
 use Rattle.mps_reader.specs.declared.bounds.BoundKind.{BoundKind}
-use Rattle.mps_reader.specs.declared.bounds.BoundKind.TheVariants.{Lower, LowerInteger, Upper, UpperInteger, Fixed, Free, NoLower, NoUpper,
-    Binary}
+use Rattle.mps_reader.specs.declared.bounds.BoundKind.TheVariants.{Lower, LowerInteger, Upper, UpperInteger, Fixed, Free, NoLower, NoUpper}
+use Rattle.mps_reader.specs.declared.bounds.BoundKind.TheVariants.{Binary}
 use Rattle.mps_reader.specs.declared.draft.ColumnDraft.{ColumnDraft}
 use Rattle.mps_reader.specs.declared.draft.ColumnTable.{ColumnTable}
 use Rattle.mps_reader.specs.declared.draft.Draft.{Draft}
-use Rattle.mps_reader.specs.Internal.BoundWords.{Says, after_bound, bound_word, has_right_count, integer_words, lower_of, numbered_words,
-    plain_words, upper_of}
-use Rattle.mps_reader.specs.Internal.Progress.{upper_said, AreApart, Stands, SectionsStand, RowsStand, EntriesStand, ColumnsStand,
-    ColumnStands, BoundsStand}
-use Rattle.mps_reader.proofs.StayLaws.{first_lines_stay, column_names_stay, sections_stay, rows_stand_stay, entries_stay,
-    columns_stand_stay}
+use Rattle.mps_reader.specs.Internal.BoundWords.{Says, after_bound, bound_word, has_right_count, integer_words, lower_of, numbered_words}
+use Rattle.mps_reader.specs.Internal.BoundWords.{plain_words, upper_of}
+use Rattle.mps_reader.specs.Internal.Progress.{upper_said, AreApart, Stands, SectionsStand, RowsStand, EntriesStand, ColumnsStand}
+use Rattle.mps_reader.specs.Internal.Progress.{ColumnStands, BoundsStand}
+use Rattle.mps_reader.proofs.StayLaws.{first_lines_stay, column_names_stay, sections_stay, rows_stand_stay, entries_stay}
+use Rattle.mps_reader.proofs.StayLaws.{columns_stand_stay}
 use Rattle.mps_reader.proofs.PlaceLaws.{place_of_name}
 use Rattle.ip_defs.proofs.ListLaws.{filter-append}
 use Rattle.std.proofs.lemmas.Bool.{true≢false}
@@ -210,7 +211,7 @@ begins_integer ls name = list_any (λ p. bytes_eq (column_name p.1) name && in_f
 -- a column after a bound of it in the kept set
 column_with : (before : List Line) (n : ℕ) (fields : List (List ℕ)) (name : List ℕ) (c s : ColumnDraft)
     → (of_first (items_of (codes "BOUNDS") before ++ bound_item n fields ∷ []) (bound_item n fields)
-        && bytes_eq (bound_column (bound_item n fields)) name)
+    && bytes_eq (bound_column (bound_item n fields)) name)
     ≡ true
     → LineSays (bound_item n fields) s → ColumnStands before name c
     → ColumnStands (before ++ bound_item n fields ∷ []) name (after_bound c s)
@@ -252,7 +253,7 @@ column_with before n fields name c s counts says h = record {
 -- a column that a bound says nothing of
 column_without : (before : List Line) (n : ℕ) (fields : List (List ℕ)) (name : List ℕ) (c : ColumnDraft)
     → (of_first (items_of (codes "BOUNDS") before ++ bound_item n fields ∷ []) (bound_item n fields)
-        && bytes_eq (bound_column (bound_item n fields)) name)
+    && bytes_eq (bound_column (bound_item n fields)) name)
     ≡ false
     → ColumnStands before name c → ColumnStands (before ++ bound_item n fields ∷ []) name c
 column_without before n fields name c none h = record {

@@ -1,12 +1,12 @@
 -- The columns after a line of COLUMNS.
-use Rattle.std.specs.Prelude.{◌≡◌, ℕ, ◌+◌, nat_le, Bool, true, false, cond, not, ◌&&◌, ◌||◌, if◌then◌else◌, List, [], ◌∷◌, ◌++◌, length,
-    drop, map, filter, flat_map, find, None, Some, option_map, bytes_eq, codes, refl}
+use Rattle.std.specs.Prelude.{◌≡◌, ℕ, ◌+◌, nat_le, Bool, true, false, cond, not, ◌&&◌, ◌||◌, if◌then◌else◌, List, [], ◌∷◌, ◌++◌, length}
+use Rattle.std.specs.Prelude.{drop, map, filter, flat_map, find, None, Some, option_map, bytes_eq, codes, refl}
 use Rattle.std.specs.List.{list_any, cons_option}
 use Rattle.std.proofs.Common.{ap, sym, ◌∙◌}
 use Rattle.std.proofs.lemmas.List.Folds.{list_any-append}
 use Rattle.mps_defs.specs.Lists.{is_among}
-use Rattle.mps_defs.specs.Records.{Line, Entry, items_of, column_lines, column_name, column_names, has_column, is_marker, all_entries,
-    entries_of, entries_from, kept_entries, is_kept, set_of, names_set, item, is_new_column}
+use Rattle.mps_defs.specs.Records.{Line, Entry, items_of, column_lines, column_name, column_names, has_column, is_marker, all_entries}
+use Rattle.mps_defs.specs.Records.{entries_of, entries_from, kept_entries, is_kept, set_of, names_set, item, is_new_column}
 use Rattle.mps_defs.specs.TextModels.{written_at, written_in, number_or_zero}
 use Rattle.mps_reader.specs.declared.draft.RowDraft.{RowDraft}
 use Rattle.mps_reader.specs.Internal.Progress.{EntriesStand}
@@ -72,14 +72,14 @@ no_entries name (l ∷ ls) h = by (l.is_item && bytes_eq l.section (codes "COLUM
 
     split_names : (ks : List Line)
         → is_among name (map column_name (filter (λ k. not (is_marker k)) (l ∷ ks)))
-            ≡ (is_among name (map column_name (cond (not (is_marker l)) (l ∷ []) []))
-            || is_among name (map column_name (filter (λ k. not (is_marker k)) ks)))
+        ≡ (is_among name (map column_name (cond (not (is_marker l)) (l ∷ []) []))
+        || is_among name (map column_name (filter (λ k. not (is_marker k)) ks)))
     split_names ks = with_marker (is_marker l)
       where
         with_marker : (m : Bool)
             → is_among name (map column_name (cond (not m) (l ∷ filter (λ k. not (is_marker k)) ks) (filter (λ k. not (is_marker k)) ks)))
-                ≡ (is_among name (map column_name (cond (not m) (l ∷ []) []))
-                || is_among name (map column_name (filter (λ k. not (is_marker k)) ks)))
+            ≡ (is_among name (map column_name (cond (not m) (l ∷ []) []))
+            || is_among name (map column_name (filter (λ k. not (is_marker k)) ks)))
         with_marker true = refl
         with_marker false = or_again (bytes_eq name (column_name l)) (is_among name (map column_name (filter (λ k. not (is_marker k)) ks)))
 

@@ -1,17 +1,17 @@
 -- A line of COLUMNS.
-use Rattle.std.specs.Prelude.{◌≡◌, ℕ, zero, suc, ◌==◌, ◌<◌, Bool, true, false, not, ◌&&◌, ◌||◌, if◌then◌else◌, List, [], ◌∷◌, ◌++◌, length,
-    drop, slice_index_or, codes, Result, Err, refl}
+use Rattle.std.specs.Prelude.{◌≡◌, ℕ, zero, suc, ◌==◌, ◌<◌, Bool, true, false, not, ◌&&◌, ◌||◌, if◌then◌else◌, List, [], ◌∷◌, ◌++◌, length}
+use Rattle.std.specs.Prelude.{drop, slice_index_or, codes, Result, Err, refl}
 use Rattle.std.proofs.Common.{arith, ap, sym, ◌∙◌, ◌-◌, subst, take, get_or, Bor}
 use Rattle.std.proofs.lemmas.Bool.{eqb-true, true≢false}
 use Rattle.std.proofs.lemmas.List.{length-map, append-nil}
 use Rattle.std.proofs.Math.Seq.{take-length}
 use Rattle.ip_defs.specs.Lists.{when}
 use Rattle.mps_defs.specs.Lists.{is_among}
-use Rattle.mps_defs.specs.Records.{Line, field, words_of, column_name, column_names, has_column, is_marker, all_entries, entries_of,
-    entries_from, kept_entries, row_names}
+use Rattle.mps_defs.specs.Records.{Line, field, words_of, column_name, column_names, has_column, is_marker, all_entries, entries_of}
+use Rattle.mps_defs.specs.Records.{entries_from, kept_entries, row_names}
 use Rattle.mps_defs.specs.Faults.{line_faults, marker_faults, pair_faults, is_split, is_right_marker}
-use Rattle.mps_defs.specs.declared.texts.MpsError.{MpsError}
-use Rattle.mps_defs.specs.declared.texts.MpsError.TheVariants as Out
+use Rattle.mps_defs.specs.declared.reading.MpsError.{MpsError}
+use Rattle.mps_defs.specs.declared.reading.MpsError.TheVariants as Out
 use Rattle.mps_reader.specs.declared.draft.RowTable.{RowTable}
 use Rattle.mps_reader.specs.declared.draft.ColumnTable.{ColumnTable}
 use Rattle.mps_reader.specs.declared.draft.Draft.{Draft}
@@ -64,7 +64,7 @@ rest_words (x ∷ xs) = (let size : length (x ∷ xs) - 1 ≡ length xs = omega 
 column_line_faults : (before : List Line) (n : ℕ) (fields : List (List ℕ)) (m : Bool) → is_among (codes "ROWS") (words_of before) ≡ true
     → is_marker (column_item n fields) ≡ m → ((length fields == 3) || ((length fields == 5) && not m)) ≡ true
     → line_faults before (column_item n fields) ≡ (if m then marker_faults before (column_item n fields)
-        else when (is_split before (column_item n fields)) (Out.SplitColumn n) ++ pair_faults before (column_item n fields))
+    else when (is_split before (column_item n fields)) (Out.SplitColumn n) ++ pair_faults before (column_item n fields))
 column_line_faults before n fields m rows marker count =
     let l = column_item n fields in
     let split : List MpsError = when (is_split before l) (Out.SplitColumn n) ++ pair_faults before l in

@@ -1,6 +1,6 @@
 -- What an entry changes in what is written for a row.
-use Rattle.std.specs.Prelude.{◌≡◌, ℕ, ◌+◌, ◌==◌, ◌<◌, ◌≤◌, max, Bool, true, false, cond, ◌&&◌, ◌||◌, if◌then◌else◌, List, [], ◌∷◌, ◌++◌,
-    length, map, filter, filter_map, find, Option, None, Some, bytes_eq, codes, refl}
+use Rattle.std.specs.Prelude.{◌≡◌, ℕ, ◌+◌, ◌==◌, ◌<◌, ◌≤◌, max, Bool, true, false, cond, ◌&&◌, ◌||◌, if◌then◌else◌, List, [], ◌∷◌, ◌++◌}
+use Rattle.std.specs.Prelude.{length, map, filter, filter_map, find, Option, None, Some, bytes_eq, codes, refl}
 use Rattle.std.specs.List.{list_any, enumerate_from, cons_option}
 use Rattle.std.specs.Option.{option_map, option_map_or, option_or, is_some}
 use Rattle.std.proofs.Common.{arith, ap, sym, ◌∙◌, subst}
@@ -11,7 +11,7 @@ use Rattle.mps_defs.specs.Numbers.{decimals_of}
 use Rattle.mps_defs.specs.Records.{Line, Entry, is_kept, is_kept_set, kept_entries, column_names}
 use Rattle.mps_defs.specs.Faults.{same_place}
 use Rattle.mps_defs.specs.TextModels.{written_at, written_in, written_for, decimals_in, largest, placed, number_or_zero}
-use Rattle.mps_defs.specs.declared.texts.Number.{Number}
+use Rattle.mps_defs.specs.declared.reading.Number.{Number}
 use Rattle.mps_reader.specs.declared.draft.RowDraft.{RowDraft}
 use Rattle.mps_reader.specs.declared.entries.Owner.{Owner}
 use Rattle.mps_reader.specs.declared.entries.Owner.TheVariants.{Column, RightSides, Ranges}

@@ -1,6 +1,6 @@
 -- First faults of lists that are put together.
-use Rattle.std.specs.Prelude.{◌≡◌, ℕ, true, if◌then◌else◌, not, flat_map, List, [], ◌∷◌, ◌++◌, Option, Some, None, Result, Ok, Err, drop,
-    map, length, string_bytes, ◌<◌, ◌+◌}
+use Rattle.std.specs.Prelude.{◌≡◌, ℕ, true, if◌then◌else◌, not, flat_map, List, [], ◌∷◌, ◌++◌, Option, Some, None, Result, Ok, Err, drop}
+use Rattle.std.specs.Prelude.{map, length, string_bytes, ◌<◌, ◌+◌}
 use Rattle.std.proofs.Common.{refl, ap, sym, ◌∙◌, subst, String, Global, get_or, arith}
 use Rattle.std.specs.Option.{is_none}
 use Rattle.ip_defs.specs.Lists.{first_of, when}
@@ -8,16 +8,16 @@ use Rattle.mps_defs.specs.Records.{Line, lines_of, objective, column_names}
 use Rattle.std.specs.Str.{is_utf8}
 use Rattle.mps_defs.specs.Faults.{ReadMeets}
 use Rattle.ip_defs.specs.declared.programs.Parts.{Parts}
-use Rattle.mps_reader.specs.Internal.Finished.{IsFinished}
+use Rattle.mps_reader.specs.Internal.DraftModels.{IsFinished}
 use Rattle.mps_defs.specs.TextModels.{model_from}
-use Rattle.mps_defs.specs.declared.texts.How.{How}
-use Rattle.mps_defs.specs.declared.texts.MpsError.{MpsError}
-use Rattle.mps_defs.specs.declared.texts.MpsError.TheVariants as Out
-use Rattle.mps_defs.specs.Faults.{IsFirst, all_line_faults, bound_missing, continuous_faults, faults_of_lines, is_ended, limit_faults,
-    upper_faults}
+use Rattle.mps_defs.specs.declared.reading.How.{How}
+use Rattle.mps_defs.specs.declared.reading.MpsError.{MpsError}
+use Rattle.mps_defs.specs.declared.reading.MpsError.TheVariants as Out
+use Rattle.mps_defs.specs.Faults.{IsFirst, all_line_faults, bound_missing, continuous_faults, faults_of_lines, is_ended, limit_faults}
+use Rattle.mps_defs.specs.Faults.{upper_faults}
 use Rattle.mps_reader.specs.Internal.Drafted.{AnswersFaults, column_faults}
 use Rattle.mps_reader.specs.declared.draft.ColumnDraft.{ColumnDraft}
-use Rattle.mps_reader.proofs.FinishLaws.{drop_at, drop_mapped}
+use Rattle.mps_reader.proofs.ModelListLaws.{drop_at, drop_mapped}
 
 -- where there is no fault, an error is that of memory
 pub from_none : (e : MpsError) → IsFirst None e → (o : Option MpsError) → IsFirst o e

@@ -1,6 +1,6 @@
 -- Fields by blanks and tabs: splitting at blanks, each piece at tabs, and dropping what is empty, is splitting at either.
-use Rattle.std.specs.Prelude.{◌≡◌, ℕ, ◌==◌, ◌||◌, Bool, true, false, cond, List, [], ◌∷◌, ◌++◌, ◌-◌, if◌then◌else◌, length, take,
-    slice_index_or, filter, flat_map, nat_le, refl}
+use Rattle.std.specs.Prelude.{◌≡◌, ℕ, ◌==◌, ◌||◌, Bool, true, false, cond, List, [], ◌∷◌, ◌++◌, ◌-◌, if◌then◌else◌, length, take}
+use Rattle.std.specs.Prelude.{slice_index_or, filter, flat_map, nat_le, refl}
 use Rattle.std.specs.List.{slice_split, onto_first}
 use Rattle.std.proofs.Common.{arith, ap, sym, ◌∙◌}
 use Rattle.std.proofs.lemmas.Bool.{eqb-true}

@@ -1,6 +1,6 @@
 -- How the definitions of a text grow by one line, for a reader that goes through it once.
-use Rattle.std.specs.Prelude.{◌≡◌, ℕ, Bool, true, false, cond, List, [], ◌∷◌, ◌++◌, map, None, Some, ◌&&◌, filter_map, find, ◌+◌, bytes_eq,
-    codes, length, refl}
+use Rattle.std.specs.Prelude.{◌≡◌, ℕ, Bool, true, false, cond, List, [], ◌∷◌, ◌++◌, map, None, Some, ◌&&◌, filter_map, find, ◌+◌, bytes_eq}
+use Rattle.std.specs.Prelude.{codes, length, refl}
 use Rattle.std.specs.Option.{option_or, option_map}
 use Rattle.std.specs.List.{enumerate_from, cons_option}
 use Rattle.std.proofs.Common.{◌∙◌, ap}

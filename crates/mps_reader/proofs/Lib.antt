@@ -6,7 +6,7 @@ pub mod CountLaws
 pub mod EntryLaws
 pub mod FaultLaws
 pub mod FieldLaws
-pub mod FinishLaws
+pub mod ModelListLaws
 pub mod GrowthLaws
 pub mod LimitedLaws
 pub mod LineLaws
@@ -24,5 +24,5 @@ pub mod TableLaws
 pub mod TakingLaws
 pub mod TextLaws
 mod UncrossedLaws
-pub mod WholeLaws
+pub mod DraftModelLaws
 pub mod WrittenLaws

@@ -8,14 +8,14 @@ use Rattle.ip_defs.specs.Limits.{limits_of, IsWellShaped}
 use Rattle.mps_defs.specs.Faults.{limit_faults}
 use Rattle.ip_defs.specs.declared.limits.What.TheVariants.{Columns}
 use Rattle.ip_defs.specs.declared.programs.Parts.{Parts}
-use Rattle.mps_defs.specs.declared.texts.How.{How}
-use Rattle.mps_defs.specs.declared.texts.Number.{Number}
-use Rattle.mps_defs.specs.declared.texts.MpsError.{MpsError}
-use Rattle.mps_defs.specs.declared.texts.MpsError.TheVariants as Out
+use Rattle.mps_defs.specs.declared.reading.How.{How}
+use Rattle.mps_defs.specs.declared.reading.Number.{Number}
+use Rattle.mps_defs.specs.declared.reading.MpsError.{MpsError}
+use Rattle.mps_defs.specs.declared.reading.MpsError.TheVariants as Out
 use Rattle.mps_reader.specs.declared.draft.ColumnDraft.{ColumnDraft}
 use Rattle.mps_reader.specs.Internal.Clamps.{clamped_parts}
 use Rattle.mps_reader.specs.Internal.Drafted.{drafted_columns, cost_rest}
-use Rattle.mps_reader.specs.Internal.Finished.{IsMade, IsLimited}
+use Rattle.mps_reader.specs.Internal.DraftModels.{IsMade, IsLimited}
 use Rattle.mps_reader.proofs.ClampLaws.{limits_same, clamped_same}
 use Rattle.mps_reader.proofs.FaultLaws.{first_is}
 

@@ -1,14 +1,14 @@
 -- A line of entries: what the rows have before it and after it, and its faults.
-use Rattle.std.specs.Prelude.{◌≡◌, ◌⊎◌, ℕ, Bool, true, false, cond, ◌&&◌, if◌then◌else◌, List, [], ◌∷◌, ◌++◌, map, filter, flat_map, Some,
-    bytes_eq, codes, Result, Ok, Err, refl}
+use Rattle.std.specs.Prelude.{◌≡◌, ◌⊎◌, ℕ, Bool, true, false, cond, ◌&&◌, if◌then◌else◌, List, [], ◌∷◌, ◌++◌, map, filter, flat_map, Some}
+use Rattle.std.specs.Prelude.{bytes_eq, codes, Result, Ok, Err, refl}
 use Rattle.std.proofs.Common.{ap, sym, ◌∙◌, subst, inl, inr}
 use Rattle.ip_defs.specs.Lists.{first_of}
 use Rattle.mps_defs.specs.Lists.{after_those}
-use Rattle.mps_defs.specs.Records.{Line, Entry, items_of, row_name, column_names, all_entries, entries_of, kept_entries, is_kept, item,
-    row_names}
+use Rattle.mps_defs.specs.Records.{Line, Entry, items_of, row_name, column_names, all_entries, entries_of, kept_entries, is_kept, item}
+use Rattle.mps_defs.specs.Records.{row_names}
 use Rattle.mps_defs.specs.Faults.{entry_faults, pair_faults, line_faults}
-use Rattle.mps_defs.specs.declared.texts.MpsError.{MpsError}
-use Rattle.mps_defs.specs.declared.texts.MpsError.TheVariants as Out
+use Rattle.mps_defs.specs.declared.reading.MpsError.{MpsError}
+use Rattle.mps_defs.specs.declared.reading.MpsError.TheVariants as Out
 use Rattle.mps_reader.specs.declared.draft.RowDraft.{RowDraft}
 use Rattle.mps_reader.specs.declared.draft.RowTable.{RowTable}
 use Rattle.mps_reader.specs.declared.draft.Draft.{Draft}

@@ -1,16 +1,18 @@
 -- The model that a draft says is the model of the lines that it stands for.
-use Rattle.std.specs.Prelude.{◌≡◌, ℕ, suc, ◌+◌, ◌<◌, ◌==◌, max, Bool, true, false, not, cond, if◌then◌else◌, List, [], ◌∷◌, ◌++◌, length,
-    map, filter, filter_map, find, position, slice_get, Option, None, Some, option_map, option_and_then, unwrap_or, bytes_eq, codes, ℤ, pos}
+use Rattle.std.specs.Prelude.{◌≡◌, ℕ, suc, ◌+◌, ◌<◌, ◌==◌, max, Bool, true, false, not, cond, if◌then◌else◌, List, [], ◌∷◌, ◌++◌, length}
+use Rattle.std.specs.Prelude.{map, filter, filter_map, find, position, slice_get, Option, None, Some, option_map, option_and_then}
+use Rattle.std.specs.Prelude.{unwrap_or, bytes_eq, codes, ℤ, pos}
 use Rattle.std.specs.List.{enumerate_from, cons_option}
 use Rattle.std.specs.Option.{option_map_or}
 use Rattle.std.proofs.Common.{refl, arith, ap, sym, ◌∙◌}
 use Rattle.std.proofs.lemmas.Bool.{ne_eqb}
 use Rattle.ip_defs.specs.Lists.{when}
 use Rattle.mps_defs.specs.Records.{Line, Entry, row_kind, row_name, is_free, column_names, kept_entries}
-use Rattle.mps_defs.specs.TextModels.{units, no_number, written_at, written_in, written_for, decimals_in, row_decimals, row_sides,
-    row_from, column_from, lower_by, upper_by, lower_entry, upper_entry, lower_side, upper_side, box_low, box_high, placed}
-use Rattle.mps_defs.specs.declared.texts.How.{How}
-use Rattle.mps_defs.specs.declared.texts.Number.{Number}
+use Rattle.mps_defs.specs.TextModels.{units, no_number, written_at, written_in, written_for, decimals_in, row_decimals, row_sides, row_from}
+use Rattle.mps_defs.specs.TextModels.{column_from, lower_by, upper_by, lower_entry, upper_entry, lower_side, upper_side, box_low, box_high}
+use Rattle.mps_defs.specs.TextModels.{placed}
+use Rattle.mps_defs.specs.declared.reading.How.{How}
+use Rattle.mps_defs.specs.declared.reading.Number.{Number}
 use Rattle.ip_defs.specs.declared.programs.Column.{Column}
 use Rattle.ip_defs.specs.declared.programs.Row.{Row}
 use Rattle.mps_reader.specs.declared.draft.RowKind.{RowKind}
@@ -18,8 +20,8 @@ use Rattle.mps_reader.specs.declared.draft.RowKind.TheVariants.{Free, AtMost, At
 use Rattle.mps_reader.specs.declared.draft.RowDraft.{RowDraft}
 use Rattle.mps_reader.specs.declared.draft.ColumnDraft.{ColumnDraft}
 use Rattle.mps_reader.specs.Internal.Progress.{kind_word, RowStands, ColumnStands, upper_said}
-use Rattle.mps_reader.specs.Internal.Drafted.{is_free_kind, drafted_decimals, drafted_coefs, drafted_row, drafted_rows, cost_head,
-    cost_rest, drafted_lower, drafted_upper, drafted_column, drafted_columns}
+use Rattle.mps_reader.specs.Internal.Drafted.{is_free_kind, drafted_decimals, drafted_coefs, drafted_row, drafted_rows, cost_head}
+use Rattle.mps_reader.specs.Internal.Drafted.{cost_rest, drafted_lower, drafted_upper, drafted_column, drafted_columns}
 use Rattle.mps_defs.proofs.PlaceLaws.{position_cons}
 use Rattle.mps_defs.proofs.NumberLaws.{largest-from}
 use Rattle.std.proofs.lemmas.Bool.{eq-eqb}
@@ -57,8 +59,8 @@ row_is ls how name kind r word s =
 -- the rows that are not free, from a place on
 pub rows_are : (ls : List Line) (how : How) (ks : List Line) (rs : List RowDraft) → map (λ r. kind_word r.kind) rs ≡ map row_kind ks
     → ((i : ℕ) (name : List ℕ) (r : RowDraft) → slice_get (map row_name ks) i ≡ Some name → slice_get rs i ≡ Some r →
-        RowStands (kept_entries (codes "COLUMNS") ls) (kept_entries (codes "RHS") ls) (kept_entries (codes "RANGES") ls) (column_names ls)
-        name r)
+    RowStands (kept_entries (codes "COLUMNS") ls) (kept_entries (codes "RHS") ls) (kept_entries (codes "RANGES") ls) (column_names ls)
+    name r)
     → drafted_rows how (map row_name ks) rs ≡ map (λ l. row_from ls how (row_kind l) (row_name l)) (filter (λ l. not (is_free l)) ks)
 rows_are ls how [] rs kinds s = refl
 rows_are ls how (k ∷ ks) [] kinds s = absurd cc
@@ -105,8 +107,8 @@ head_later es row j n (name ∷ names) l = by (written_at es row name) (head_lat
 -- what is left for a column, and for those after it
 costs_at : (es : List Entry) (row : List ℕ) (j : ℕ) (name : List ℕ) (names : List (List ℕ))
     → (cost_head j (filter_map (placed es row) (enumerate_from j (name ∷ names))) ≡ written_at es row name)
-        × (cost_rest j (filter_map (placed es row) (enumerate_from j (name ∷ names)))
-        ≡ filter_map (placed es row) (enumerate_from (j + 1) names))
+    × (cost_rest j (filter_map (placed es row) (enumerate_from j (name ∷ names)))
+    ≡ filter_map (placed es row) (enumerate_from (j + 1) names))
 costs_at es row j name names = by (written_at es row name)
   where
     rest : List (ℕ × Number)

@@ -1,6 +1,7 @@
 -- The table of columns after a line of COLUMNS: a marker, a line of the last column, or one that begins a column.
-use Rattle.std.specs.Prelude.{◌≡◌, ℕ, zero, suc, ◌+◌, ◌==◌, Bool, true, false, cond, not, ◌&&◌, ◌||◌, if◌then◌else◌, List, [], ◌∷◌, ◌++◌,
-    length, map, filter, position, slice_get, Option, None, Some, option_map, option_and_then, bytes_eq, string_bytes, codes, refl}
+use Rattle.std.specs.Prelude.{◌≡◌, ℕ, zero, suc, ◌+◌, ◌==◌, Bool, true, false, cond, not, ◌&&◌, ◌||◌, if◌then◌else◌, List, [], ◌∷◌, ◌++◌}
+use Rattle.std.specs.Prelude.{length, map, filter, position, slice_get, Option, None, Some, option_map, option_and_then, bytes_eq}
+use Rattle.std.specs.Prelude.{string_bytes, codes, refl}
 use Rattle.std.specs.Option.{option_map_or, option_or, is_some}
 use Rattle.std.specs.List.{list_any}
 use Rattle.std.proofs.Common.{length-append, arith, ap, sym, ◌∙◌, subst}
@@ -9,8 +10,8 @@ use Rattle.std.proofs.lemmas.List.Folds.{list_any-append}
 use Rattle.std.proofs.lemmas.Option.{slice_get_within}
 use Rattle.ip_defs.specs.Lists.{first_of, when}
 use Rattle.mps_defs.specs.Lists.{last_of, is_among}
-use Rattle.mps_defs.specs.Records.{Line, field, items_of, column_name, column_names, first_lines, has_column, in_force, is_marker,
-    bounds_on, bound_set, bound_column}
+use Rattle.mps_defs.specs.Records.{Line, field, items_of, column_name, column_names, first_lines, has_column, in_force, is_marker}
+use Rattle.mps_defs.specs.Records.{bounds_on, bound_set, bound_column}
 use Rattle.mps_defs.specs.Faults.{is_split}
 use Rattle.mps_defs.specs.TextModels.{lower_by, sets_lower, sets_upper, kind_is}
 use Rattle.mps_reader.specs.declared.draft.ColumnDraft.{ColumnDraft}

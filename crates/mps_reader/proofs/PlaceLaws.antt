@@ -1,6 +1,6 @@
 -- The places of names in a list that grows at its end.
-use Rattle.std.specs.Prelude.{◌≡◌, ℕ, zero, suc, ◌+◌, ◌-◌, false, List, [], ◌∷◌, ◌++◌, length, map, position, slice_get, None, Some,
-    option_map, bytes_eq, string_bytes, if◌then◌else◌, refl}
+use Rattle.std.specs.Prelude.{◌≡◌, ℕ, zero, suc, ◌+◌, ◌-◌, false, List, [], ◌∷◌, ◌++◌, length, map, position, slice_get, None, Some}
+use Rattle.std.specs.Prelude.{option_map, bytes_eq, string_bytes, if◌then◌else◌, refl}
 use Rattle.std.specs.List.{list_any}
 use Rattle.std.specs.Option.{option_or, is_some}
 use Rattle.std.specs.String.{string_eq}

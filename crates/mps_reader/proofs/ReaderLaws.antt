@@ -1,17 +1,18 @@
 -- Going through the lines of a text.
-use Rattle.std.specs.Prelude.{◌≡◌, ℕ, Bool, true, false, cond, List, [], ◌∷◌, ◌++◌, length, map, filter, Option, None, Some, option_map,
-    unwrap_or, not, ◌&&◌, ◌||◌, nat_le, bytes_eq, codes, slice_get, slice_index_or, if◌then◌else◌, Result, Ok, Err, refl}
+use Rattle.std.specs.Prelude.{◌≡◌, ℕ, Bool, true, false, cond, List, [], ◌∷◌, ◌++◌, length, map, filter, Option, None, Some, option_map}
+use Rattle.std.specs.Prelude.{unwrap_or, not, ◌&&◌, ◌||◌, nat_le, bytes_eq, codes, slice_get, slice_index_or, if◌then◌else◌, Result, Ok}
+use Rattle.std.specs.Prelude.{Err, refl}
 use Rattle.std.specs.Option.{option_map_or}
 use Rattle.std.specs.List.{list_any}
 use Rattle.std.proofs.Common.{sym, ◌∙◌, ap, subst, arith, Bor}
 use Rattle.std.proofs.lemmas.Bool.{le-leb, true≢false}
 use Rattle.ip_defs.specs.Lists.{first_of, when}
 use Rattle.mps_defs.specs.Lists.{last_of, is_among}
-use Rattle.mps_defs.specs.Records.{Line, items_of, words_of, first_field, opens, opens_end, last_word, line_of, fields_of, is_star,
-    is_blank, begins_with, item, opening, is_read, without_return}
+use Rattle.mps_defs.specs.Records.{Line, items_of, words_of, first_field, is_section_line, is_end_line, last_word, line_of, fields_of}
+use Rattle.mps_defs.specs.Records.{is_star, is_blank, begins_with, item, opening, is_read, without_return}
 use Rattle.mps_defs.specs.Faults.{all_line_faults, line_faults, is_before}
-use Rattle.mps_defs.specs.declared.texts.MpsError.{MpsError}
-use Rattle.mps_defs.specs.declared.texts.MpsError.TheVariants.{SectionOrder}
+use Rattle.mps_defs.specs.declared.reading.MpsError.{MpsError}
+use Rattle.mps_defs.specs.declared.reading.MpsError.TheVariants.{SectionOrder}
 use Rattle.mps_reader.specs.declared.sections.Section.{Section}
 use Rattle.mps_reader.specs.declared.draft.Draft.{Draft}
 use Rattle.mps_reader.specs.Internal.Progress.{section_word, Stands, IsTaken, IsFirstFault}
@@ -70,58 +71,58 @@ abbrev field_when : Bool → ℕ × List ℕ → List (List ℕ)
 field_when t p = when t (first_field p)
 
 -- the words of sections are the first fields of section lines
-pub words_are : (ps : List (ℕ × List ℕ)) → words_of (lines_by ps) ≡ map first_field (filter opens ps)
-words_are ps = by_last (λ qs. words_of (lines_by qs) ≡ map first_field (filter opens qs)) refl more ps
+pub words_are : (ps : List (ℕ × List ℕ)) → words_of (lines_by ps) ≡ map first_field (filter is_section_line ps)
+words_are ps = by_last (λ qs. words_of (lines_by qs) ≡ map first_field (filter is_section_line qs)) refl more ps
   where
-    by : (qs : List (ℕ × List ℕ)) (p : ℕ × List ℕ) (t : Bool) → opens p ≡ t → words_of (lines_by qs) ≡ map first_field (filter opens qs)
-        → words_of (lines_by qs ++ line_of (qs, p) ∷ []) ≡ map first_field (filter opens qs) ++ field_when t p
+    by : (qs : List (ℕ × List ℕ)) (p : ℕ × List ℕ) (t : Bool) → is_section_line p ≡ t → words_of (lines_by qs) ≡ map first_field (filter is_section_line qs)
+        → words_of (lines_by qs ++ line_of (qs, p) ∷ []) ≡ map first_field (filter is_section_line qs) ++ field_when t p
     by qs p true e h =
         words_grow (lines_by qs) (line_of (qs, p)) (ap not e)
         ∙ ap (λ w. words_of (lines_by qs) ++ w ∷ []) (last_word-add qs p ∙ ap (λ t. if t then first_field p else last_word qs) e)
         ∙ ap (λ ws. ws ++ first_field p ∷ []) h
-    by qs p false e h = words_stay (lines_by qs) (line_of (qs, p)) (ap not e) ∙ h ∙ sym (append-nil (map first_field (filter opens qs)))
+    by qs p false e h = words_stay (lines_by qs) (line_of (qs, p)) (ap not e) ∙ h ∙ sym (append-nil (map first_field (filter is_section_line qs)))
 
     one : (p : ℕ × List ℕ) (t : Bool) → field_when t p ≡ map first_field (cond t (p ∷ []) [])
     one p true = refl
     one p false = refl
 
-    more : (qs : List (ℕ × List ℕ)) (p : ℕ × List ℕ) → words_of (lines_by qs) ≡ map first_field (filter opens qs)
-        → words_of (lines_by (qs ++ p ∷ [])) ≡ map first_field (filter opens (qs ++ p ∷ []))
+    more : (qs : List (ℕ × List ℕ)) (p : ℕ × List ℕ) → words_of (lines_by qs) ≡ map first_field (filter is_section_line qs)
+        → words_of (lines_by (qs ++ p ∷ [])) ≡ map first_field (filter is_section_line (qs ++ p ∷ []))
     more qs p h =
         ap words_of (lines-add qs p)
-        ∙ by qs p (opens p) refl h
-        ∙ ap (λ ws. map first_field (filter opens qs) ++ ws) (one p (opens p))
-        ∙ sym (map-append first_field (filter opens qs) (filter opens (p ∷ [])))
-        ∙ ap (map first_field) (sym (filter-append opens qs (p ∷ [])))
+        ∙ by qs p (is_section_line p) refl h
+        ∙ ap (λ ws. map first_field (filter is_section_line qs) ++ ws) (one p (is_section_line p))
+        ∙ sym (map-append first_field (filter is_section_line qs) (filter is_section_line (p ∷ [])))
+        ∙ ap (map first_field) (sym (filter-append is_section_line qs (p ∷ [])))
 
 -- the word of the last section is that of the last section line
 pub last_word_of : (ps : List (ℕ × List ℕ)) → last_section (words_of (lines_by ps)) ≡ last_word ps
 last_word_of ps =
-    ap last_section (words_are ps) ∙ ap (λ o. unwrap_or o []) (last_of_map first_field (filter opens ps)) ∙ by (last_of (filter opens ps))
+    ap last_section (words_are ps) ∙ ap (λ o. unwrap_or o []) (last_of_map first_field (filter is_section_line ps)) ∙ by (last_of (filter is_section_line ps))
   where
     by : (o : Option (ℕ × List ℕ)) → unwrap_or (option_map first_field o) [] ≡ option_map_or first_field o []
     by None = refl
     by (Some p) = refl
 
 -- ENDATA is a word where one of the lines is the ENDATA line
-pub ended_where : (ps : List (ℕ × List ℕ)) → is_among (codes "ENDATA") (words_of (lines_by ps)) ≡ list_any opens_end ps
+pub ended_where : (ps : List (ℕ × List ℕ)) → is_among (codes "ENDATA") (words_of (lines_by ps)) ≡ list_any is_end_line ps
 ended_where ps = ap (is_among (codes "ENDATA")) (words_are ps) ∙ all ps
   where
     by : (p : ℕ × List ℕ) (qs : List (ℕ × List ℕ)) (t : Bool)
-        → is_among (codes "ENDATA") (map first_field (cond t (p ∷ filter opens qs) (filter opens qs)))
-        ≡ ((t && bytes_eq (codes "ENDATA") (first_field p)) || is_among (codes "ENDATA") (map first_field (filter opens qs)))
+        → is_among (codes "ENDATA") (map first_field (cond t (p ∷ filter is_section_line qs) (filter is_section_line qs)))
+        ≡ ((t && bytes_eq (codes "ENDATA") (first_field p)) || is_among (codes "ENDATA") (map first_field (filter is_section_line qs)))
     by p qs true = refl
     by p qs false = refl
 
-    all : (qs : List (ℕ × List ℕ)) → is_among (codes "ENDATA") (map first_field (filter opens qs)) ≡ list_any opens_end qs
+    all : (qs : List (ℕ × List ℕ)) → is_among (codes "ENDATA") (map first_field (filter is_section_line qs)) ≡ list_any is_end_line qs
     all [] = refl
     all (p ∷ qs) =
-        by p qs (opens p)
-        ∙ ap (λ t. (opens p && t) || is_among (codes "ENDATA") (map first_field (filter opens qs)))
+        by p qs (is_section_line p)
+        ∙ ap (λ t. (is_section_line p && t) || is_among (codes "ENDATA") (map first_field (filter is_section_line qs)))
         (text_turned (codes "ENDATA") (first_field p))
-        ∙ ap (λ t. opens_end p || t) (all qs)
+        ∙ ap (λ t. is_end_line p || t) (all qs)
 
-item_line : (ps : List (ℕ × List ℕ)) (p : ℕ × List ℕ) → opens p ≡ false
+item_line : (ps : List (ℕ × List ℕ)) (p : ℕ × List ℕ) → is_section_line p ≡ false
     → line_of (ps, p) ≡ item (last_section (words_of (lines_by ps))) p.0 (fields_of p.1)
 item_line ps p e =
     ap (λ t. made (not t) (last_word (ps ++ p ∷ []))) e
@@ -130,7 +131,7 @@ item_line ps p e =
     made : Bool → List ℕ → Line
     made t word = record { number = p.0; is_item = t; section = word; fields = fields_of p.1 }
 
-opening_line : (ps : List (ℕ × List ℕ)) (p : ℕ × List ℕ) → opens p ≡ true → line_of (ps, p) ≡ opening p.0 (fields_of p.1) (first_field p)
+opening_line : (ps : List (ℕ × List ℕ)) (p : ℕ × List ℕ) → is_section_line p ≡ true → line_of (ps, p) ≡ opening p.0 (fields_of p.1) (first_field p)
 opening_line ps p e =
     ap (λ t. made (not t) (last_word (ps ++ p ∷ []))) e
     ∙ ap (made false) (last_word-add ps p ∙ ap (λ t. if t then first_field p else last_word ps) e)
@@ -143,13 +144,13 @@ opening_line ps p e =
 pub skipped : (ps : List (ℕ × List ℕ)) (p : ℕ × List ℕ) (d : Draft) → is_read p ≡ false → Stands (lines_by ps) d
     → IsLineTaken ps p d (Ok false)
 skipped ps p d e h =
-    (ap (λ t. t && opens_end p) (sym e), subst (λ qs. Stands (lines_by qs) d) (sym (ap (λ t. ps ++ when t p) e ∙ append-nil ps)) h)
+    (ap (λ t. t && is_end_line p) (sym e), subst (λ qs. Stands (lines_by qs) d) (sym (ap (λ t. ps ++ when t p) e ∙ append-nil ps)) h)
 
 -- a line that is read, said as l
 pub read_as : (ps : List (ℕ × List ℕ)) (p : ℕ × List ℕ) (l : Line) (new : Draft) → is_read p ≡ true → line_of (ps, p) ≡ l
-    → Stands (lines_by ps ++ l ∷ []) new → IsLineTaken ps p new (Ok (opens_end p))
+    → Stands (lines_by ps ++ l ∷ []) new → IsLineTaken ps p new (Ok (is_end_line p))
 read_as ps p l new e is h = (
-  ap (λ t. t && opens_end p) (sym e),
+  ap (λ t. t && is_end_line p) (sym e),
   subst (λ ls. Stands ls new) (sym (ap (λ t. lines_by (ps ++ when t p)) e
       ∙ lines-add ps p
       ∙ ap (λ k. lines_by ps ++ k ∷ []) is)) h,
@@ -190,11 +191,11 @@ is_read_by p word others star is =
     there : (some && true) ≡ true
     there = ap (λ t. t && true) (le-leb 1 (length (word ∷ others)) (omega arith))
 
-pub item_is_no_end : (p : ℕ × List ℕ) → begins_with is_blank p.1 ≡ true → opens_end p ≡ false
+pub item_is_no_end : (p : ℕ × List ℕ) → begins_with is_blank p.1 ≡ true → is_end_line p ≡ false
 item_is_no_end p e = ap (λ t. not t && bytes_eq (first_field p) (codes "ENDATA")) e
 
 pub end_by_word : (p : ℕ × List ℕ) (word : List ℕ) (others : List (List ℕ)) → begins_with is_blank p.1 ≡ false
-    → fields_of p.1 ≡ word ∷ others → opens_end p ≡ bytes_eq word (codes "ENDATA")
+    → fields_of p.1 ≡ word ∷ others → is_end_line p ≡ bytes_eq word (codes "ENDATA")
 end_by_word p word others e is =
     ap (λ t. not t && bytes_eq (first_field p) (codes "ENDATA")) e ∙ ap (λ fs. bytes_eq (slice_index_or fs 0 []) (codes "ENDATA")) is
 

@@ -1,6 +1,6 @@
 -- How a draft grows by a line of ROWS.
-use Rattle.std.specs.Prelude.{◌≡◌, ℕ, ◌+◌, Bool, true, false, List, [], ◌∷◌, ◌++◌, length, map, filter, flat_map, position, Option, None,
-    Some, option_map, not, bytes_eq, codes, string_bytes, if◌then◌else◌, refl}
+use Rattle.std.specs.Prelude.{◌≡◌, ℕ, ◌+◌, Bool, true, false, List, [], ◌∷◌, ◌++◌, length, map, filter, flat_map, position, Option, None}
+use Rattle.std.specs.Prelude.{Some, option_map, not, bytes_eq, codes, string_bytes, if◌then◌else◌, refl}
 use Rattle.std.specs.Option.{option_or, is_some}
 use Rattle.std.proofs.Common.{sym, ◌∙◌, ap, subst, arith}
 use Rattle.std.proofs.lemmas.List.{length-map, map-append}
@@ -8,18 +8,18 @@ use Rattle.std.proofs.lemmas.Option.{slice_get_within}
 use Rattle.ip_defs.specs.Lists.{first_of, when}
 use Rattle.mps_defs.specs.Lists.{last_of, is_among, where_true}
 use Rattle.std.specs.Option.{option_or}
-use Rattle.mps_defs.specs.Records.{Line, Entry, items_of, words_of, row_lines, row_kind, row_name, is_free, column_names, kept_entries,
-    entries_of, is_kept, item, row_names}
+use Rattle.mps_defs.specs.Records.{Line, Entry, items_of, words_of, row_lines, row_kind, row_name, is_free, column_names, kept_entries}
+use Rattle.mps_defs.specs.Records.{entries_of, is_kept, item, row_names}
 use Rattle.mps_defs.specs.Faults.{line_faults, row_faults, is_before}
-use Rattle.mps_defs.specs.declared.texts.MpsError.TheVariants.{SectionOrder, TwiceRow, Marker, RowKind as WrongKind}
+use Rattle.mps_defs.specs.declared.reading.MpsError.TheVariants.{SectionOrder, TwiceRow, Marker, RowKind as WrongKind}
 use Rattle.mps_reader.specs.declared.draft.RowKind.{RowKind}
 use Rattle.mps_reader.specs.declared.draft.RowKind.TheVariants.{Free, AtMost, AtLeast, Equal}
 use Rattle.mps_reader.specs.declared.draft.RowDraft.{RowDraft}
 use Rattle.mps_reader.specs.declared.draft.RowTable.{RowTable}
 use Rattle.mps_reader.specs.declared.draft.Draft.{Draft}
 use Rattle.mps_reader.specs.Internal.Progress.{kind_word, Stands, RowsStand, RowStands, EntriesStand, IsNewRow, IsWithRow, AreApart}
-use Rattle.mps_reader.proofs.StayLaws.{column_lines_stay, sections_stay, columns_stand_stay, bounds_stand_stay, sets_stay,
-    column_names_stay}
+use Rattle.mps_reader.proofs.StayLaws.{column_lines_stay, sections_stay, columns_stand_stay, bounds_stand_stay, sets_stay}
+use Rattle.mps_reader.proofs.StayLaws.{column_names_stay}
 use Rattle.mps_reader.proofs.SectionLaws.{later_is_empty}
 use Rattle.ip_defs.proofs.ListLaws.{none_append}
 use Rattle.mps_reader.proofs.PlaceLaws.{apart_more, place_of_name, get_of_more}
@@ -110,7 +110,7 @@ pub rows_grow : (before : List Line) (t new : RowTable) (n : ℕ) (k : RowKind) 
 rows_grow before t new n k kind name is fresh w h =
     let more = sym (rows_more before n kind name) in
     let count : length t.rows.items ≡ length (row_lines before) = sym (length-map t.rows.items (λ r. kind_word r.kind)) ∙ ap length h.kinds
-            ∙ length-map (row_lines before) row_kind in record {
+    ∙ length-map (row_lines before) row_kind in record {
       names = w.names
           ∙ ap (λ ns. ns ++ name ∷ []) h.names
           ∙ sym (map-append row_name (row_lines before) (row_item n kind name ∷ []))

@@ -1,6 +1,6 @@
 -- The order of the sections.
-use Rattle.std.specs.Prelude.{◌≡◌, ℕ, nat_lt, Bool, true, false, cond, List, [], ◌∷◌, ◌++◌, map, Option, None, Some, option_map, not, ◌&&◌,
-    ◌||◌, bytes_eq, codes, refl}
+use Rattle.std.specs.Prelude.{◌≡◌, ℕ, nat_lt, Bool, true, false, cond, List, [], ◌∷◌, ◌++◌, map, Option, None, Some, option_map, not, ◌&&◌}
+use Rattle.std.specs.Prelude.{◌||◌, bytes_eq, codes, refl}
 use Rattle.std.specs.List.{list_all}
 use Rattle.std.specs.Option.{option_map_or, is_none}
 use Rattle.std.proofs.Common.{sym, ◌∙◌, ap, subst, arith}
@@ -8,12 +8,12 @@ use Rattle.std.proofs.lemmas.Bool.{le-ltb, ltb-true, true≢false, or_from, or_l
 use Rattle.std.proofs.lemmas.Slice.Eq.{bytes_eq-Decides}
 use Rattle.mps_defs.specs.Lists.{is_among, last_of}
 use Rattle.mps_defs.specs.Records.{Line, items_of, words_of, column_names, kept_entries, opening, row_names}
-use Rattle.mps_defs.specs.Faults.{all_line_faults, line_faults, is_before, may_come, place_of}
+use Rattle.mps_defs.specs.Faults.{all_line_faults, line_faults, is_before, may_come, section_place}
 use Rattle.mps_reader.specs.declared.sections.Section.{Section}
 use Rattle.mps_reader.specs.declared.sections.Section.TheVariants as Sections
 use Rattle.mps_reader.specs.declared.draft.Draft.{Draft}
-use Rattle.mps_reader.specs.Internal.Progress.{section_word, Stands, SectionsStand, RowsStand, EntriesStand, ColumnsStand, BoundsStand,
-    SetsStand}
+use Rattle.mps_reader.specs.Internal.Progress.{section_word, Stands, SectionsStand, RowsStand, EntriesStand, ColumnsStand, BoundsStand}
+use Rattle.mps_reader.specs.Internal.Progress.{SetsStand}
 use Rattle.mps_reader.proofs.StayLaws.{rows_stand_stay, columns_stand_stay, bounds_stand_stay, sets_stay, entries_stay}
 use Rattle.ip_defs.proofs.BoolLaws.{left_true, right_true, left_false, either_true}
 use Rattle.std.proofs.lemmas.List.{map-append}
@@ -24,18 +24,18 @@ use Rattle.mps_defs.proofs.LineLaws.{words_stay, words_grow, items_stay}
 
 -- no section comes before one that is not after it
 pub not_before_back : (word later : List ℕ) → is_before word later ≡ true → is_before later word ≡ false
-not_before_back word later h = by (place_of word) (place_of later) refl refl
+not_before_back word later h = by (section_place word) (section_place later) refl refl
   where
     both : Option ℕ → Option ℕ → Bool
     both o p = option_map_or (λ i. option_map_or (nat_lt i) p false) o false
 
-    by : (o p : Option ℕ) → place_of word ≡ o → place_of later ≡ p → is_before later word ≡ false
-    by None p e f = absurd (true≢false (sym h ∙ ap (λ t. both t (place_of later)) e))
-    by (Some i) None e f = ap (λ t. both t (place_of word)) f
+    by : (o p : Option ℕ) → section_place word ≡ o → section_place later ≡ p → is_before later word ≡ false
+    by None p e f = absurd (true≢false (sym h ∙ ap (λ t. both t (section_place later)) e))
+    by (Some i) None e f = ap (λ t. both t (section_place word)) f
     by (Some i) (Some j) e f =
-        let less : nat_lt i j ≡ true = sym (ap (λ t. both t (place_of later)) e ∙ ap (both (Some i)) f) ∙ h in
+        let less : nat_lt i j ≡ true = sym (ap (λ t. both t (section_place later)) e ∙ ap (both (Some i)) f) ∙ h in
         let back : nat_lt j i ≡ false = le-ltb j i (omega (arith, ltb-true i j less)) in
-        ap (λ t. both t (place_of word)) f ∙ ap (both (Some j)) e ∙ back
+        ap (λ t. both t (section_place word)) f ∙ ap (both (Some j)) e ∙ back
 
 -- what all are before is not before any of them
 pub none_after : (words : List (List ℕ)) (word later : List ℕ) → list_all (λ earlier. is_before earlier word) words ≡ true
@@ -85,7 +85,7 @@ order-add words word come last later is h =
 
 -- ---- a section line
 
-has_place : (s : Section) → is_none (place_of (section_word s)) ≡ false
+has_place : (s : Section) → is_none (section_place (section_word s)) ≡ false
 has_place Sections.Name = refl
 has_place Sections.Rows = refl
 has_place Sections.Columns = refl
@@ -121,7 +121,7 @@ opening_stands before n fields word s d new word_is come more rows columns sets 
     let l = opening n fields word in record {
       no_fault = faults-add before l
           ∙ ap (λ fs. fs ++ line_faults before l) h.no_fault
-          ∙ opening_right before n fields word (subst (λ w. is_none (place_of w) ≡ false) word_is (has_place s)) come;
+          ∙ opening_right before n fields word (subst (λ w. is_none (section_place w) ≡ false) word_is (has_place s)) come;
       sections = sections_grow before l d.sections.items new.sections.items s refl word_is more h.sections;
       rows = subst (RowsStand (before ++ l ∷ [])) (sym rows) (rows_stand_stay before l d.rows refl h.rows);
       entries = subst (λ t. EntriesStand (kept_entries (codes "COLUMNS") (before ++ l ∷ [])) (kept_entries (codes "RHS") (before ++ l ∷ []))

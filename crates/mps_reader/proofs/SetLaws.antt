@@ -1,15 +1,15 @@
 -- A line of RHS or RANGES.
-use Rattle.std.specs.Prelude.{◌≡◌, ℕ, nat_le, true, false, not, ◌&&◌, drop, if◌then◌else◌, List, [], ◌∷◌, ◌++◌, length, Option, Some,
-    option_map, unwrap_or, bytes_eq, string_bytes, codes, Result, refl}
+use Rattle.std.specs.Prelude.{◌≡◌, ℕ, nat_le, true, false, not, ◌&&◌, drop, if◌then◌else◌, List, [], ◌∷◌, ◌++◌, length, Option, Some}
+use Rattle.std.specs.Prelude.{option_map, unwrap_or, bytes_eq, string_bytes, codes, Result, refl}
 use Rattle.std.specs.Option.{option_map_or}
 use Rattle.std.proofs.Common.{ap, sym, ◌∙◌, subst}
 use Rattle.ip_defs.specs.Lists.{first_of, when}
 use Rattle.mps_defs.specs.Lists.{is_among}
-use Rattle.mps_defs.specs.Records.{row_names, is_columns, is_marker, column_name, names_set, Line, Entry, items_of, words_of, column_names,
-    all_entries, entries_of, entries_from, kept_entries, set_of, bound_set, item}
+use Rattle.mps_defs.specs.Records.{row_names, is_columns, is_marker, column_name, names_set, Line, Entry, items_of, words_of, column_names}
+use Rattle.mps_defs.specs.Records.{all_entries, entries_of, entries_from, kept_entries, set_of, bound_set, item}
 use Rattle.mps_defs.specs.Faults.{line_faults, pair_faults}
-use Rattle.mps_defs.specs.declared.texts.MpsError.{MpsError}
-use Rattle.mps_defs.specs.declared.texts.MpsError.TheVariants as Out
+use Rattle.mps_defs.specs.declared.reading.MpsError.{MpsError}
+use Rattle.mps_defs.specs.declared.reading.MpsError.TheVariants as Out
 use Rattle.mps_reader.specs.declared.sections.Section.{Section}
 use Rattle.mps_reader.specs.declared.sections.Section.TheVariants as Sections
 use Rattle.mps_reader.specs.declared.draft.RowTable.{RowTable}
@@ -17,8 +17,8 @@ use Rattle.mps_reader.specs.declared.draft.Sets.{Sets}
 use Rattle.mps_reader.specs.declared.draft.Draft.{Draft}
 use Rattle.mps_reader.specs.declared.entries.Owner.{Owner}
 use Rattle.mps_reader.specs.Internal.Progress.{EntriesStand, SetsStand, Stands, IsTaken, section_word}
-use Rattle.mps_reader.specs.Internal.Taking.{owner_word, RowsHave, Owns, AreEntriesTaken, IsSetLine, IsSetKept, set_owner,
-    entry_faults_after}
+use Rattle.mps_reader.specs.Internal.Taking.{owner_word, RowsHave, Owns, AreEntriesTaken, IsSetLine, IsSetKept, set_owner}
+use Rattle.mps_reader.specs.Internal.Taking.{entry_faults_after}
 use Rattle.mps_reader.proofs.StayLaws.{column_lines_stay, column_names_stay, sections_stay, columns_stand_stay, bounds_stand_stay}
 use Rattle.mps_reader.proofs.TakingLaws.{IsDone_map}
 use Rattle.mps_reader.proofs.LineLaws.{rows_begin, rows_end, pair_faults_are, taken}

@@ -1,15 +1,15 @@
 -- What stays when a line comes that says nothing of it.
-use Rattle.std.specs.Prelude.{◌≡◌, ℕ, Bool, true, false, cond, List, [], ◌∷◌, ◌++◌, length, map, filter, flat_map, not, ◌&&◌, ◌||◌,
-    position, slice_get, option_map, option_and_then, nat_le, bytes_eq, codes, refl}
+use Rattle.std.specs.Prelude.{◌≡◌, ℕ, Bool, true, false, cond, List, [], ◌∷◌, ◌++◌, length, map, filter, flat_map, not, ◌&&◌, ◌||◌}
+use Rattle.std.specs.Prelude.{position, slice_get, option_map, option_and_then, nat_le, bytes_eq, codes, refl}
 use Rattle.std.specs.Option.{option_map_or}
 use Rattle.std.specs.List.{list_any}
 use Rattle.std.proofs.Common.{sym, ◌∙◌, ap, subst}
 use Rattle.std.proofs.lemmas.Slice.Eq.{bytes_eq-Decides}
 use Rattle.ip_defs.specs.Lists.{first_of, when}
 use Rattle.mps_defs.specs.Lists.{last_of, is_among}
-use Rattle.mps_defs.specs.Records.{Line, Entry, items_of, words_of, row_lines, row_name, row_kind, is_free, column_lines, column_name,
-    column_names, first_lines, has_column, in_force, is_marker, set_of, bound_set, is_kept, bound_column, bounds_on, all_entries,
-    kept_entries, entries_of, field, is_new_column, row_names}
+use Rattle.mps_defs.specs.Records.{Line, Entry, items_of, words_of, row_lines, row_name, row_kind, is_free, column_lines, column_name}
+use Rattle.mps_defs.specs.Records.{column_names, first_lines, has_column, in_force, is_marker, set_of, bound_set, is_kept, bound_column}
+use Rattle.mps_defs.specs.Records.{bounds_on, all_entries, kept_entries, entries_of, field, is_new_column, row_names}
 use Rattle.mps_defs.specs.TextModels.{is_integer, lower_by, sets_lower, sets_upper, kind_is}
 use Rattle.mps_reader.specs.declared.sections.Section.{Section}
 use Rattle.mps_reader.specs.declared.draft.RowDraft.{RowDraft}
@@ -17,8 +17,8 @@ use Rattle.mps_reader.specs.declared.draft.RowTable.{RowTable}
 use Rattle.mps_reader.specs.declared.draft.ColumnDraft.{ColumnDraft}
 use Rattle.mps_reader.specs.declared.draft.ColumnTable.{ColumnTable}
 use Rattle.mps_reader.specs.declared.draft.Sets.{Sets}
-use Rattle.mps_reader.specs.Internal.Progress.{SectionsStand, RowsStand, EntriesStand, ColumnsStand, BoundsStand, SetsStand, AreApart,
-    column_of, upper_said}
+use Rattle.mps_reader.specs.Internal.Progress.{SectionsStand, RowsStand, EntriesStand, ColumnsStand, BoundsStand, SetsStand, AreApart}
+use Rattle.mps_reader.specs.Internal.Progress.{column_of, upper_said}
 use Rattle.std.proofs.lemmas.List.{append-nil}
 use Rattle.std.proofs.lemmas.Bool.{true≢false}
 use Rattle.mps_defs.proofs.LineLaws.{rows_stay, items_stay, words_stay}

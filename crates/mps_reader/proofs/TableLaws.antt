@@ -1,6 +1,6 @@
 -- The table of rows after an entry.
-use Rattle.std.specs.Prelude.{◌≡◌, ℕ, zero, suc, ◌==◌, ◌≤◌, nat_lt, Bool, true, false, not, ◌&&◌, List, [], ◌∷◌, ◌++◌, length, map,
-    position, slice_get, slice_set, None, Some, bytes_eq, string_bytes, codes, unwrap_or, Result, refl}
+use Rattle.std.specs.Prelude.{◌≡◌, ℕ, zero, suc, ◌==◌, ◌≤◌, nat_lt, Bool, true, false, not, ◌&&◌, List, [], ◌∷◌, ◌++◌, length, map}
+use Rattle.std.specs.Prelude.{position, slice_get, slice_set, None, Some, bytes_eq, string_bytes, codes, unwrap_or, Result, refl}
 use Rattle.std.specs.List.{list_any}
 use Rattle.std.specs.Vec.{with_item}
 use Rattle.std.proofs.Common.{arith, ap, sym, ◌∙◌, subst, ◌-◌, ◌<◌, get_or, take, drop, Bor}
@@ -10,18 +10,18 @@ use Rattle.std.proofs.Math.Seq.{map-set_same, take-length}
 use Rattle.ip_defs.specs.Lists.{first_of, when}
 use Rattle.mps_defs.specs.Lists.{is_among}
 use Rattle.mps_defs.specs.Numbers.{number_of, is_number, decimals_of}
-use Rattle.mps_defs.specs.Records.{Line, Entry, is_free, row_kind, row_name, row_lines, is_kept, entries_from, entry, row_names}
+use Rattle.mps_defs.specs.Records.{Line, Entry, is_free, row_kind, row_name, row_lines, is_kept, entries_from, entry_of, row_names}
 use Rattle.mps_defs.specs.Faults.{entry_faults, same_place}
 use Rattle.mps_defs.specs.TextModels.{no_number, number_or_zero}
-use Rattle.mps_defs.specs.declared.texts.Number.{Number}
-use Rattle.mps_defs.specs.declared.texts.MpsError.{MpsError}
-use Rattle.mps_defs.specs.declared.texts.MpsError.TheVariants as Out
+use Rattle.mps_defs.specs.declared.reading.Number.{Number}
+use Rattle.mps_defs.specs.declared.reading.MpsError.{MpsError}
+use Rattle.mps_defs.specs.declared.reading.MpsError.TheVariants as Out
 use Rattle.mps_reader.specs.declared.draft.RowDraft.{RowDraft}
 use Rattle.mps_reader.specs.declared.draft.RowTable.{RowTable}
 use Rattle.mps_reader.specs.declared.entries.Owner.{Owner}
 use Rattle.mps_reader.specs.Internal.Progress.{RowsStand, kind_word}
-use Rattle.mps_reader.specs.Internal.Taking.{IsDone, Owns, IsPut, RowsHave, IsEntryTaken, AreEntriesTaken, owner_word, has_number,
-    counts_on, entry_faults_after}
+use Rattle.mps_reader.specs.Internal.Taking.{IsDone, Owns, IsPut, RowsHave, IsEntryTaken, AreEntriesTaken, owner_word, has_number}
+use Rattle.mps_reader.specs.Internal.Taking.{counts_on, entry_faults_after}
 use Rattle.mps_reader.proofs.CountLaws.{counts, is_at}
 use Rattle.mps_reader.proofs.EntryLaws.{RowHas, has_same_place, idle_entry, other_row, own_row}
 use Rattle.mps_reader.proofs.TakingLaws.{where_some, IsDone_map}
@@ -148,7 +148,7 @@ known_row ls t row i rows at = known row (row_names ls) i (ap (position (bytes_e
 -- its row or its number is wrong
 pub not_read : (ls : List Line) (owner : Owner) (es : List Entry) (t : RowTable) (e : Entry) (x : MpsError) → RowsStand ls t
     → first_of (when (not (is_among e.row (map string_bytes t.names.keys))) (Out.UnknownRow e.line)
-        ++ when (not (is_number e.text)) (Out.Number e.line))
+    ++ when (not (is_number e.text)) (Out.Number e.line))
     ≡ Some x
     → first_of (entry_faults (owner_word owner) ls es e) ≡ Some x
 not_read ls owner es t e x rows first =
@@ -191,7 +191,7 @@ pub counted_entry : (ls : List Line) (owner : Owner) (es : List Entry) (t : RowT
     → IsEntryTaken ls owner es (record { names = t.names; rows = with_item t.rows i new; objective = t.objective }) e result
 counted_entry ls owner es t i r new e n result have owns at there is counts done =
     IsDone_map _ (entry_faults (owner_word owner) ls es e) (λ _. IsPut owner n r new) (λ _. RowsHave ls owner (es
-        ++ e ∷ []) (record { names = t.names; rows = with_item t.rows i new; objective = t.objective })) result
+    ++ e ∷ []) (record { names = t.names; rows = with_item t.rows i new; objective = t.objective })) result
     (sym same) written done
   where
     kept : is_kept (owner_word owner) ls e ≡ true
@@ -238,13 +238,13 @@ abbrev pub words : List (Bor (List ℕ)) → List (List ℕ)
 words fields = map (λ f. f.now) fields
 
 pub one_entry : (line : ℕ) (name : List ℕ) (fields : List (Bor (List ℕ))) (d : Bor (List ℕ)) → 2 ≤ length fields
-    → entries_from line name (words fields) ≡ entry line name (get_or fields 0 d).now (get_or fields 1 d).now ∷ entries_from line name
+    → entries_from line name (words fields) ≡ entry_of line name (get_or fields 0 d).now (get_or fields 1 d).now ∷ entries_from line name
     (words (take (length fields - 2) (drop 2 fields)))
 one_entry line name [] d h = absurd (omega arith)
 one_entry line name (x ∷ []) d h = absurd (omega arith)
 one_entry line name (x ∷ y ∷ rest) d h =
     let size : length (x ∷ y ∷ rest) - 2 ≡ length rest = omega arith in
-    ap (λ l. entry line name x.now y.now ∷ entries_from line name (words l)) (sym (ap (λ n. take n rest) size ∙ take-length rest))
+    ap (λ l. entry_of line name x.now y.now ∷ entries_from line name (words l)) (sym (ap (λ n. take n rest) size ∙ take-length rest))
 
 pub no_entry : (line : ℕ) (name : List ℕ) (fields : List (Bor (List ℕ))) → length fields < 2 → entries_from line name (words fields) ≡ []
 no_entry line name [] h = refl

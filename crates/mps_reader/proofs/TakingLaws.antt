@@ -3,7 +3,7 @@ use Rattle.std.specs.Prelude.{◌≡◌, Bool, true, false, List, [], ◌++◌, 
 use Rattle.std.proofs.Common.{ap, sym, ◌∙◌, subst, IsErr, IsErrAnd, inr, inl}
 use Rattle.ip_defs.specs.Lists.{first_of, when}
 use Rattle.mps_defs.specs.Lists.{where_true}
-use Rattle.mps_defs.specs.declared.texts.MpsError.{MpsError}
+use Rattle.mps_defs.specs.declared.reading.MpsError.{MpsError}
 use Rattle.mps_reader.specs.Internal.Taking.{IsDone}
 use Rattle.std.proofs.lemmas.Bool.{true≢false}
 use Rattle.mps_defs.proofs.ListLaws.{first_stays}

@@ -1,6 +1,6 @@
 -- The lines of a text, taken one by one.
-use Rattle.std.specs.Prelude.{◌≡◌, ℕ, ◌+◌, ◌<◌, ◌≤◌, Bool, true, false, List, [], ◌∷◌, ◌++◌, length, map, filter, Some, option_map, ◌&&◌,
-    take, drop, slice_get, if◌then◌else◌, refl, Result, Ok, Err}
+use Rattle.std.specs.Prelude.{◌≡◌, ℕ, ◌+◌, ◌<◌, ◌≤◌, Bool, true, false, List, [], ◌∷◌, ◌++◌, length, map, filter, Some, option_map, ◌&&◌}
+use Rattle.std.specs.Prelude.{take, drop, slice_get, if◌then◌else◌, refl, Result, Ok, Err}
 use Rattle.std.specs.Option.{option_or}
 use Rattle.std.specs.List.{list_any, slice_split, enumerate_from}
 use Rattle.std.proofs.Common.{sym, ◌∙◌, ap, subst, arith, get_or}
@@ -11,10 +11,10 @@ use Rattle.std.proofs.lemmas.List.Sums.{count_by-le-length}
 use Rattle.std.proofs.lemmas.List.Folds.{list_any-append}
 use Rattle.ip_defs.specs.Lists.{first_of, when}
 use Rattle.mps_defs.specs.Lists.{with_earlier, after_those, through_first}
-use Rattle.mps_defs.specs.Records.{Line, opens_end, line_of, without_return, is_line_end, is_read}
+use Rattle.mps_defs.specs.Records.{Line, is_end_line, line_of, without_return, is_line_end, is_read}
 use Rattle.mps_defs.specs.Faults.{all_line_faults, faults_after}
-use Rattle.mps_defs.specs.declared.texts.MpsError.{MpsError}
-use Rattle.mps_defs.specs.declared.texts.MpsError.TheVariants as Out
+use Rattle.mps_defs.specs.declared.reading.MpsError.{MpsError}
+use Rattle.mps_defs.specs.declared.reading.MpsError.TheVariants as Out
 use Rattle.mps_reader.specs.Internal.Progress.{IsFirstFault, Stands}
 use Rattle.mps_reader.specs.Internal.Reading.{lines_by, IsLineTaken}
 use Rattle.ip_defs.proofs.BoolLaws.{left_true, right_true}
@@ -91,36 +91,36 @@ some_and_others xs j =
     (read_from (1 + length (take j xs)) (drop j xs), ap (read_from 1) (sym (take-append-drop j xs)) ∙ read_append 1 (take j xs) (drop j xs))
 
 -- lines are read up to the ENDATA line, so far as it did not come
-up_to : (done : List (ℕ × List ℕ)) (p : ℕ × List ℕ) (t : Bool) (ys : List (ℕ × List ℕ)) → list_any opens_end done ≡ false
-    → (zs : List (ℕ × List ℕ)) × (through_first opens_end ((done ++ when t p) ++ ys) ≡ (done ++ when t p) ++ zs)
+up_to : (done : List (ℕ × List ℕ)) (p : ℕ × List ℕ) (t : Bool) (ys : List (ℕ × List ℕ)) → list_any is_end_line done ≡ false
+    → (zs : List (ℕ × List ℕ)) × (through_first is_end_line ((done ++ when t p) ++ ys) ≡ (done ++ when t p) ++ zs)
 up_to done p true ys going =
-    let next = through_next opens_end p ys in (
+    let next = through_next is_end_line p ys in (
       next.0,
-      ap (through_first opens_end) (append_assoc done (p ∷ []) ys)
-          ∙ through-append opens_end done (p ∷ ys) going
+      ap (through_first is_end_line) (append_assoc done (p ∷ []) ys)
+          ∙ through-append is_end_line done (p ∷ ys) going
           ∙ ap (λ k. done ++ k) next.1
           ∙ sym (append_assoc done (p ∷ []) next.0),
     )
 up_to done p false ys going = (
-  through_first opens_end ys,
-  ap (λ k. through_first opens_end (k ++ ys)) (append-nil done)
-      ∙ through-append opens_end done ys going
-      ∙ ap (λ k. k ++ through_first opens_end ys) (sym (append-nil done)),
+  through_first is_end_line ys,
+  ap (λ k. through_first is_end_line (k ++ ys)) (append-nil done)
+      ∙ through-append is_end_line done ys going
+      ∙ ap (λ k. k ++ through_first is_end_line ys) (sym (append-nil done)),
 )
 
 -- what the lines of a text say
 abbrev pub said_by : List (List ℕ) → List Line
-said_by xs = lines_by (through_first opens_end (read_from 1 xs))
+said_by xs = lines_by (through_first is_end_line (read_from 1 xs))
 
 -- the ENDATA line is the last one
-pub at_end : (xs : List (List ℕ)) (i : ℕ) (x : List ℕ) → slice_get xs i ≡ Some x → list_any opens_end (read_from 1 (take i xs)) ≡ false
-    → (is_read (i + 1, without_return x) && opens_end (i + 1, without_return x)) ≡ true
+pub at_end : (xs : List (List ℕ)) (i : ℕ) (x : List ℕ) → slice_get xs i ≡ Some x → list_any is_end_line (read_from 1 (take i xs)) ≡ false
+    → (is_read (i + 1, without_return x) && is_end_line (i + 1, without_return x)) ≡ true
     → lines_by (read_from 1 (take i xs) ++ when (is_read (i + 1, without_return x)) (i + 1, without_return x)) ≡ said_by xs
 at_end xs i x at going ended =
     ap lines_by (ap (λ t. done ++ when t p) read
-    ∙ sym (ap (λ t. done ++ (if t then p ∷ [] else p ∷ through_first opens_end others.0)) ends)
-    ∙ sym (through-append opens_end done (p ∷ others.0) going)
-    ∙ ap (through_first opens_end) (sym (append_assoc done (p ∷ []) others.0)
+    ∙ sym (ap (λ t. done ++ (if t then p ∷ [] else p ∷ through_first is_end_line others.0)) ends)
+    ∙ sym (through-append is_end_line done (p ∷ others.0) going)
+    ∙ ap (through_first is_end_line) (sym (append_assoc done (p ∷ []) others.0)
     ∙ sym (ap (λ k. k ++ others.0) (one_more xs i x at ∙ ap (λ t. done ++ when t p) read))
     ∙ sym others.1))
   where
@@ -134,24 +134,24 @@ at_end xs i x at going ended =
     others = some_and_others xs (i + 1)
 
     read : is_read p ≡ true
-    read = left_true (is_read p) (opens_end p) ended
+    read = left_true (is_read p) (is_end_line p) ended
 
-    ends : opens_end p ≡ true
-    ends = right_true (is_read p) (opens_end p) ended
+    ends : is_end_line p ≡ true
+    ends = right_true (is_read p) (is_end_line p) ended
 
 -- without one all lines are read
-pub all_read : (xs : List (List ℕ)) → list_any opens_end (read_from 1 xs) ≡ false → lines_by (read_from 1 xs) ≡ said_by xs
-all_read xs going = ap lines_by (sym (through_none opens_end (read_from 1 xs) going))
+pub all_read : (xs : List (List ℕ)) → list_any is_end_line (read_from 1 xs) ≡ false → lines_by (read_from 1 xs) ≡ said_by xs
+all_read xs going = ap lines_by (sym (through_none is_end_line (read_from 1 xs) going))
 
 -- the fault of a line is the first one of the text
 pub refused_at : (xs : List (List ℕ)) (i : ℕ) (x : List ℕ) (e : MpsError) → slice_get xs i ≡ Some x
-    → list_any opens_end (read_from 1 (take i xs)) ≡ false
+    → list_any is_end_line (read_from 1 (take i xs)) ≡ false
     → IsFirstFault
     (all_line_faults (lines_by (read_from 1 (take i xs) ++ when (is_read (i + 1, without_return x)) (i + 1, without_return x)))) e
     → IsFirstFault (all_line_faults (said_by xs)) e
 refused_at xs i x e at going fault =
     subst (λ ps. IsFirstFault (all_line_faults (lines_by ps)) e)
-    (sym rest.1 ∙ ap (through_first opens_end) (sym (others.1 ∙ ap (λ k. k ++ others.0) (one_more xs i x at))))
+    (sym rest.1 ∙ ap (through_first is_end_line) (sym (others.1 ∙ ap (λ k. k ++ others.0) (one_more xs i x at))))
     (refusal_stays (done ++ when (is_read p) p) rest.0 e fault)
   where
     p : ℕ × List ℕ
@@ -164,18 +164,18 @@ refused_at xs i x e at going fault =
     others = some_and_others xs (i + 1)
 
     rest : (zs : List (ℕ × List ℕ)) ×
-        (through_first opens_end ((done ++ when (is_read p) p) ++ others.0) ≡ (done ++ when (is_read p) p) ++ zs)
+        (through_first is_end_line ((done ++ when (is_read p) p) ++ others.0) ≡ (done ++ when (is_read p) p) ++ zs)
     rest = up_to done p (is_read p) others.0 going
 
 -- it goes on where the line is not the ENDATA line
-pub goes_on : (done : List (ℕ × List ℕ)) (p : ℕ × List ℕ) → list_any opens_end done ≡ false → (is_read p && opens_end p) ≡ false
-    → list_any opens_end (done ++ when (is_read p) p) ≡ false
+pub goes_on : (done : List (ℕ × List ℕ)) (p : ℕ × List ℕ) → list_any is_end_line done ≡ false → (is_read p && is_end_line p) ≡ false
+    → list_any is_end_line (done ++ when (is_read p) p) ≡ false
 goes_on done p going here =
-    list_any-append opens_end done (when (is_read p) p)
-    ∙ or_from (list_any opens_end done) (list_any opens_end (when (is_read p) p)) going (by (is_read p) here)
+    list_any-append is_end_line done (when (is_read p) p)
+    ∙ or_from (list_any is_end_line done) (list_any is_end_line (when (is_read p) p)) going (by (is_read p) here)
   where
-    by : (t : Bool) → (t && opens_end p) ≡ false → list_any opens_end (when t p) ≡ false
-    by true e = or_from (opens_end p) false e refl
+    by : (t : Bool) → (t && is_end_line p) ≡ false → list_any is_end_line (when t p) ≡ false
+    by true e = or_from (is_end_line p) false e refl
     by false e = refl
 
 -- ---- what taking the next line says of the text
@@ -183,7 +183,7 @@ goes_on done p going here =
 -- the answer on the next line, by the number of the lines before it
 abbrev NextTaken : List (List ℕ) → ℕ → ℕ → List ℕ → Draft → Result Bool MpsError → Type 0
 NextTaken xs i n x new r =
-    (slice_get xs i ≡ Some x) × (n ≡ i) × (list_any opens_end (read_from 1 (take i xs)) ≡ false)
+    (slice_get xs i ≡ Some x) × (n ≡ i) × (list_any is_end_line (read_from 1 (take i xs)) ≡ false)
     × IsLineTaken (read_from 1 (take i xs)) (n + 1, without_return x) new r
 
 pub next_ended : (xs : List (List ℕ)) (i n : ℕ) (x : List ℕ) (new : Draft) (r : Result Bool MpsError) (ended : Bool)
@@ -206,14 +206,14 @@ next_refused xs i n x new r e next is =
 pub next_goes_on : (xs : List (List ℕ)) (i n : ℕ) (x : List ℕ) (new : Draft) (r : Result Bool MpsError) (ended : Bool)
     → NextTaken xs i n x new r
     → r ≡ Ok ended → ended ≡ false
-    → (n + 1 ≡ i + 1) × (list_any opens_end (read_from 1 (take (i + 1) xs)) ≡ false) × Stands (lines_by (read_from 1 (take (i + 1) xs))) new
+    → (n + 1 ≡ i + 1) × (list_any is_end_line (read_from 1 (take (i + 1) xs)) ≡ false) × Stands (lines_by (read_from 1 (take (i + 1) xs))) new
 next_goes_on xs i n x new r ended next is on =
     let here : IsLineTaken (read_from 1 (take i xs)) (i + 1, without_return x) new (Ok ended) =
     subst (λ k. IsLineTaken (read_from 1 (take i xs)) (k + 1, without_return x) new (Ok ended)) next.1
     (subst (IsLineTaken (read_from 1 (take i xs)) (n + 1, without_return x) new) is next.3) in
     let more = sym (one_more xs i x next.0) in (
       ap (λ k. k + 1) next.1,
-      subst (λ ps. list_any opens_end ps ≡ false) more
+      subst (λ ps. list_any is_end_line ps ≡ false) more
           (goes_on (read_from 1 (take i xs)) (i + 1, without_return x) next.2 (sym here.0 ∙ on)),
       subst (λ ps. Stands (lines_by ps) new) more here.1,
     )

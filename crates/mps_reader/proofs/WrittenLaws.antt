@@ -1,6 +1,7 @@
 -- The entries that are written for a row: by rising column number, and each a number of a text.
-use Rattle.std.specs.Prelude.{◌≡◌, ◌≢◌, ℕ, zero, suc, ◌+◌, ◌<◌, ◌≤◌, ◌==◌, Bool, true, false, not, cond, ◌&&◌, List, [], ◌∷◌, length,
-    filter_map, find, slice_get, Option, None, Some, option_map, unwrap_or, IfSome, bytes_eq, unsigned_abs, ℤ, pos}
+use Rattle.std.specs.Prelude.{◌≡◌, ◌≢◌, ℕ, zero, suc, ◌+◌, ◌<◌, ◌≤◌, ◌==◌, Bool, true, false, not, cond, ◌&&◌, List, [], ◌∷◌, length}
+use Rattle.std.specs.Prelude.{filter_map, find, slice_get, Option, None, Some, option_map, unwrap_or, IfSome, bytes_eq, unsigned_abs, ℤ}
+use Rattle.std.specs.Prelude.{pos}
 use Rattle.std.specs.List.{enumerate_from, cons_option}
 use Rattle.std.specs.Option.{ForSome}
 use Rattle.std.proofs.Common.{refl, arith, ap, sym, ◌∙◌, subst}
@@ -10,11 +11,11 @@ use Rattle.ip_defs.specs.Limits.{AreOrdered, value_at}
 use Rattle.mps_defs.specs.Numbers.{number_of}
 use Rattle.mps_defs.specs.Records.{Entry}
 use Rattle.mps_defs.specs.TextModels.{units, no_number, written_at, written_in, written_for, placed, number_or_zero}
-use Rattle.mps_defs.specs.declared.texts.Number.{Number}
+use Rattle.mps_defs.specs.declared.reading.Number.{Number}
 use Rattle.mps_reader.specs.Internal.Below.{AreBelowLarge, AreWithin}
 use Rattle.mps_reader.specs.Internal.Clamps.{clamped, clamped_coefs}
 use Rattle.mps_reader.specs.Internal.Drafted.{drafted_coefs}
-use Rattle.mps_reader.proofs.FinishLaws.{clamped_nothing}
+use Rattle.mps_reader.proofs.ModelListLaws.{clamped_nothing}
 use Rattle.std.proofs.lemmas.Bool.{true≢false}
 use Rattle.mps_defs.proofs.RisingLaws.{coefs_rise, mapped_rises, rises_within, rises_at}
 

@@ -3,7 +3,7 @@ pub mod Below
 pub mod BoundWords
 pub mod Clamps
 pub mod Drafted
-pub mod Finished
+pub mod DraftModels
 pub mod Progress
 pub mod Reading
 pub mod Taking

@@ -5,13 +5,14 @@ ghost use Rattle.mps_defs.specs.Lists.{is_among, last_of, where_true};
 ghost use Rattle.mps_defs.specs.Numbers.{is_large, number_of};
 ghost use Rattle.mps_defs.specs.Records.{Line, bound_kind, takes_none, takes_number as takes_number_of, words_of, item};
 ghost use Rattle.mps_defs.specs.TextModels.{is_negative_number, no_number, rounded_down as rounded_down_of, rounded_up as rounded_up_of};
-ghost use Rattle.mps_reader.specs.Internal.BoundWords.{IsBound, Says, after_bound as after_bound_of, bound_word, has_right_count, integer_words, lower_of, numbered_words, plain_words, upper_of};
+ghost use Rattle.mps_reader.specs.Internal.BoundWords.{IsBound, Says, after_bound as after_bound_of, bound_word, has_right_count};
+ghost use Rattle.mps_reader.specs.Internal.BoundWords.{integer_words, lower_of, numbered_words, plain_words, upper_of};
 ghost use Rattle.mps_reader.specs.declared.draft.ColumnDraft.{ColumnDraft as ColumnDraftOf};
 ghost use Rattle.mps_reader.specs.Internal.Progress.{IsTaken, Stands};
 
 use crate::draft::{ColumnDraft, Draft, UpperBound};
+use crate::kept_sets::keep_set;
 use crate::rounding::{rounded_down, rounded_up};
-use crate::sets::keep_set;
 use decimals::read_number;
 use mps_defs::{MpsError, Number};
 use std::alloc::Global;
@@ -50,7 +51,8 @@ struct BoundFields<'a> {
 
 /// The kind of a bound that a word names.
 fn kind_of(word: &str) -> Option<BoundKind>
-    ensures { MatchOption result ((is_among word.now numbered_words || is_among word.now plain_words) ≡ false) (λ k. bound_word k ≡ word.now) }
+    ensures { MatchOption result ((is_among word.now numbered_words
+        || is_among word.now plain_words) ≡ false) (λ k. bound_word k ≡ word.now) }
 {
     match word {
         "LO" => Some(BoundKind::Lower),
@@ -207,7 +209,8 @@ fn number_in(kind: BoundKind, text: &str) -> Option<Number>
 
 /// The fields of a line of BOUNDS after its kind. None comes where the kind does not have that number of fields.
 fn fields_after<'a>(kind: BoundKind, fields: &[&'a str]) -> Option<BoundFields<'a>>
-    ensures { (l : Line) → bound_kind l ≡ bound_word kind → l.fields ≡ map (λ f. f.now) fields.now → MatchOption result (has_right_count l ≡ false) (λ b. IsBound l kind b.set.now b.column.now b.text.now) }
+    ensures { (l : Line) → bound_kind l ≡ bound_word kind → l.fields ≡ map (λ f. f.now) fields.now
+        → MatchOption result (has_right_count l ≡ false) (λ b. IsBound l kind b.set.now b.column.now b.text.now) }
 {
     match (takes_number(kind), fields) {
         (true, [_, column, text]) => Some(BoundFields {
@@ -233,7 +236,8 @@ fn fields_after<'a>(kind: BoundKind, fields: &[&'a str]) -> Option<BoundFields<'
 
 /// The kind of a line of BOUNDS: its first field.
 fn kind_in(fields: &[&str]) -> Option<BoundKind>
-    ensures { (l : Line) → l.fields ≡ map (λ f. f.now) fields.now → MatchOption result ((takes_number_of l || takes_none l) ≡ false) (λ k. bound_kind l ≡ bound_word k) }
+    ensures { (l : Line) → l.fields ≡ map (λ f. f.now) fields.now
+        → MatchOption result ((takes_number_of l || takes_none l) ≡ false) (λ k. bound_kind l ≡ bound_word k) }
 {
     match fields {
         [] => None,
@@ -243,7 +247,8 @@ fn kind_in(fields: &[&str]) -> Option<BoundKind>
 
 /// Notes a bound of a column, where there is one of that number.
 fn note_bound(columns: &mut Vec<ColumnDraft>, column: usize, said: ColumnDraft)
-    ensures { (c : ColumnDraftOf) → slice_get columns.old.items column ≡ Some c → columns.new.items ≡ slice_set columns.old.items column (after_bound_of c said) }
+    ensures { (c : ColumnDraftOf) → slice_get columns.old.items column ≡ Some c
+        → columns.new.items ≡ slice_set columns.old.items column (after_bound_of c said) }
 {
     if let Some(before) = columns.get_mut(column) {
         *before = after_bound(*before, said);
@@ -258,7 +263,10 @@ fn take_bound(
     kind: BoundKind,
     bound: BoundFields<'_>,
 ) -> Result<(), MpsError>
-    ensures { (before : List Line) (fields : List (List ℕ)) → Stands before draft.old → is_among (codes "ROWS") (words_of before) ≡ true → is_among (codes "BOUNDS") (words_of before) ≡ true → IsBound (item (codes "BOUNDS") line fields) kind bound.entry.set.now bound.entry.column.now bound.entry.text.now → IsTaken before (item (codes "BOUNDS") line fields) draft.new result }
+    ensures { (before : List Line) (fields : List (List ℕ)) → Stands before draft.old
+        → is_among (codes "ROWS") (words_of before) ≡ true → is_among (codes "BOUNDS") (words_of before) ≡ true
+        → IsBound (item (codes "BOUNDS") line fields) kind bound.entry.set.now bound.entry.column.now bound.entry.text.now
+        → IsTaken before (item (codes "BOUNDS") line fields) draft.new result }
 {
     let column = match draft.columns.names.get_index_of(bound.column) {
         Some(column) => column,
@@ -282,7 +290,9 @@ pub fn take_bound_line(
     line: u32,
     fields: &[&str],
 ) -> Result<(), MpsError>
-    ensures { (before : List Line) → Stands before draft.old → is_among (codes "ROWS") (words_of before) ≡ true → last_of (words_of before) ≡ Some (codes "BOUNDS") → IsTaken before (item (codes "BOUNDS") line (map (λ f. f.now) fields.now)) draft.new result }
+    ensures { (before : List Line) → Stands before draft.old → is_among (codes "ROWS") (words_of before) ≡ true
+        → last_of (words_of before) ≡ Some (codes "BOUNDS")
+        → IsTaken before (item (codes "BOUNDS") line (map (λ f. f.now) fields.now)) draft.new result }
 {
     let kind = match kind_in(fields) {
         Some(kind) => kind,

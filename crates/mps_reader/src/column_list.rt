@@ -107,7 +107,8 @@ pub fn column_list(
     requires decimals { decimals ≤ 9 }
     requires below { AreBelowLarge costs.now }
     requires names { length names.now ≡ length columns.now }
-    ensures { IfOk result (λ v. v.items ≡ map clamped_column (drafted_columns how decimals 0 costs.now (map string_bytes names.now) columns.now)) }
+    ensures { IfOk result (λ v. v.items
+        ≡ map clamped_column (drafted_columns how decimals 0 costs.now (map string_bytes names.now) columns.now)) }
 {
     let mut list = Vec::new(alloc);
     let mut next = 0;

@@ -1,10 +1,11 @@
-ghost use Rattle.std.specs.Prelude.{◌≡◌, ◌==◌, ◌∷◌, ◌&&◌, ◌||◌, ℕ, [], List, IfOk, None, OnOk, bytes_eq, codes, length, map, not, position, slice_index_or, string_bytes, true, false};
+ghost use Rattle.std.specs.Prelude.{◌≡◌, ◌==◌, ◌∷◌, ◌&&◌, ◌||◌, ℕ, [], List, IfOk, None, OnOk, bytes_eq, codes, length, map, not, position};
+ghost use Rattle.std.specs.Prelude.{slice_index_or, string_bytes, true, false};
 ghost use Rattle.std.specs.Option.{option_map_or};
 ghost use Rattle.mps_defs.specs.Lists.{is_among};
 ghost use Rattle.ip_defs.specs.Lists.{when};
 ghost use Rattle.mps_defs.specs.Records.{Line, column_name, is_marker as is_marker_of, items_of, words_of, item};
 ghost use Rattle.mps_defs.specs.Faults.{is_split, is_right_marker};
-ghost use Rattle.mps_defs.specs.declared.texts.MpsError.TheVariants as Out;
+ghost use Rattle.mps_defs.specs.declared.reading.MpsError.TheVariants as Out;
 ghost use Rattle.mps_reader.specs.Internal.Progress.{BoundsStand, ColumnsStand, IsTaken, Stands};
 ghost use Rattle.mps_reader.specs.Internal.Taking.{IsColumnAdded, IsColumnOpen, IsDone, IsMarked};
 
@@ -29,7 +30,8 @@ fn is_right(in_force: bool, word: &str) -> bool
 
 /// Takes a marker: Marker where it begins what is in force, ends what is not, or is none.
 fn take_marker(columns: &mut ColumnTable, line: u32, word: &str) -> Result<(), MpsError>
-    ensures { IsDone (when (not (is_right_marker columns.old.in_integers word.now)) (Out.Marker line)) (λ _. IsMarked columns.old columns.new word.now) result }
+    ensures { IsDone (when (not (is_right_marker columns.old.in_integers word.now)) (Out.Marker line))
+        (λ _. IsMarked columns.old columns.new word.now) result }
 {
     if !is_right(columns.in_integers, word) {
         return Err(MpsError::Marker { line });
@@ -41,7 +43,10 @@ fn take_marker(columns: &mut ColumnTable, line: u32, word: &str) -> Result<(), M
 
 /// Takes a marker line: FieldCount comes first.
 fn take_marker_line(draft: &mut Draft, line: u32, fields: &[&str]) -> Result<(), MpsError>
-    ensures { (before : List Line) → Stands before draft.old → is_among (codes "COLUMNS") (words_of before) ≡ true → is_among (codes "ROWS") (words_of before) ≡ true → is_marker_of (item (codes "COLUMNS") line (map (λ f. f.now) fields.now)) ≡ true → IsTaken before (item (codes "COLUMNS") line (map (λ f. f.now) fields.now)) draft.new result }
+    ensures { (before : List Line) → Stands before draft.old → is_among (codes "COLUMNS") (words_of before) ≡ true
+        → is_among (codes "ROWS") (words_of before) ≡ true
+        → is_marker_of (item (codes "COLUMNS") line (map (λ f. f.now) fields.now)) ≡ true
+        → IsTaken before (item (codes "COLUMNS") line (map (λ f. f.now) fields.now)) draft.new result }
 {
     match fields {
         [_, _, word] => take_marker(&mut draft.columns, line, word),
@@ -85,7 +90,11 @@ fn open_column(
     line: u32,
     name: &str,
 ) -> Result<usize, MpsError>
-    ensures { (before : List Line) (fields : List (List ℕ)) → ColumnsStand before columns.old → BoundsStand before columns.old.columns.items → items_of (codes "BOUNDS") before ≡ [] → is_marker_of (item (codes "COLUMNS") line fields) ≡ false → column_name (item (codes "COLUMNS") line fields) ≡ name.now → IsDone (when (is_split before (item (codes "COLUMNS") line fields)) (Out.SplitColumn line)) (λ number. IsColumnOpen before (item (codes "COLUMNS") line fields) number columns.new) result }
+    ensures { (before : List Line) (fields : List (List ℕ)) → ColumnsStand before columns.old
+        → BoundsStand before columns.old.columns.items → items_of (codes "BOUNDS") before ≡ []
+        → is_marker_of (item (codes "COLUMNS") line fields) ≡ false → column_name (item (codes "COLUMNS") line fields) ≡ name.now
+        → IsDone (when (is_split before (item (codes "COLUMNS") line fields)) (Out.SplitColumn line))
+        (λ number. IsColumnOpen before (item (codes "COLUMNS") line fields) number columns.new) result }
 {
     match columns.names.get_index_of(name) {
         Some(number) => {
@@ -113,7 +122,10 @@ fn take_entry_line(
     line: u32,
     fields: &[&str],
 ) -> Result<(), MpsError>
-    ensures { (before : List Line) → Stands before draft.old → is_among (codes "COLUMNS") (words_of before) ≡ true → is_among (codes "ROWS") (words_of before) ≡ true → items_of (codes "BOUNDS") before ≡ [] → is_marker_of (item (codes "COLUMNS") line (map (λ f. f.now) fields.now)) ≡ false → IsTaken before (item (codes "COLUMNS") line (map (λ f. f.now) fields.now)) draft.new result }
+    ensures { (before : List Line) → Stands before draft.old → is_among (codes "COLUMNS") (words_of before) ≡ true
+        → is_among (codes "ROWS") (words_of before) ≡ true → items_of (codes "BOUNDS") before ≡ []
+        → is_marker_of (item (codes "COLUMNS") line (map (λ f. f.now) fields.now)) ≡ false
+        → IsTaken before (item (codes "COLUMNS") line (map (λ f. f.now) fields.now)) draft.new result }
 {
     if !has_entries(fields) {
         return Err(MpsError::FieldCount { line });
@@ -130,7 +142,9 @@ pub fn take_column_line(
     line: u32,
     fields: &[&str],
 ) -> Result<(), MpsError>
-    ensures { (before : List Line) → Stands before draft.old → is_among (codes "COLUMNS") (words_of before) ≡ true → is_among (codes "ROWS") (words_of before) ≡ true → items_of (codes "BOUNDS") before ≡ [] → IsTaken before (item (codes "COLUMNS") line (map (λ f. f.now) fields.now)) draft.new result }
+    ensures { (before : List Line) → Stands before draft.old → is_among (codes "COLUMNS") (words_of before) ≡ true
+        → is_among (codes "ROWS") (words_of before) ≡ true → items_of (codes "BOUNDS") before ≡ []
+        → IsTaken before (item (codes "COLUMNS") line (map (λ f. f.now) fields.now)) draft.new result }
 {
     if is_marker(fields) {
         take_marker_line(draft, line, fields)

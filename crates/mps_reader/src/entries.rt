@@ -3,10 +3,11 @@ ghost use Rattle.std.specs.Option.{option_map_or};
 ghost use Rattle.mps_defs.specs.Lists.{last_of};
 ghost use Rattle.ip_defs.specs.Lists.{when};
 ghost use Rattle.mps_defs.specs.Numbers.{decimals_of as decimals_in};
-ghost use Rattle.mps_defs.specs.Records.{Line, Entry, entries_from, entry};
-ghost use Rattle.mps_defs.specs.declared.texts.MpsError.TheVariants as Out;
+ghost use Rattle.mps_defs.specs.Records.{Line, Entry, entries_from, entry_of};
+ghost use Rattle.mps_defs.specs.declared.reading.MpsError.TheVariants as Out;
 ghost use Rattle.mps_reader.specs.Internal.Progress.{kind_word};
-ghost use Rattle.mps_reader.specs.Internal.Taking.{IsDone, IsPut, IsRead, IsEntryTaken, AreEntriesTaken, RowsHave, Owns, counts_on, has_number};
+ghost use Rattle.mps_reader.specs.Internal.Taking.{IsDone, IsPut, IsRead, IsEntryTaken, AreEntriesTaken, RowsHave, Owns, counts_on};
+ghost use Rattle.mps_reader.specs.Internal.Taking.{has_number};
 
 use crate::draft::{RowDraft, RowKind, RowTable};
 use decimals::read_number;
@@ -106,7 +107,8 @@ impl RowDraft {
 
     /// Writes a number that counts.
     fn write(&mut self, owner: Owner, line: u32, number: Number) -> Result<(), MpsError>
-        ensures { IsDone (when (nat_lt 9 (decimals_in number)) (Out.Digits line) ++ when (has_number owner self.old) (Out.TwiceEntry line)) (λ _. IsPut owner number self.old self.new) result }
+        ensures { IsDone (when (nat_lt 9 (decimals_in number)) (Out.Digits line)
+            ++ when (has_number owner self.old) (Out.TwiceEntry line)) (λ _. IsPut owner number self.old self.new) result }
     {
         if decimals_of(number) > 9 {
             return Err(MpsError::Digits { line });
@@ -148,7 +150,8 @@ pub fn take_entry(
     row: &str,
     text: &str,
 ) -> Result<(), MpsError>
-    ensures { (ls : List Line) (es : List Entry) (name : List ℕ) → RowsHave ls owner es rows.old → Owns ls owner name → IsEntryTaken ls owner es rows.new (entry line name row.now text.now) result }
+    ensures { (ls : List Line) (es : List Entry) (name : List ℕ) → RowsHave ls owner es rows.old → Owns ls owner name
+        → IsEntryTaken ls owner es rows.new (entry_of line name row.now text.now) result }
 {
     let (place, number) = read_entry(rows, line, row, text)?;
     let is_objective = rows.is_objective(place);
@@ -171,7 +174,8 @@ pub fn take_entries(
     line: u32,
     fields: &[&str],
 ) -> Result<(), MpsError>
-    ensures { (ls : List Line) (es : List Entry) (name : List ℕ) → RowsHave ls owner es rows.old → Owns ls owner name → AreEntriesTaken ls owner es rows.new (entries_from line name (map (λ f. f.now) fields.now)) result }
+    ensures { (ls : List Line) (es : List Entry) (name : List ℕ) → RowsHave ls owner es rows.old → Owns ls owner name
+        → AreEntriesTaken ls owner es rows.new (entries_from line name (map (λ f. f.now) fields.now)) result }
 {
     match fields {
         [row, text, rest @ ..] => {

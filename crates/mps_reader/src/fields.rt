@@ -20,7 +20,8 @@ fn parts_in(alloc: Global, text: &str) -> Result<Vec<&str>, AllocError>
 
 /// Adds the parts of a word that are not empty.
 fn push_parts<'a>(alloc: Global, word: &'a str, fields: &mut Vec<&'a str>) -> Result<(), AllocError>
-    ensures { OnOk result (map (λ x. x.now) fields.new.items ≡ map (λ x. x.now) fields.old.items ++ filter (λ f. nat_le 1 (length f)) (slice_split (λ b. b == 9) word.now)) }
+    ensures { OnOk result (map (λ x. x.now) fields.new.items ≡ map (λ x. x.now) fields.old.items
+        ++ filter (λ f. nat_le 1 (length f)) (slice_split (λ b. b == 9) word.now)) }
 {
     let parts = parts_in(alloc, word)?;
     for part in parts.as_slice() {

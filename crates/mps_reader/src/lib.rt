@@ -4,23 +4,22 @@
 mod bounds;
 mod clamps;
 mod column_list;
+mod column_rules;
 mod columns;
 mod draft;
 mod entries;
 mod fields;
-mod finish;
+mod kept_sets;
 mod lines;
+mod models;
 mod reader;
 mod right_sides;
 mod rounding;
 mod row_list;
 mod rows;
 mod sections;
-mod sets;
 #[cfg(test)]
 mod tests;
-mod texts;
-mod whole;
 
 pub use mps_defs::{How, MpsError, Side};
-pub use texts::read;
+pub use reader::read;

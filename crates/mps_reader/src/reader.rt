@@ -1,7 +1,10 @@
-ghost use Rattle.std.specs.Prelude.{◌≡◌, ℕ, ◌≤◌, ◌^◌, List, false, codes, length, map};
+ghost use Rattle.std.specs.Prelude.{◌≡◌, ℕ, ◌≤◌, ◌^◌, IfOk, List, None, false, codes, length, map};
 ghost use Rattle.std.specs.List.{list_any};
 ghost use Rattle.mps_defs.specs.Lists.{is_among};
-ghost use Rattle.mps_defs.specs.Records.{Line, lines_of, opens_end, without_return, words_of, item};
+ghost use Rattle.mps_defs.specs.Records.{Line, lines_of, is_end_line, without_return, words_of, item};
+ghost use Rattle.mps_defs.specs.Faults.{ReadMeets};
+ghost use Rattle.mps_defs.specs.TextModels.{IsHow};
+ghost use Rattle.ip_model.specs.Sizes.{first_crossed};
 ghost use Rattle.mps_reader.specs.Internal.Progress.{IsTaken, Stands};
 ghost use Rattle.mps_reader.specs.Internal.Reading.{IsDraftOf, IsLineTaken, last_section as last_word_of, lines_by};
 
@@ -10,16 +13,19 @@ use crate::columns::take_column_line;
 use crate::draft::Draft;
 use crate::fields::fields_of;
 use crate::lines::{cut_return, is_comment, is_indented, lines_in};
+use crate::models::model_of;
 use crate::right_sides::take_set_line;
 use crate::rows::take_row_line;
 use crate::sections::{Section, last_section, take_section};
-use mps_defs::MpsError;
+use ip_model::IntModel;
+use mps_defs::{How, MpsError};
 use std::alloc::Global;
 
 /// Takes a data line, which belongs to the last section. `SectionOrder` comes where ROWS is missing; the other faults are those of its
 /// section.
 fn take_item(alloc: Global, draft: &mut Draft, line: u32, fields: &[&str]) -> Result<(), MpsError>
-    ensures { (before : List Line) → Stands before draft.old → is_among (codes "ENDATA") (words_of before) ≡ false → IsTaken before (item (last_word_of (words_of before)) line (map (λ f. f.now) fields.now)) draft.new result }
+    ensures { (before : List Line) → Stands before draft.old → is_among (codes "ENDATA") (words_of before) ≡ false
+        → IsTaken before (item (last_word_of (words_of before)) line (map (λ f. f.now) fields.now)) draft.new result }
 {
     let section = match last_section(draft.sections.as_slice()) {
         Some(section) => section,
@@ -38,7 +44,8 @@ fn take_item(alloc: Global, draft: &mut Draft, line: u32, fields: &[&str]) -> Re
 
 /// Takes a line of a text, and tells whether it is the ENDATA line. Comments and lines without a field are skipped.
 fn take_line(alloc: Global, draft: &mut Draft, number: u32, text: &str) -> Result<bool, MpsError>
-    ensures { (ps : List (ℕ × List ℕ)) → Stands (lines_by ps) draft.old → list_any opens_end ps ≡ false → IsLineTaken ps (number, without_return text.now) draft.new result }
+    ensures { (ps : List (ℕ × List ℕ)) → Stands (lines_by ps) draft.old → list_any is_end_line ps ≡ false
+        → IsLineTaken ps (number, without_return text.now) draft.new result }
 {
     let text = cut_return(text);
     if is_comment(text) {
@@ -62,7 +69,7 @@ fn take_line(alloc: Global, draft: &mut Draft, number: u32, text: &str) -> Resul
 }
 
 /// Goes once through the lines of a text, up to the ENDATA line. The error is the first fault of the lines.
-pub fn draft_of(alloc: Global, text: &str) -> Result<Draft, MpsError>
+fn draft_of(alloc: Global, text: &str) -> Result<Draft, MpsError>
     requires { length text.now ≤ 2 ^ 31 }
     ensures { IsDraftOf (lines_of text.now) result }
 {
@@ -80,4 +87,22 @@ pub fn draft_of(alloc: Global, text: &str) -> Result<Draft, MpsError>
         }
     }
     Ok(draft)
+}
+
+/// The model of an MPS text, or its first refusal. A text that is not UTF-8 is refused first; then the first line with a fault, then a
+/// text without ENDATA, then one without an objective, then the columns by number, then the limits. Only `Memory` says nothing of the
+/// text. No row of the model has its low side above its high side.
+pub fn read(alloc: Global, text: &[u8], how: How) -> Result<IntModel, MpsError>
+    requires length { length text.now ≤ 2 ^ 31 }
+    requires how { IsHow how }
+    ensures model { ReadMeets text.now how result }
+    ensures uncrossed { IfOk result (λ m. first_crossed m ≡ None) }
+{
+    match str::from_utf8(text) {
+        Ok(text) => match draft_of(alloc, text) {
+            Ok(draft) => model_of(alloc, &draft, how),
+            Err(error) => Err(error),
+        },
+        Err(_) => Err(MpsError::NotUtf8),
+    }
 }

@@ -7,15 +7,16 @@ ghost use Rattle.mps_reader.specs.Internal.Taking.{IsSetKept, IsSetLine, set_own
 
 use crate::draft::{Draft, Sets};
 use crate::entries::{Owner, take_entries};
+use crate::kept_sets::keep_set;
 use crate::sections::Section;
-use crate::sets::keep_set;
 use mps_defs::MpsError;
 use std::alloc::{AllocError, Global};
 
 /// The set that a line names, the empty one where it names none, and its fields for entries. None comes where the number of fields
 /// is none of 2 to 5.
 fn parts_of<'a>(fields: &'a [&'a str]) -> Option<(&'a str, &'a [&'a str])>
-    ensures { MatchOption result (nat_le 2 (length fields.now) && nat_le (length fields.now) 5 ≡ false) (λ p. IsSetLine (map (λ f. f.now) fields.now) p.0.now (map (λ f. f.now) p.1.now)) }
+    ensures { MatchOption result (nat_le 2 (length fields.now) && nat_le (length fields.now) 5
+        ≡ false) (λ p. IsSetLine (map (λ f. f.now) fields.now) p.0.now (map (λ f. f.now) p.1.now)) }
 {
     match fields.len() {
         2 | 4 => Some(("", fields)),
@@ -49,7 +50,10 @@ pub fn take_set_line(
     line: u32,
     fields: &[&str],
 ) -> Result<(), MpsError>
-    ensures { (before : List Line) → Stands before draft.old → is_among (section_word section) (codes "RHS" ∷ codes "RANGES" ∷ []) ≡ true → is_among (section_word section) (words_of before) ≡ true → is_among (codes "ROWS") (words_of before) ≡ true → IsTaken before (item (section_word section) line (map (λ f. f.now) fields.now)) draft.new result }
+    ensures { (before : List Line) → Stands before draft.old
+        → is_among (section_word section) (codes "RHS" ∷ codes "RANGES" ∷ []) ≡ true
+        → is_among (section_word section) (words_of before) ≡ true → is_among (codes "ROWS") (words_of before) ≡ true
+        → IsTaken before (item (section_word section) line (map (λ f. f.now) fields.now)) draft.new result }
 {
     let (set, entries) = match parts_of(fields) {
         Some(parts) => parts,

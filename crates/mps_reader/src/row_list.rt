@@ -2,7 +2,8 @@ ghost use Rattle.std.specs.Prelude.{◌≡◌, ◌<◌, ◌≤◌, IfOk, length,
 ghost use Rattle.std.specs.Option.{ForSome};
 ghost use Rattle.decimals.specs.Decimals.{IsBelowLarge};
 ghost use Rattle.mps_defs.specs.Numbers.{is_large as is_large_of};
-ghost use Rattle.mps_defs.specs.TextModels.{is_open as is_open_of, no_number, plain_sides as plain_sides_of, range_sides, row_sides as row_sides_of};
+ghost use Rattle.mps_defs.specs.TextModels.{is_open as is_open_of, no_number, plain_sides as plain_sides_of, range_sides};
+ghost use Rattle.mps_defs.specs.TextModels.{row_sides as row_sides_of};
 ghost use Rattle.mps_reader.specs.Internal.Below.{AreBelowLarge, AreRowsBelow, AreWithin, IsRowBelow};
 ghost use Rattle.mps_reader.specs.Internal.Clamps.{clamped_coefs, clamped_row, clamped_sides};
 ghost use Rattle.mps_reader.specs.Internal.Drafted.{drafted_coefs, drafted_decimals, drafted_row, drafted_rows, is_free_kind};

@@ -12,7 +12,8 @@ use std::alloc::{AllocError, Global};
 
 /// The kind of a row that a word names.
 fn kind_of(word: &str) -> Option<RowKind>
-    ensures { MatchOption result (is_among word.now (codes "N" ∷ codes "L" ∷ codes "G" ∷ codes "E" ∷ []) ≡ false) (λ k. kind_word k ≡ word.now) }
+    ensures { MatchOption result (is_among word.now (codes "N" ∷ codes "L" ∷ codes "G" ∷ codes "E" ∷ []) ≡ false) (λ k. kind_word k
+        ≡ word.now) }
 {
     match word {
         "N" => Some(RowKind::Free),
@@ -65,7 +66,9 @@ fn take_row(
     kind: &str,
     name: &str,
 ) -> Result<(), MpsError>
-    ensures { (before : List Line) (d : DraftOf) → d.rows ≡ table.old → Stands before d → is_among (codes "ROWS") (words_of before) ≡ true → last_of (words_of before) ≡ Some (codes "ROWS") → IsTaken before (item (codes "ROWS") line (kind.now ∷ name.now ∷ [])) (record d { rows = table.new }) result }
+    ensures { (before : List Line) (d : DraftOf) → d.rows ≡ table.old → Stands before d
+        → is_among (codes "ROWS") (words_of before) ≡ true → last_of (words_of before) ≡ Some (codes "ROWS")
+        → IsTaken before (item (codes "ROWS") line (kind.now ∷ name.now ∷ [])) (record d { rows = table.new }) result }
 {
     let kind = match kind_of(kind) {
         Some(kind) => kind,
@@ -88,7 +91,9 @@ pub fn take_row_line(
     line: u32,
     fields: &[&str],
 ) -> Result<(), MpsError>
-    ensures { (before : List Line) → Stands before draft.old → is_among (codes "ROWS") (words_of before) ≡ true → last_of (words_of before) ≡ Some (codes "ROWS") → IsTaken before (item (codes "ROWS") line (map (λ f. f.now) fields.now)) draft.new result }
+    ensures { (before : List Line) → Stands before draft.old → is_among (codes "ROWS") (words_of before) ≡ true
+        → last_of (words_of before) ≡ Some (codes "ROWS")
+        → IsTaken before (item (codes "ROWS") line (map (λ f. f.now) fields.now)) draft.new result }
 {
     match fields {
         [kind, name] => take_row(alloc, &mut draft.rows, line, kind, name),

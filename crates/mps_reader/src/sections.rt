@@ -3,7 +3,7 @@ ghost use Rattle.std.specs.Option.{MatchOption};
 ghost use Rattle.std.specs.List.{list_all};
 ghost use Rattle.mps_defs.specs.Lists.{is_among, last_of};
 ghost use Rattle.mps_defs.specs.Records.{Line, opening};
-ghost use Rattle.mps_defs.specs.Faults.{is_before as is_before_of, may_come as may_come_of, place_of};
+ghost use Rattle.mps_defs.specs.Faults.{is_before as is_before_of, may_come as may_come_of, section_place};
 ghost use Rattle.mps_reader.specs.Internal.Progress.{IsTaken, Stands, section_word};
 
 use crate::draft::Draft;
@@ -23,7 +23,7 @@ pub enum Section {
 
 /// The section that a word begins.
 fn section_of(word: &str) -> Option<Section>
-    ensures { MatchOption result (place_of word.now ≡ None) (λ s. section_word s ≡ word.now) }
+    ensures { MatchOption result (section_place word.now ≡ None) (λ s. section_word s ≡ word.now) }
 {
     match word {
         "NAME" => Some(Section::Name),
@@ -38,8 +38,8 @@ fn section_of(word: &str) -> Option<Section>
 }
 
 /// The place of a section in the order.
-fn place_of(section: Section) -> usize
-    ensures { place_of (section_word section) ≡ Some result }
+fn order_of(section: Section) -> usize
+    ensures { section_place (section_word section) ≡ Some result }
 {
     match section {
         Section::Name => 0,
@@ -56,14 +56,14 @@ fn place_of(section: Section) -> usize
 fn is_before(section: Section, later: Section) -> bool
     ensures { result ≡ is_before_of (section_word section) (section_word later) }
 {
-    place_of(section) < place_of(later)
+    order_of(section) < order_of(later)
 }
 
 /// Whether two sections are one.
 fn is_same(section: Section, other: Section) -> bool
     ensures { result ≡ bytes_eq (section_word section) (section_word other) }
 {
-    place_of(section) == place_of(other)
+    order_of(section) == order_of(other)
 }
 
 /// Whether a section is among those before.
@@ -82,7 +82,8 @@ fn are_before(sections: &[Section], later: Section) -> bool
 
 /// Whether a section that another needs, where it comes later in the order, is among those before it.
 fn has_needed(sections: &[Section], needed: Section, section: Section) -> bool
-    ensures { result ≡ (not (is_before_of (section_word needed) (section_word section)) || is_among (section_word needed) (map section_word sections.now)) }
+    ensures { result ≡ (not (is_before_of (section_word needed) (section_word section))
+        || is_among (section_word needed) (map section_word sections.now)) }
 {
     !is_before(needed, section) || has_section(sections, needed)
 }
@@ -105,7 +106,8 @@ pub fn last_section(sections: &[Section]) -> Option<Section>
 
 /// Takes a section line. `UnknownSection` comes where its word is none of the seven, then `SectionOrder` where it may not come now.
 pub fn take_section(draft: &mut Draft, line: u32, word: &str) -> Result<(), MpsError>
-    ensures { (before : List Line) (others : List (List ℕ)) → Stands before draft.old → IsTaken before (opening line (word.now ∷ others) word.now) draft.new result }
+    ensures { (before : List Line) (others : List (List ℕ)) → Stands before draft.old
+        → IsTaken before (opening line (word.now ∷ others) word.now) draft.new result }
 {
     let section = match section_of(word) {
         Some(section) => section,

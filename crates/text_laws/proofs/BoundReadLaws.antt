@@ -1,6 +1,6 @@
 -- The bounds of a canonical text are those of the columns.
-use Rattle.std.specs.Prelude.{◌≡◌, ℕ, zero, suc, ◌+◌, ◌-◌, ◌<◌, ◌^◌, Bool, true, false, ◌&&◌, not, cond, List, [], ◌∷◌, map, filter,
-    flat_map, None, Some, slice_get, bytes_eq, codes, ℤ, pos, negsuc, neg_ℤ, ◌/◌}
+use Rattle.std.specs.Prelude.{◌≡◌, ℕ, zero, suc, ◌+◌, ◌-◌, ◌<◌, ◌^◌, Bool, true, false, ◌&&◌, not, cond, List, [], ◌∷◌, map, filter}
+use Rattle.std.specs.Prelude.{flat_map, None, Some, slice_get, bytes_eq, codes, ℤ, pos, negsuc, neg_ℤ, ◌/◌}
 use Rattle.std.specs.Fmt.{signed_decimal}
 use Rattle.std.specs.Option.{option_map_or}
 use Rattle.std.specs.Int.{int_div_euclid}
@@ -9,12 +9,12 @@ use Rattle.std.proofs.Common.{refl, arith, ap, sym, ◌∙◌}
 use Rattle.mps_defs.specs.Lists.{is_among, last_of, where_true, AreDistinct}
 use Rattle.ip_defs.specs.Lists.{first_of}
 use Rattle.ip_defs.specs.Certificates.{ceiling}
-use Rattle.mps_defs.specs.CanonicalText.{Written, bound}
+use Rattle.mps_defs.specs.CanonicalText.{Written, bound_line}
 use Rattle.mps_defs.specs.Records.{Line, bounds_on, is_kept_bound, bound_set, bound_column}
-use Rattle.mps_defs.specs.TextModels.{lower_side, upper_side, sets_lower, sets_upper, lower_by, upper_by, is_negative_number, rounded_up,
-    rounded_down}
+use Rattle.mps_defs.specs.TextModels.{lower_side, upper_side, sets_lower, sets_upper, lower_by, upper_by, is_negative_number, rounded_up}
+use Rattle.mps_defs.specs.TextModels.{rounded_down}
 use Rattle.mps_defs.specs.Numbers.{is_large}
-use Rattle.mps_defs.specs.declared.texts.Number.{Number}
+use Rattle.mps_defs.specs.declared.reading.Number.{Number}
 use Rattle.ip_defs.specs.declared.programs.Column.{Column}
 use Rattle.ip_defs.specs.declared.programs.Parts.{Parts}
 use Rattle.text_laws.proofs.WrittenLaws.{lines_from}
@@ -27,7 +27,7 @@ use Rattle.mps_defs.proofs.PlaceLaws.{apart_turned, not_at}
 use Rattle.mps_defs.proofs.ListLaws.{get_map}
 
 abbrev pub two_bounds : Column → List Written
-two_bounds c = bound (codes "LO") c.name c.lo ∷ bound (codes "UP") c.name c.hi ∷ []
+two_bounds c = bound_line (codes "LO") c.name c.lo ∷ bound_line (codes "UP") c.name c.hi ∷ []
 
 abbrev pub bound_at : ℕ → List ℕ → List ℕ → ℤ → Line
 bound_at n kind name z =

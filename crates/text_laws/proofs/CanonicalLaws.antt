@@ -1,13 +1,14 @@
 -- The sections of a canonical text, and the lines that it is read as.
-use Rattle.std.specs.Prelude.{◌≡◌, ℕ, ◌==◌, Bool, true, false, not, if◌then◌else◌, List, [], ◌∷◌, ◌++◌, length, map, flat_map, find,
-    Option, None, Some, codes, ℤ, pos, neg_ℤ, ◌-ℤ◌}
+use Rattle.std.specs.Prelude.{◌≡◌, ℕ, ◌==◌, Bool, true, false, not, if◌then◌else◌, List, [], ◌∷◌, ◌++◌, length, map, flat_map, find, Option}
+use Rattle.std.specs.Prelude.{None, Some, codes, ℤ, pos, neg_ℤ, ◌-ℤ◌}
 use Rattle.std.specs.List.{enumerate_from}
 use Rattle.std.specs.Option.{option_map_or}
 use Rattle.std.specs.Ordering.{int_eq}
 use Rattle.std.proofs.Common.{refl, ap, sym, ◌∙◌}
 use Rattle.ip_defs.specs.Lists.{when}
-use Rattle.mps_defs.specs.CanonicalText.{Written, head, pair, triple, bound, kind_text, coef_line, column_block, columns_block, right_side,
-    rhs_line, constant_line, range_line, canonical_lines, value_text, side_line, width_line}
+use Rattle.mps_defs.specs.CanonicalText.{Written, head, pair, triple, bound_line, kind_text, coef_line, column_block, columns_block}
+use Rattle.mps_defs.specs.CanonicalText.{right_side, rhs_line, constant_line, range_line, canonical_lines, value_text, side_line}
+use Rattle.mps_defs.specs.CanonicalText.{width_line}
 use Rattle.mps_defs.specs.Numbers.{decimal_text}
 use Rattle.ip_defs.specs.declared.programs.Row.{Row}
 use Rattle.ip_defs.specs.declared.programs.Parts.{Parts}
@@ -22,7 +23,7 @@ sections_of m = record {
   columns = columns_block m;
   right_sides = constant_line m ++ flat_map rhs_line m.rows;
   ranges = flat_map range_line m.rows;
-  bounds = flat_map (λ c. bound (codes "LO") c.name c.lo ∷ bound (codes "UP") c.name c.hi ∷ []) m.columns;
+  bounds = flat_map (λ c. bound_line (codes "LO") c.name c.lo ∷ bound_line (codes "UP") c.name c.hi ∷ []) m.columns;
 }
 
 joined : {A : Type 0} (a b c d e f g : List A) → a ++ b ++ c ++ d ++ e ++ f ++ g ≡ a ++ (b ++ ((c ++ d) ++ (e ++ (f ++ g))))
@@ -90,7 +91,7 @@ columns_items m = by (length m.columns == 0)
 
     by : (t : Bool)
         → AreItems (if t then [] else triple (codes "M") (codes "'MARKER'") (codes "'INTORG'") ∷ blocks
-            ++ triple (codes "M") (codes "'MARKER'") (codes "'INTEND'") ∷ [])
+        ++ triple (codes "M") (codes "'MARKER'") (codes "'INTEND'") ∷ [])
     by true = tt
     by false = (
       refl,
@@ -107,7 +108,7 @@ are_sections m = record {
       (when_item (not (int_eq m.constant (pos 0))) (triple (codes "RHS") m.objective (value_text m (neg_ℤ m.constant))) refl)
       (items_flat rhs_line m.rows rhs_items);
   ranges = items_flat range_line m.rows range_items;
-  bounds = items_flat (λ c. bound (codes "LO") c.name c.lo ∷ bound (codes "UP") c.name c.hi ∷ []) m.columns (λ c. (refl, (refl, tt)));
+  bounds = items_flat (λ c. bound_line (codes "LO") c.name c.lo ∷ bound_line (codes "UP") c.name c.hi ∷ []) m.columns (λ c. (refl, (refl, tt)));
 }
 
 -- the lines of the canonical text of a program

@@ -1,6 +1,6 @@
 -- What is written for a row and a column of a program is its coefficient, and the coefficients of a row are read in their order.
-use Rattle.std.specs.Prelude.{◌≡◌, ℕ, zero, suc, ◌+◌, ◌==◌, Bool, true, false, ◌&&◌, cond, if◌then◌else◌, List, [], ◌∷◌, map, flat_map,
-    find, Option, None, Some, option_map, slice_get, bytes_eq, ℤ}
+use Rattle.std.specs.Prelude.{◌≡◌, ℕ, zero, suc, ◌+◌, ◌==◌, Bool, true, false, ◌&&◌, cond, if◌then◌else◌, List, [], ◌∷◌, map, flat_map}
+use Rattle.std.specs.Prelude.{find, Option, None, Some, option_map, slice_get, bytes_eq, ℤ}
 use Rattle.std.specs.List.{enumerate_from}
 use Rattle.std.specs.Option.{option_map_or, option_or}
 use Rattle.std.proofs.Common.{refl, arith, ap, sym, ◌∙◌, subst}
@@ -10,7 +10,7 @@ use Rattle.mps_defs.specs.CanonicalText.{triple, coef_line, column_block, value_
 use Rattle.ip_defs.specs.declared.programs.Column.{Column}
 use Rattle.ip_defs.specs.declared.programs.Row.{Row}
 use Rattle.ip_defs.specs.declared.programs.Parts.{Parts}
-use Rattle.mps_defs.specs.declared.texts.Number.{Number}
+use Rattle.mps_defs.specs.declared.reading.Number.{Number}
 use Rattle.text_laws.proofs.EntryReadLaws.{Told, tells, told_at, at_append, tells_append}
 use Rattle.ip_defs.proofs.BoolLaws.{left_false, right_false}
 use Rattle.ip_defs.proofs.ListLaws.{or_none}
@@ -121,8 +121,8 @@ block_other : (m : Parts) (j : ℕ) (c : Column) (row column : List ℕ) → byt
     → told_at (block_told m j c) row column ≡ None
 block_other m j c row column e =
     ap (λ t. option_map (λ (k : Told). number_or_zero k.text) (cond (bytes_eq m.objective row
-        && t) (Some (record { owner = c.name; row = m.objective; text = value_text m c.cost }))
-        (find (λ k. bytes_eq k.row row && bytes_eq k.owner column) (coef_told j c.name m.rows)))) e
+    && t) (Some (record { owner = c.name; row = m.objective; text = value_text m c.cost }))
+    (find (λ k. bytes_eq k.row row && bytes_eq k.owner column) (coef_told j c.name m.rows)))) e
     ∙ by (bytes_eq m.objective row)
     ∙ other_column j c.name m.rows row column e
   where
@@ -176,9 +176,9 @@ coef_written m i r j c apart rows at here =
     own_column m 0 m.columns j c r.name apart here
     ∙ ap (λ k. told_at (block_told m k c) r.name c.name) start
     ∙ ap (λ t. option_map (λ (k : Told). number_or_zero k.text) (cond (t && bytes_eq c.name c.name)
-        (Some (record { owner = c.name; row = m.objective; text = value_text m c.cost }))
-        (find (λ k. bytes_eq k.row r.name && bytes_eq k.owner c.name) (coef_told j c.name m.rows))))
-        (not_at m.objective (map (λ k. k.name) m.rows) i r.name rows.0 (get_map (λ k. k.name) m.rows i r at))
+    (Some (record { owner = c.name; row = m.objective; text = value_text m c.cost }))
+    (find (λ k. bytes_eq k.row r.name && bytes_eq k.owner c.name) (coef_told j c.name m.rows))))
+    (not_at m.objective (map (λ k. k.name) m.rows) i r.name rows.0 (get_map (λ k. k.name) m.rows i r at))
     ∙ own_row j c.name m.rows i r rows.1 at
 
 -- and for the costs
@@ -187,8 +187,8 @@ pub cost_written : (m : Parts) (j : ℕ) (c : Column) → AreDistinct (map (λ k
 cost_written m j c apart here =
     own_column m 0 m.columns j c m.objective apart here
     ∙ ap (λ t. option_map (λ (k : Told). number_or_zero k.text) (cond (t && bytes_eq c.name c.name)
-        (Some (record { owner = c.name; row = m.objective; text = value_text m c.cost }))
-        (find (λ k. bytes_eq k.row m.objective && bytes_eq k.owner c.name) (coef_told (0 + j) c.name m.rows)))) (text_self m.objective)
+    (Some (record { owner = c.name; row = m.objective; text = value_text m c.cost }))
+    (find (λ k. bytes_eq k.row m.objective && bytes_eq k.owner c.name) (coef_told (0 + j) c.name m.rows)))) (text_self m.objective)
     ∙ ap (λ t. option_map (λ (k : Told). number_or_zero k.text)
-        (cond t (Some (record { owner = c.name; row = m.objective; text = value_text m c.cost }))
-        (find (λ k. bytes_eq k.row m.objective && bytes_eq k.owner c.name) (coef_told (0 + j) c.name m.rows)))) (text_self c.name)
+    (cond t (Some (record { owner = c.name; row = m.objective; text = value_text m c.cost }))
+    (find (λ k. bytes_eq k.row m.objective && bytes_eq k.owner c.name) (coef_told (0 + j) c.name m.rows)))) (text_self c.name)

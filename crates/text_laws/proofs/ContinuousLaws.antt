@@ -1,6 +1,6 @@
 -- No column of a canonical text is continuous.
-use Rattle.std.specs.Prelude.{◌≡◌, ℕ, suc, ◌==◌, true, false, ◌&&◌, ◌||◌, not, if◌then◌else◌, List, [], ◌∷◌, ◌++◌, length, map, filter,
-    Some, slice_get, bytes_eq, codes}
+use Rattle.std.specs.Prelude.{◌≡◌, ℕ, suc, ◌==◌, true, false, ◌&&◌, ◌||◌, not, if◌then◌else◌, List, [], ◌∷◌, ◌++◌, length, map, filter}
+use Rattle.std.specs.Prelude.{Some, slice_get, bytes_eq, codes}
 use Rattle.std.specs.List.{list_any, enumerate_from}
 use Rattle.std.specs.Option.{option_map_or}
 use Rattle.std.proofs.Common.{refl, arith, ap, sym, ◌∙◌}
@@ -8,16 +8,16 @@ use Rattle.std.proofs.lemmas.Bool.{ne_eqb}
 use Rattle.mps_defs.specs.Lists.{is_among, last_of, AreDistinct}
 use Rattle.ip_defs.specs.Lists.{when, Each}
 use Rattle.mps_defs.specs.CanonicalText.{Written, triple, columns_block}
-use Rattle.mps_defs.specs.Records.{Line, items_of, is_marker, in_force, column_name, column_names, first_lines, field, bounds_on, item,
-    opening}
+use Rattle.mps_defs.specs.Records.{Line, items_of, is_marker, in_force, column_name, column_names, first_lines, field, bounds_on, item}
+use Rattle.mps_defs.specs.Records.{opening}
 use Rattle.mps_defs.specs.TextModels.{kind_is}
 use Rattle.mps_defs.specs.Faults.{continuous_faults}
-use Rattle.mps_defs.specs.declared.texts.MpsError.TheVariants.{Continuous}
+use Rattle.mps_defs.specs.declared.reading.MpsError.TheVariants.{Continuous}
 use Rattle.ip_defs.specs.declared.programs.Column.{Column}
 use Rattle.ip_defs.specs.declared.programs.Parts.{Parts}
 use Rattle.text_laws.proofs.WrittenLaws.{lines_from}
-use Rattle.text_laws.proofs.SectionLaws.{AreItems, lines_in, number_after, items_first, items_none, other_section, after_rows,
-    after_columns, after_right_sides, after_ranges, after_bounds}
+use Rattle.text_laws.proofs.SectionLaws.{AreItems, lines_in, number_after, items_first, items_none, other_section, after_rows}
+use Rattle.text_laws.proofs.SectionLaws.{after_columns, after_right_sides, after_ranges, after_bounds}
 use Rattle.text_laws.proofs.CanonicalLaws.{sections_of, are_sections}
 use Rattle.text_laws.proofs.ReadableLaws.{IsProgramText}
 use Rattle.text_laws.proofs.EntryReadLaws.{AreTriples}

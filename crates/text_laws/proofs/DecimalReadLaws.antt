@@ -1,6 +1,6 @@
 -- The decimals of the rows and of the costs are read back.
-use Rattle.std.specs.Prelude.{◌≡◌, ℕ, zero, suc, ◌+◌, ◌<◌, ◌≤◌, ◌^◌, ◌==◌, max, Bool, true, false, not, cond, List, [], ◌∷◌, ◌++◌, length,
-    map, filter, flat_map, find, Option, None, Some, slice_get, bytes_eq, codes, ℤ, pos, neg_ℤ, ◌-ℤ◌}
+use Rattle.std.specs.Prelude.{◌≡◌, ℕ, zero, suc, ◌+◌, ◌<◌, ◌≤◌, ◌^◌, ◌==◌, max, Bool, true, false, not, cond, List, [], ◌∷◌, ◌++◌, length}
+use Rattle.std.specs.Prelude.{map, filter, flat_map, find, Option, None, Some, slice_get, bytes_eq, codes, ℤ, pos, neg_ℤ, ◌-ℤ◌}
 use Rattle.std.specs.List.{enumerate_from}
 use Rattle.std.specs.Option.{option_map_or, ForSome}
 use Rattle.std.specs.Int.RustNames.{unsigned_abs}
@@ -12,8 +12,8 @@ use Rattle.decimals.proofs.NumberLaws.{zero_reached}
 use Rattle.mps_defs.specs.Lists.{is_among, AreDistinct}
 use Rattle.ip_defs.specs.Lists.{when, Each}
 use Rattle.mps_defs.specs.Numbers.{decimal_text, least_decimals, decimals_of}
-use Rattle.mps_defs.specs.CanonicalText.{Written, triple, coef_line, column_block, right_side, constant_line, value_text, side_line,
-    width_line}
+use Rattle.mps_defs.specs.CanonicalText.{Written, triple, coef_line, column_block, right_side, constant_line, value_text, side_line}
+use Rattle.mps_defs.specs.CanonicalText.{width_line}
 use Rattle.mps_defs.specs.TextModels.{largest, number_or_zero}
 use Rattle.ip_defs.specs.declared.programs.Column.{Column}
 use Rattle.ip_defs.specs.declared.programs.Row.{Row}
@@ -76,10 +76,13 @@ row_places m i r d at j (c ∷ cs) =
     ∙ decimals_append (block_told m j c) (told_from m (j + 1) cs) r.name
     ∙ ap (λ (n : ℕ). told_decimals (block_told m j c) r.name ++ told_decimals (told_from m n cs) r.name) next
     ∙ ap (λ l. l ++ told_decimals (told_from m (suc j) cs) r.name)
-    (ap (λ t. map (λ (k : Told). decimals_of (number_or_zero k.text)) (cond t (record { owner = c.name; row = m.objective;
-        text = value_text m c.cost } ∷ filter (λ k. bytes_eq k.row r.name) (coef_told j c.name m.rows))
-        (filter (λ k. bytes_eq k.row r.name) (coef_told j c.name m.rows)))) (not_at m.objective (map (λ k. k.name) m.rows) i r.name d.0
-        (get_map (λ k. k.name) m.rows i r at))
+    (ap (λ t. map (λ (k : Told). decimals_of (number_or_zero k.text)) (cond t (record {
+      owner = c.name;
+      row = m.objective;
+      text = value_text m c.cost;
+    } ∷ filter (λ k. bytes_eq k.row r.name) (coef_told j c.name m.rows))
+    (filter (λ k. bytes_eq k.row r.name) (coef_told j c.name m.rows)))) (not_at m.objective (map (λ k. k.name) m.rows) i r.name d.0
+    (get_map (λ k. k.name) m.rows i r at))
     ∙ ap (λ ts. told_decimals ts r.name) (flat_flat (coef_line j c.name) m.rows)
     ∙ (own_of (λ k. flat_map tells (coef_line j c.name k)) (coef_own j c.name) m.rows i r d.1 at).1
     ∙ coef_one j c.name r)
@@ -150,9 +153,12 @@ cost_decimals_read m d most j (c ∷ cs) h =
     ap (λ ts. told_decimals ts m.objective) (tells_append (column_block m (j, c)) (flat_map (column_block m) (enumerate_from (j + 1) cs)))
     ∙ decimals_append (block_told m j c) (told_from m (j + 1) cs) m.objective
     ∙ ap (λ l. l ++ told_decimals (told_from m (j + 1) cs) m.objective)
-    (ap (λ t. map (λ (k : Told). decimals_of (number_or_zero k.text)) (cond t (record { owner = c.name; row = m.objective;
-        text = value_text m c.cost } ∷ filter (λ k. bytes_eq k.row m.objective) (coef_told j c.name m.rows))
-        (filter (λ k. bytes_eq k.row m.objective) (coef_told j c.name m.rows)))) (text_self m.objective)
+    (ap (λ t. map (λ (k : Told). decimals_of (number_or_zero k.text)) (cond t (record {
+      owner = c.name;
+      row = m.objective;
+      text = value_text m c.cost;
+    } ∷ filter (λ k. bytes_eq k.row m.objective) (coef_told j c.name m.rows))
+    (filter (λ k. bytes_eq k.row m.objective) (coef_told j c.name m.rows)))) (text_self m.objective)
     ∙ ap (λ l. said_decimals m.cost_decimals c.cost ∷ l)
     (ap (λ ts. told_decimals ts m.objective) (flat_flat (coef_line j c.name) m.rows)
     ∙ (none_of (λ k. flat_map tells (coef_line j c.name k)) (coef_own j c.name) m.rows m.objective d).1)
@@ -169,7 +175,7 @@ amount_decimals : (test : Bool) (k n : ℕ) (owner name : List ℕ) (z : ℤ) �
     ≡ largest n (needed_decimals k z ∷ [])
 amount_decimals true k n owner name z h small most =
     ap (λ t. largest n (map (λ (x : Told). decimals_of (number_or_zero x.text))
-        (cond t (record { owner = owner; row = name; text = decimal_text z k } ∷ []) []))) (text_self name)
+    (cond t (record { owner = owner; row = name; text = decimal_text z k } ∷ []) []))) (text_self name)
     ∙ ap (λ (x : ℕ). largest n (x ∷ [])) (decimal_text_decimals z k small most)
 amount_decimals false k n owner name z h small most = sym (ap (λ (y : ℤ). largest n (needed_decimals k y ∷ [])) (h refl) ∙ none_needed k n)
 
@@ -180,7 +186,7 @@ rhs_decimals r n h s = by (right_side r) s
   where
     by : (o : Option ℤ) → ForSome o (λ b. unsigned_abs b ≤ 2 ^ 62)
         → largest n (told_decimals (flat_map tells (option_map_or (side_line r) o (triple (codes "RHS") r.name (codes "1e30") ∷ [])))
-            r.name)
+        r.name)
         ≡ largest n (map (needed_decimals r.decimals) (option_map_or (λ b. b ∷ []) o []))
     by None l =
         ap (λ t. largest n (map (λ (x : Told). decimals_of (number_or_zero x.text))

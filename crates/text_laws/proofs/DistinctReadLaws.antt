@@ -1,15 +1,16 @@
 -- The names of rows and of columns that are read of lines without a fault differ.
-use Rattle.std.specs.Prelude.{◌≡◌, ℕ, ◌==◌, Bool, true, false, ◌&&◌, ◌||◌, not, cond, if◌then◌else◌, List, [], ◌∷◌, ◌++◌, length, drop,
-    map, filter, find, Some, bytes_eq, codes}
+use Rattle.std.specs.Prelude.{◌≡◌, ℕ, ◌==◌, Bool, true, false, ◌&&◌, ◌||◌, not, cond, if◌then◌else◌, List, [], ◌∷◌, ◌++◌, length, drop, map}
+use Rattle.std.specs.Prelude.{filter, find, Some, bytes_eq, codes}
 use Rattle.std.proofs.Common.{refl, ap, sym, ◌∙◌, subst}
 use Rattle.std.proofs.lemmas.List.Folds.{list_any-append}
 use Rattle.std.proofs.lemmas.Slice.Eq.{bytes_eq-Decides}
 use Rattle.mps_defs.specs.Lists.{is_among, AreDistinct}
 use Rattle.ip_defs.specs.Lists.{when, Each}
-use Rattle.mps_defs.specs.Records.{Line, items_of, words_of, row_lines, row_kind, row_name, is_marker, column_name, column_names,
-    entries_from, entries_of, all_entries, kept_entries, is_kept, is_columns, set_of, names_set, is_free, row_names}
+use Rattle.mps_defs.specs.Records.{Line, items_of, words_of, row_lines, row_kind, row_name, is_marker, column_name, column_names}
+use Rattle.mps_defs.specs.Records.{entries_from, entries_of, all_entries, kept_entries, is_kept, is_columns, set_of, names_set, is_free}
+use Rattle.mps_defs.specs.Records.{row_names}
 use Rattle.mps_defs.specs.Faults.{line_faults, row_faults}
-use Rattle.mps_defs.specs.declared.texts.MpsError.TheVariants.{SectionOrder, FieldCount, RowKind, TwiceRow, Marker}
+use Rattle.mps_defs.specs.declared.reading.MpsError.TheVariants.{SectionOrder, FieldCount, RowKind, TwiceRow, Marker}
 use Rattle.text_laws.proofs.ListLaws.{each_both, each_flat}
 use Rattle.text_laws.proofs.SectionLaws.{new_names, names_of, names_are}
 use Rattle.text_laws.proofs.EachLaws.{each_filter, each_passes}
@@ -206,7 +207,7 @@ line_owned names l item h =
   where
     by : (t u : Bool) → t ≡ true → is_marker l ≡ u
         → Each (λ e. is_among e.owner names ≡ true) (if t then (if u then [] else entries_from l.number (column_name l) (drop 1 l.fields))
-            else entries_from l.number (set_of l) (if names_set l then drop 1 l.fields else l.fields))
+        else entries_from l.number (set_of l) (if names_set l then drop 1 l.fields else l.fields))
     by false u e f = absurd cc
     by true true e f = tt
     by true false e f =

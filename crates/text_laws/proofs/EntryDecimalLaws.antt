@@ -1,6 +1,6 @@
 -- The decimals of the entries that are kept for a row, and those of the amounts that are made of them.
-use Rattle.std.specs.Prelude.{◌≡◌, ℕ, ◌+◌, ◌≤◌, ◌==◌, Bool, true, false, ◌||◌, not, cond, List, [], ◌∷◌, map, filter, filter_map, Option,
-    None, Some, option_map, bytes_eq, codes, ℤ}
+use Rattle.std.specs.Prelude.{◌≡◌, ℕ, ◌+◌, ◌≤◌, ◌==◌, Bool, true, false, ◌||◌, not, cond, List, [], ◌∷◌, map, filter, filter_map, Option}
+use Rattle.std.specs.Prelude.{None, Some, option_map, bytes_eq, codes, ℤ}
 use Rattle.std.specs.List.{enumerate_from, cons_option}
 use Rattle.std.specs.Int.RustNames.{unsigned_abs}
 use Rattle.std.proofs.Common.{refl, arith, ap, sym, ◌∙◌, subst}
@@ -10,7 +10,7 @@ use Rattle.mps_defs.specs.Lists.{is_among}
 use Rattle.mps_defs.specs.Numbers.{decimals_of}
 use Rattle.mps_defs.specs.Records.{Line, Entry, kept_entries}
 use Rattle.mps_defs.specs.TextModels.{units, written_for, written_at, written_in, decimals_in, placed, number_or_zero}
-use Rattle.mps_defs.specs.declared.texts.Number.{Number}
+use Rattle.mps_defs.specs.declared.reading.Number.{Number}
 use Rattle.text_laws.specs.ReadBack.{needed_decimals}
 use Rattle.text_laws.proofs.EachLaws.{each_before_map}
 use Rattle.text_laws.proofs.LeastReadLaws.{nothing_needs}
@@ -105,7 +105,7 @@ nonzero_each k most (p ∷ ps) all = by (unsigned_abs p.1 == 0) refl all (λ h. 
 -- the number that is written at a column needs no more than the coefficients do
 pub coef_needs : (es : List Entry) (names : List (List ℕ)) (row : List ℕ) (k most : ℕ)
     → Each (λ z. needed_decimals k z ≤ most) (map (λ (p : ℕ × ℤ). p.1) (filter (λ p. not (unsigned_abs p.1 == 0))
-        (map (λ (p : ℕ × Number). (p.0, units k p.1)) (written_in es names row))))
+    (map (λ (p : ℕ × Number). (p.0, units k p.1)) (written_in es names row))))
     → (name : List ℕ) (x : Number) → is_among name names ≡ true → written_at es row name ≡ Some x → needed_decimals k (units k x) ≤ most
 coef_needs es names row k most all =
     let pairs = map (λ (p : ℕ × Number). (p.0, units k p.1)) (written_in es names row) in

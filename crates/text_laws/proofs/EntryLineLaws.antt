@@ -1,6 +1,6 @@
 -- Each line of COLUMNS, RHS and RANGES of a canonical text writes an amount for a row that is known.
-use Rattle.std.specs.Prelude.{◌≡◌, ℕ, ◌≤◌, ◌^◌, ◌==◌, true, ◌||◌, not, List, [], ◌∷◌, ◌++◌, map, flat_map, find, Option, None, Some,
-    bytes_eq, codes, ℤ, pos, neg_ℤ, ◌-ℤ◌}
+use Rattle.std.specs.Prelude.{◌≡◌, ℕ, ◌≤◌, ◌^◌, ◌==◌, true, ◌||◌, not, List, [], ◌∷◌, ◌++◌, map, flat_map, find, Option, None, Some}
+use Rattle.std.specs.Prelude.{bytes_eq, codes, ℤ, pos, neg_ℤ, ◌-ℤ◌}
 use Rattle.std.specs.List.{enumerate_from}
 use Rattle.std.specs.Option.{option_map_or, ForSome}
 use Rattle.std.specs.Int.RustNames.{unsigned_abs}
@@ -9,13 +9,13 @@ use Rattle.std.proofs.Common.{refl, arith, ap}
 use Rattle.mps_defs.specs.Lists.{is_among}
 use Rattle.ip_defs.specs.Lists.{Each}
 use Rattle.mps_defs.specs.Numbers.{decimal_text}
-use Rattle.mps_defs.specs.CanonicalText.{triple, coef_line, column_block, right_side, rhs_line, constant_line, range_line, value_text,
-    side_line, width_line}
+use Rattle.mps_defs.specs.CanonicalText.{triple, coef_line, column_block, right_side, rhs_line, constant_line, range_line, value_text}
+use Rattle.mps_defs.specs.CanonicalText.{side_line, width_line}
 use Rattle.ip_defs.specs.declared.programs.Row.{Row}
 use Rattle.ip_defs.specs.declared.programs.Parts.{Parts}
 use Rattle.text_laws.proofs.ListLaws.{each_flat, each_when, each_both}
-use Rattle.text_laws.proofs.ReadableLaws.{IsProgramText, IsRowText, IsColumnText, all_from, found_small, right_side_small, width_small,
-    negated_small}
+use Rattle.text_laws.proofs.ReadableLaws.{IsProgramText, IsRowText, IsColumnText, all_from, found_small, right_side_small, width_small}
+use Rattle.text_laws.proofs.ReadableLaws.{negated_small}
 use Rattle.text_laws.proofs.RecordReadLaws.{blocks_of, not_marker}
 use Rattle.text_laws.proofs.LineFaultLaws.{IsEntry, IsAmount, amount_of}
 use Rattle.ip_defs.proofs.BoolLaws.{either_true}

@@ -1,13 +1,13 @@
 -- The entries of the lines of a section, without their line numbers, and what is looked up in them.
-use Rattle.std.specs.Prelude.{◌≡◌, ℕ, suc, Bool, true, false, ◌&&◌, cond, if◌then◌else◌, List, [], ◌∷◌, ◌++◌, map, filter, flat_map, find,
-    Option, Some, option_map, bytes_eq, codes, ⊤}
+use Rattle.std.specs.Prelude.{◌≡◌, ℕ, suc, Bool, true, false, ◌&&◌, cond, if◌then◌else◌, List, [], ◌∷◌, ◌++◌, map, filter, flat_map, find}
+use Rattle.std.specs.Prelude.{Option, Some, option_map, bytes_eq, codes, ⊤}
 use Rattle.std.specs.Option.{option_or}
 use Rattle.std.proofs.Common.{refl, ap, ◌∙◌}
 use Rattle.mps_defs.specs.CanonicalText.{Written}
 use Rattle.mps_defs.specs.Records.{Line, Entry, is_marker, column_name, entries_of, entries_from}
 use Rattle.mps_defs.specs.TextModels.{written_at, written_for, decimals_in, number_or_zero}
 use Rattle.mps_defs.specs.Numbers.{decimals_of}
-use Rattle.mps_defs.specs.declared.texts.Number.{Number}
+use Rattle.mps_defs.specs.declared.reading.Number.{Number}
 use Rattle.text_laws.proofs.WrittenLaws.{lines_from}
 use Rattle.ip_defs.proofs.ListLaws.{filter-append, find-append}
 use Rattle.std.proofs.lemmas.List.{map-append}
@@ -51,7 +51,7 @@ pub column_entries : (n : ℕ) (ds : List Written) → AreTriples ds
 column_entries n [] h = refl
 column_entries n ((true, a ∷ b ∷ c ∷ []) ∷ ds) h =
     ap (λ t. map told ((if t then [] else record { line = n; owner = a; row = b; text = c } ∷ [])
-        ++ flat_map entries_of (lines_from (suc n) (codes "COLUMNS") ds))) h.0
+    ++ flat_map entries_of (lines_from (suc n) (codes "COLUMNS") ds))) h.0
     ∙ ap (λ k. record { owner = a; row = b; text = c } ∷ k) (column_entries (suc n) ds h.1)
 column_entries n ((true, a ∷ b ∷ c ∷ d ∷ fs) ∷ ds) h = absurd h.0
 column_entries n ((true, a ∷ b ∷ []) ∷ ds) h = absurd h.0
@@ -66,7 +66,7 @@ set_entries word n [] e h = refl
 set_entries word n ((true, a ∷ b ∷ c ∷ []) ∷ ds) e h =
     let l : Line = record { number = n; is_item = true; section = word; fields = a ∷ b ∷ c ∷ [] } in
     ap (λ t. map told ((if t then (if is_marker l then [] else entries_from n (column_name l) (b ∷ c ∷ []))
-        else record { line = n; owner = a; row = b; text = c } ∷ []) ++ flat_map entries_of (lines_from (suc n) word ds))) e
+    else record { line = n; owner = a; row = b; text = c } ∷ []) ++ flat_map entries_of (lines_from (suc n) word ds))) e
     ∙ ap (λ k. record { owner = a; row = b; text = c } ∷ k) (set_entries word (suc n) ds e h.1)
 set_entries word n ((true, a ∷ b ∷ c ∷ d ∷ fs) ∷ ds) e h = absurd h.0
 set_entries word n ((true, a ∷ b ∷ []) ∷ ds) e h = absurd h.0

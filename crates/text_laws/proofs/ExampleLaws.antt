@@ -1,6 +1,6 @@
 -- A program that meets what the law of reading back asks for, and some that miss it by one condition and are not read back.
-use Rattle.std.specs.Prelude.{◌≡◌, ◌≢◌, ℕ, zero, suc, ◌<◌, ◌≤◌, ◌^◌, true, false, List, [], ◌∷◌, ◌++◌, map, None, Some, slice_get,
-    slice_index_or, codes, ℤ, pos, negsuc}
+use Rattle.std.specs.Prelude.{◌≡◌, ◌≢◌, ℕ, zero, suc, ◌<◌, ◌≤◌, ◌^◌, true, false, List, [], ◌∷◌, ◌++◌, map, None, Some, slice_get}
+use Rattle.std.specs.Prelude.{slice_index_or, codes, ℤ, pos, negsuc}
 use Rattle.std.specs.Int.RustNames.{unsigned_abs}
 use Rattle.std.specs.Fmt.{digits}
 use Rattle.std.specs.Str.{is_utf8, chars}
@@ -9,8 +9,8 @@ use Rattle.ip_defs.specs.Limits.{IsWithinLimits, IsRowShaped, IsColumn, IsRow}
 use Rattle.mps_defs.specs.CanonicalText.{canonical_text, is_printable}
 use Rattle.mps_defs.specs.TextModels.{largest}
 use Rattle.mps_defs.specs.Faults.{mps_fault, model_of}
-use Rattle.mps_defs.specs.declared.texts.MpsError.TheVariants.{NotUtf8, TwiceEntry, TwiceRow}
-use Rattle.mps_defs.specs.declared.texts.How.{How}
+use Rattle.mps_defs.specs.declared.reading.MpsError.TheVariants.{NotUtf8, TwiceEntry, TwiceRow}
+use Rattle.mps_defs.specs.declared.reading.How.{How}
 use Rattle.ip_defs.specs.declared.programs.Column.{Column}
 use Rattle.ip_defs.specs.declared.programs.Row.{Row}
 use Rattle.ip_defs.specs.declared.programs.Parts.{Parts}
@@ -118,9 +118,18 @@ example_is_canonical = record {
 }
 
 -- with two digits its costs are read in smaller units, and it is another program
-pub more_digits : model_of (canonical_text example) (reading 2) ≡ record { objective = codes "cost"; cost_decimals = 2; constant = pos 50;
-    columns = record { name = codes "x"; cost = pos 150; lo = pos 0; hi = pos 9 } ∷ record { name = 195 ∷ 169 ∷ []; cost = negsuc 199;
-    lo = negsuc 2; hi = pos 4 } ∷ []; rows = row_named (codes "r") ∷ [] }
+pub more_digits : model_of (canonical_text example) (reading 2) ≡ record {
+  objective = codes "cost";
+  cost_decimals = 2;
+  constant = pos 50;
+  columns = record { name = codes "x"; cost = pos 150; lo = pos 0; hi = pos 9 } ∷ record {
+    name = 195 ∷ 169 ∷ [];
+    cost = negsuc 199;
+    lo = negsuc 2;
+    hi = pos 4;
+  } ∷ [];
+  rows = row_named (codes "r") ∷ [];
+}
 unfolding digits
 more_digits = refl
 

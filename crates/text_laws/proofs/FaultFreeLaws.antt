@@ -1,6 +1,6 @@
 -- What cannot be wrong with a canonical text after its lines: the end, the objective, the bounds and the limits.
-use Rattle.std.specs.Prelude.{◌≡◌, ℕ, suc, ◌+◌, ◌≤◌, ◌^◌, nat_lt, true, false, ◌&&◌, ◌||◌, not, List, [], ◌∷◌, ◌++◌, length, map, filter,
-    flat_map, Option, None, Some, slice_get, codes, ℤ, sum_by}
+use Rattle.std.specs.Prelude.{◌≡◌, ℕ, suc, ◌+◌, ◌≤◌, ◌^◌, nat_lt, true, false, ◌&&◌, ◌||◌, not, List, [], ◌∷◌, ◌++◌, length, map, filter}
+use Rattle.std.specs.Prelude.{flat_map, Option, None, Some, slice_get, codes, ℤ, sum_by}
 use Rattle.std.specs.List.{enumerate_from, list_any}
 use Rattle.std.specs.Option.{option_map_or, is_none, ForSome}
 use Rattle.std.specs.Int.RustNames.{unsigned_abs}
@@ -8,21 +8,22 @@ use Rattle.std.proofs.Common.{refl, arith, ap, ◌∙◌}
 use Rattle.std.proofs.lemmas.Bool.{le-ltb}
 use Rattle.mps_defs.specs.Lists.{is_among, last_of, AreDistinct}
 use Rattle.ip_defs.specs.Lists.{when}
-use Rattle.ip_defs.specs.Limits.{IsWithinLimits, IsColumn, IsRow, AreSmall, limits_of, limit_at, column_limits, row_limits, exceeds, is_long}
+use Rattle.ip_defs.specs.Limits.{IsWithinLimits, IsColumn, IsRow, AreSmall, limits_of, limit_at, column_limits, row_limits, exceeds}
+use Rattle.ip_defs.specs.Limits.{is_long}
 use Rattle.mps_defs.specs.CanonicalText.{Written}
 use Rattle.mps_defs.specs.Records.{words_of}
 use Rattle.mps_defs.specs.TextModels.{lower_side, upper_side, upper_entry, sets_lower}
 use Rattle.mps_defs.specs.Faults.{is_ended, bound_missing, lower_is_missing, upper_is_missing, upper_faults, is_negative_upper}
 use Rattle.ip_defs.specs.declared.limits.What.TheVariants as Whats
-use Rattle.mps_defs.specs.declared.texts.MpsError.TheVariants.{NoBound, NegativeUpper}
-use Rattle.mps_defs.specs.declared.texts.Side.TheVariants as Sides
-use Rattle.mps_defs.specs.declared.texts.How.{How}
+use Rattle.mps_defs.specs.declared.reading.MpsError.TheVariants.{NoBound, NegativeUpper}
+use Rattle.mps_defs.specs.declared.reading.Side.TheVariants as Sides
+use Rattle.mps_defs.specs.declared.reading.How.{How}
 use Rattle.ip_defs.specs.declared.programs.Column.{Column}
 use Rattle.ip_defs.specs.declared.programs.Row.{Row}
 use Rattle.ip_defs.specs.declared.programs.Parts.{Parts}
 use Rattle.text_laws.proofs.WrittenLaws.{lines_from}
-use Rattle.text_laws.proofs.SectionLaws.{Sections, AreSections, AreItems, lines_in, number_after, items_first, columns_at, right_sides_at,
-    ranges_at, bounds_at, after_rows, after_columns, after_right_sides, after_ranges, after_bounds}
+use Rattle.text_laws.proofs.SectionLaws.{Sections, AreSections, AreItems, lines_in, number_after, items_first, columns_at, right_sides_at}
+use Rattle.text_laws.proofs.SectionLaws.{ranges_at, bounds_at, after_rows, after_columns, after_right_sides, after_ranges, after_bounds}
 use Rattle.text_laws.proofs.CanonicalLaws.{sections_of, are_sections}
 use Rattle.text_laws.proofs.BoundReadLaws.{bounds_read, lower_read, upper_read}
 use Rattle.ip_defs.proofs.ListLaws.{filter-append}

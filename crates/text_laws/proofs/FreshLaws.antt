@@ -1,6 +1,6 @@
 -- No place is written twice in a canonical text, and the entries of a column stand together.
-use Rattle.std.specs.Prelude.{◌≡◌, ℕ, ◌+◌, ◌==◌, Bool, true, false, ◌&&◌, ◌||◌, not, List, [], ◌∷◌, ◌++◌, map, flat_map, find, Option,
-    None, Some, bytes_eq, codes, ℤ, pos, neg_ℤ, ◌-ℤ◌}
+use Rattle.std.specs.Prelude.{◌≡◌, ℕ, ◌+◌, ◌==◌, Bool, true, false, ◌&&◌, ◌||◌, not, List, [], ◌∷◌, ◌++◌, map, flat_map, find, Option, None}
+use Rattle.std.specs.Prelude.{Some, bytes_eq, codes, ℤ, pos, neg_ℤ, ◌-ℤ◌}
 use Rattle.std.specs.List.{list_any, enumerate_from}
 use Rattle.std.specs.Option.{option_map_or}
 use Rattle.std.specs.Ordering.{int_eq}
@@ -9,8 +9,8 @@ use Rattle.std.proofs.lemmas.List.Folds.{list_any-append}
 use Rattle.mps_defs.specs.Lists.{is_among, last_of, AreDistinct}
 use Rattle.ip_defs.specs.Lists.{when, Each}
 use Rattle.mps_defs.specs.Numbers.{decimal_text}
-use Rattle.mps_defs.specs.CanonicalText.{triple, coef_line, column_block, right_side, rhs_line, constant_line, range_line, value_text,
-    side_line, width_line}
+use Rattle.mps_defs.specs.CanonicalText.{triple, coef_line, column_block, right_side, rhs_line, constant_line, range_line, value_text}
+use Rattle.mps_defs.specs.CanonicalText.{side_line, width_line}
 use Rattle.ip_defs.specs.declared.programs.Column.{Column}
 use Rattle.ip_defs.specs.declared.programs.Row.{Row}
 use Rattle.ip_defs.specs.declared.programs.Parts.{Parts}

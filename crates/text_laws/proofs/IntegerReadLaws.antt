@@ -47,8 +47,8 @@ names_append before xs ys =
 
 whole_append : (name : List ℕ) (before xs ys : List Line)
     → list_any (is_whole name) (filter is_first (after_those before (xs ++ ys)))
-        ≡ (list_any (is_whole name) (filter is_first (after_those before xs))
-        || list_any (is_whole name) (filter is_first (after_those (before ++ xs) ys)))
+    ≡ (list_any (is_whole name) (filter is_first (after_those before xs))
+    || list_any (is_whole name) (filter is_first (after_those (before ++ xs) ys)))
 whole_append name before xs ys =
     ap (λ ps. list_any (is_whole name) (filter is_first ps)) (after_append before xs ys)
     ∙ ap (list_any (is_whole name)) (filter-append is_first (after_those before xs) (after_those (before ++ xs) ys))

@@ -1,6 +1,6 @@
 -- The entries that are kept of lines without a fault: each has at most nine decimals, and none stands at a place where one came before.
-use Rattle.std.specs.Prelude.{◌≡◌, ℕ, ◌≤◌, ◌==◌, drop, nat_lt, nat_le, Bool, true, false, ◌&&◌, ◌||◌, not, cond, if◌then◌else◌, List, [],
-    ◌∷◌, ◌++◌, length, flat_map, bytes_eq, codes}
+use Rattle.std.specs.Prelude.{◌≡◌, ℕ, ◌≤◌, ◌==◌, drop, nat_lt, nat_le, Bool, true, false, ◌&&◌, ◌||◌, not, cond, if◌then◌else◌, List, []}
+use Rattle.std.specs.Prelude.{◌∷◌, ◌++◌, length, flat_map, bytes_eq, codes}
 use Rattle.std.specs.List.{list_any}
 use Rattle.std.proofs.Common.{refl, ap, sym, ◌∙◌, subst}
 use Rattle.std.proofs.lemmas.Bool.{ltb-false}
@@ -8,12 +8,12 @@ use Rattle.std.proofs.lemmas.Slice.Eq.{bytes_eq-Decides}
 use Rattle.mps_defs.specs.Lists.{is_among, after_those, with_earlier}
 use Rattle.ip_defs.specs.Lists.{when}
 use Rattle.mps_defs.specs.Numbers.{is_number, decimals_of}
-use Rattle.mps_defs.specs.Records.{Line, Entry, items_of, words_of, is_marker, column_name, entries_from, entries_of, all_entries, is_kept,
-    row_names}
+use Rattle.mps_defs.specs.Records.{Line, Entry, items_of, words_of, is_marker, column_name, entries_from, entries_of, all_entries, is_kept}
+use Rattle.mps_defs.specs.Records.{row_names}
 use Rattle.mps_defs.specs.Faults.{line_faults, marker_faults, column_faults, set_faults, is_split, pair_faults, entry_faults, same_place}
-use Rattle.mps_defs.specs.declared.texts.MpsError.{MpsError}
-use Rattle.mps_defs.specs.declared.texts.MpsError.TheVariants.{SectionOrder, FieldCount, SplitColumn, UnknownRow, Number, Digits,
-    TwiceEntry}
+use Rattle.mps_defs.specs.declared.reading.MpsError.{MpsError}
+use Rattle.mps_defs.specs.declared.reading.MpsError.TheVariants.{SectionOrder, FieldCount, SplitColumn, UnknownRow, Number, Digits}
+use Rattle.mps_defs.specs.declared.reading.MpsError.TheVariants.{TwiceEntry}
 use Rattle.text_laws.proofs.EachLaws.{EachAfter, each_after_append}
 use Rattle.text_laws.proofs.SoundLaws.{IsSound, is_late, sound_line, sound_next, kept_alike}
 use Rattle.ip_defs.proofs.ListLaws.{none_append, none_when, filter-append}

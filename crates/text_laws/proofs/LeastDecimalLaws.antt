@@ -1,6 +1,6 @@
 -- The decimals of a row that is read, and of the costs, are the least ones that write its amounts, and no fewer than those asked for.
-use Rattle.std.specs.Prelude.{◌≡◌, ℕ, ◌≤◌, Bool, true, false, ◌&&◌, not, List, [], ◌∷◌, ◌++◌, map, cond, find, Option, None, Some,
-    option_map, unwrap_or, bytes_eq, codes, ℤ, neg_ℤ}
+use Rattle.std.specs.Prelude.{◌≡◌, ℕ, ◌≤◌, Bool, true, false, ◌&&◌, not, List, [], ◌∷◌, ◌++◌, map, cond, find, Option, None, Some}
+use Rattle.std.specs.Prelude.{option_map, unwrap_or, bytes_eq, codes, ℤ, neg_ℤ}
 use Rattle.std.specs.Int.RustNames.{unsigned_abs}
 use Rattle.std.specs.Option.{option_map_or, ForSome}
 use Rattle.std.proofs.Common.{refl, arith, ap, sym, ◌∙◌, subst}
@@ -9,11 +9,11 @@ use Rattle.mps_defs.specs.Lists.{is_among}
 use Rattle.ip_defs.specs.Limits.{IsRow}
 use Rattle.mps_defs.specs.Numbers.{decimals_of, least_decimals}
 use Rattle.mps_defs.specs.Records.{Line, Entry, objective, is_objective, is_dropped_row, is_kept_set, is_kept, column_names, kept_entries}
-use Rattle.mps_defs.specs.TextModels.{no_number, units, written_for, written_at, largest, decimals_in, row_decimals, row_sides, coefs_in,
-    row_from, column_from, model_from, number_or_zero}
+use Rattle.mps_defs.specs.TextModels.{no_number, units, written_for, written_at, largest, decimals_in, row_decimals, row_sides, coefs_in}
+use Rattle.mps_defs.specs.TextModels.{row_from, column_from, model_from, number_or_zero}
 use Rattle.ip_defs.specs.declared.programs.Column.{Column}
-use Rattle.mps_defs.specs.declared.texts.How.{How}
-use Rattle.mps_defs.specs.declared.texts.Number.{Number}
+use Rattle.mps_defs.specs.declared.reading.How.{How}
+use Rattle.mps_defs.specs.declared.reading.Number.{Number}
 use Rattle.text_laws.specs.ReadBack.{needed_decimals, row_amounts, cost_amounts}
 use Rattle.text_laws.proofs.ListLaws.{each_both}
 use Rattle.text_laws.proofs.EachLaws.{each_of_map, each_before_map}
@@ -88,7 +88,7 @@ three_parts P es rs gs a b c = each_append P (es ++ rs) gs (each_append P es rs 
 -- the entries of COLUMNS for a row, where the number that is written at a column needs no more than some decimals
 few_from : (ls : List Line) (row : List ℕ) (k most : ℕ) → AreRead ls → Each (IsFewFor k row) (kept_entries (codes "COLUMNS") ls)
     → ((name : List ℕ) (x : Number) → is_among name (column_names ls) ≡ true → written_at (kept_entries (codes "COLUMNS") ls) row name
-        ≡ Some x → needed_decimals k (units k x) ≤ most)
+    ≡ Some x → needed_decimals k (units k x) ≤ most)
     → Each (IsFewFor most row) (kept_entries (codes "COLUMNS") ls)
 few_from ls row k most read own needs =
     each_both (λ e. IsFound (codes "COLUMNS") ls at_place e × (is_among e.owner (column_names ls) ≡ true)) (IsFewFor k row)

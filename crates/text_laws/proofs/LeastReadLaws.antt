@@ -1,6 +1,6 @@
 -- A number that is read has the least decimals that write it, in each unit that is fine enough; and the decimals of a difference.
-use Rattle.std.specs.Prelude.{◌≡◌, ℕ, zero, suc, ◌+◌, ◌-◌, ◌*◌, ◌/◌, ◌%◌, ◌^◌, ◌≤◌, nat_le, max, Bool, true, false, if◌then◌else◌, List,
-    [], ◌∷◌, unwrap_or, ℤ, pos, negsuc, ◌-ℤ◌, ◌*ℤ◌}
+use Rattle.std.specs.Prelude.{◌≡◌, ℕ, zero, suc, ◌+◌, ◌-◌, ◌*◌, ◌/◌, ◌%◌, ◌^◌, ◌≤◌, nat_le, max, Bool, true, false, if◌then◌else◌, List, []}
+use Rattle.std.specs.Prelude.{◌∷◌, unwrap_or, ℤ, pos, negsuc, ◌-ℤ◌, ◌*ℤ◌}
 use Rattle.std.specs.Int.RustNames.{unsigned_abs}
 use Rattle.std.proofs.Common.{refl, arith, ap, sym, ◌∙◌, subst, leb-false}
 use Rattle.std.proofs.Math.Nat.{mul_assoc, mul_comm, mul-mod_left, mul-sub, add-mul}
@@ -10,11 +10,11 @@ use Rattle.std.proofs.lemmas.Nat.{pow-add}
 use Rattle.decimals.proofs.DecimalLaws.{least_units, passes_at_k}
 use Rattle.decimals.proofs.NumberLaws.{zero_reached}
 use Rattle.mps_defs.specs.Lists.{least_from, where_true}
-use Rattle.mps_defs.specs.Numbers.{without_sign, is_minus, is_number, is_infinity, fraction_of, signed, has_decimals, least_decimals,
-    number_from, decimals_of}
+use Rattle.mps_defs.specs.Numbers.{without_sign, is_minus, is_number, is_infinity, fraction_of, signed, has_decimals, least_decimals}
+use Rattle.mps_defs.specs.Numbers.{number_from, decimals_of}
 use Rattle.mps_defs.specs.TextModels.{units, no_number, largest, number_or_zero}
-use Rattle.mps_defs.specs.declared.texts.Number.{Number}
-use Rattle.mps_defs.specs.declared.texts.Number.TheVariants.{Dec, Large}
+use Rattle.mps_defs.specs.declared.reading.Number.{Number}
+use Rattle.mps_defs.specs.declared.reading.Number.TheVariants.{Dec, Large}
 use Rattle.text_laws.specs.ReadBack.{needed_decimals}
 use Rattle.text_laws.proofs.ScaleLaws.{zeros_dropped, least_passes, decimals_within, units_back}
 use Rattle.ip_defs.specs.Lists.{Each}

@@ -39,3 +39,4 @@ pub mod ListLaws
 pub mod NumeralLaws
 pub mod NumberTextLaws
 pub mod ScaleLaws
+pub mod PrintableReadLaws

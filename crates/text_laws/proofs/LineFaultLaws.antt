@@ -1,6 +1,6 @@
 -- No fault is found in the lines of a section whose rows are known, whose amounts are numbers and whose places are fresh.
-use Rattle.std.specs.Prelude.{◌≡◌, ℕ, suc, ◌≤◌, ◌<◌, ◌^◌, nat_lt, nat_le, Bool, true, false, ◌&&◌, ◌||◌, not, cond, if◌then◌else◌, List,
-    [], ◌∷◌, ◌++◌, map, filter, flat_map, bytes_eq, codes, ℤ}
+use Rattle.std.specs.Prelude.{◌≡◌, ℕ, suc, ◌≤◌, ◌<◌, ◌^◌, nat_lt, nat_le, Bool, true, false, ◌&&◌, ◌||◌, not, cond, if◌then◌else◌, List, []}
+use Rattle.std.specs.Prelude.{◌∷◌, ◌++◌, map, filter, flat_map, bytes_eq, codes, ℤ}
 use Rattle.std.specs.List.{list_any}
 use Rattle.std.specs.Fmt.{signed_decimal}
 use Rattle.std.specs.Option.{option_map_or, is_none}
@@ -11,12 +11,12 @@ use Rattle.mps_defs.specs.Lists.{is_among, last_of, with_earlier, AreDistinct}
 use Rattle.ip_defs.specs.Lists.{when, Each}
 use Rattle.mps_defs.specs.Numbers.{decimal_text, decimals_of, is_number, least_decimals, has_decimals}
 use Rattle.mps_defs.specs.CanonicalText.{Written, pair, kind_text, is_equation, is_from_below}
-use Rattle.mps_defs.specs.Records.{Line, Entry, items_of, words_of, row_name, is_marker, in_force, column_name, has_column, entries_of,
-    entries_from, all_entries, is_kept, opening, row_names, item, entry}
-use Rattle.mps_defs.specs.Faults.{line_faults, row_faults, column_faults, set_faults, bound_faults, marker_faults, pair_faults,
-    entry_faults, is_split, same_place, may_come, place_of, faults_after, is_last_column}
-use Rattle.mps_defs.specs.declared.texts.MpsError.TheVariants.{SectionOrder, FieldCount, RowKind, TwiceRow, UnknownRow, SplitColumn,
-    TwiceEntry, Number, Marker, BoundKind, UnknownColumn, Digits}
+use Rattle.mps_defs.specs.Records.{Line, Entry, items_of, words_of, row_name, is_marker, in_force, column_name, has_column, entries_of}
+use Rattle.mps_defs.specs.Records.{entries_from, all_entries, is_kept, opening, row_names, item, entry_of}
+use Rattle.mps_defs.specs.Faults.{line_faults, row_faults, column_faults, set_faults, bound_faults, marker_faults, pair_faults}
+use Rattle.mps_defs.specs.Faults.{entry_faults, is_split, same_place, may_come, section_place, faults_after, is_last_column}
+use Rattle.mps_defs.specs.declared.reading.MpsError.TheVariants.{SectionOrder, FieldCount, RowKind, TwiceRow, UnknownRow, SplitColumn}
+use Rattle.mps_defs.specs.declared.reading.MpsError.TheVariants.{TwiceEntry, Number, Marker, BoundKind, UnknownColumn, Digits}
 use Rattle.ip_defs.specs.declared.programs.Column.{Column}
 use Rattle.ip_defs.specs.declared.programs.Row.{Row}
 use Rattle.text_laws.proofs.WrittenLaws.{lines_from}
@@ -126,10 +126,10 @@ pair_faultless before l e one known amount fresh =
 -- ---- RHS and RANGES
 
 set_entry : (n : ℕ) (word a b c : List ℕ) → bytes_eq word (codes "COLUMNS") ≡ false
-    → entries_of (item word n (a ∷ b ∷ c ∷ [])) ≡ entry n a b c ∷ []
+    → entries_of (item word n (a ∷ b ∷ c ∷ [])) ≡ entry_of n a b c ∷ []
 set_entry n word a b c other =
     ap (λ t. if t then (if is_marker (item word n (a ∷ b ∷ c ∷ [])) then [] else entries_from n a
-    (b ∷ c ∷ [])) else entry n a b c ∷ []) other
+    (b ∷ c ∷ [])) else entry_of n a b c ∷ []) other
 
 -- the section is RHS or RANGES
 pub record IsSetWord (word : List ℕ) : Type 0 where
@@ -163,14 +163,14 @@ sets_faultless word w rows before n ((true, a ∷ b ∷ c ∷ []) ∷ ds) seen c
     let rows_same = same_rows before n word (a ∷ b ∷ c ∷ []) w.no_rows ∙ known in
     let one = set_entry n word a b c w.no_columns in
     line_faultless before l (lines_from (suc n) word ds)
-    (set_line_faultless before n word a b c w came (pair_faultless before l (entry n a b c) one (ap (is_among b) rows_same
+    (set_line_faultless before n word a b c w came (pair_faultless before l (entry_of n a b c) one (ap (is_among b) rows_same
     ∙ (all.0).1) ((all.0).2) (ap (is_said a b) is
     ∙ fresh.0)))
-    (sets_faultless word w rows (before ++ l ∷ []) (suc n) ds (seen ++ told (entry n a b c) ∷ [])
+    (sets_faultless word w rows (before ++ l ∷ []) (suc n) ds (seen ++ told (entry_of n a b c) ∷ [])
     (still_came before n word (a ∷ b ∷ c ∷ []) came) rows_same
     (told_more word before l (text_self word)
     ∙ ap (λ es. told_in word before ++ map told es) one
-    ∙ ap (λ k. k ++ told (entry n a b c) ∷ []) is) all.1 fresh.1)
+    ∙ ap (λ k. k ++ told (entry_of n a b c) ∷ []) is) all.1 fresh.1)
 sets_faultless word w rows before n ((true, a ∷ b ∷ c ∷ d ∷ fs) ∷ ds) seen came known is all fresh = absurd all.0
 sets_faultless word w rows before n ((true, a ∷ b ∷ []) ∷ ds) seen came known is all fresh = absurd all.0
 sets_faultless word w rows before n ((true, a ∷ []) ∷ ds) seen came known is all fresh = absurd all.0
@@ -186,15 +186,15 @@ pub record ColumnsKnown (before : List Line) (seen : List Told) : Type 0 where
   pub last_is : (name : List ℕ) → is_last_column before name ≡ option_map_or (λ t. bytes_eq t.owner name) (last_of seen) false
 
 column_entry : (n : ℕ) (a b c : List ℕ) → bytes_eq b (codes "'MARKER'") ≡ false
-    → entries_of (item (codes "COLUMNS") n (a ∷ b ∷ c ∷ [])) ≡ entry n a b c ∷ []
-column_entry n a b c plain = ap (λ t. if t then [] else entry n a b c ∷ []) plain
+    → entries_of (item (codes "COLUMNS") n (a ∷ b ∷ c ∷ [])) ≡ entry_of n a b c ∷ []
+column_entry n a b c plain = ap (λ t. if t then [] else entry_of n a b c ∷ []) plain
 
 column_known : (before : List Line) (n : ℕ) (a b c : List ℕ) (seen : List Told) → bytes_eq b (codes "'MARKER'") ≡ false
     → ColumnsKnown before seen
-    → ColumnsKnown (before ++ item (codes "COLUMNS") n (a ∷ b ∷ c ∷ []) ∷ []) (seen ++ told (entry n a b c) ∷ [])
+    → ColumnsKnown (before ++ item (codes "COLUMNS") n (a ∷ b ∷ c ∷ []) ∷ []) (seen ++ told (entry_of n a b c) ∷ [])
 column_known before n a b c seen plain k =
     let l = item (codes "COLUMNS") n (a ∷ b ∷ c ∷ []) in
-    let t = told (entry n a b c) in
+    let t = told (entry_of n a b c) in
     record {
       told_are = told_more (codes "COLUMNS") before l refl
           ∙ ap (λ es. told_in (codes "COLUMNS") before ++ map told es) (column_entry n a b c plain)
@@ -213,7 +213,7 @@ column_known before n a b c seen plain k =
     }
 
 not_split : (before : List Line) (n : ℕ) (a b c : List ℕ) (seen : List Told) → ColumnsKnown before seen
-    → is_parted seen (told (entry n a b c)) ≡ false → is_split before (item (codes "COLUMNS") n (a ∷ b ∷ c ∷ [])) ≡ false
+    → is_parted seen (told (entry_of n a b c)) ≡ false → is_split before (item (codes "COLUMNS") n (a ∷ b ∷ c ∷ [])) ≡ false
 not_split before n a b c seen k h =
     ap (λ ns. is_among a ns && not (is_last_column before a)) k.names_are ∙ ap (λ t. is_among a (owners seen) && not t) (k.last_is a) ∙ h
 
@@ -238,10 +238,10 @@ columns_faultless rows before n ((true, a ∷ b ∷ c ∷ []) ∷ ds) seen came 
     let one = column_entry n a b c ((all.0).0) in
     line_faultless before l (lines_from (suc n) (codes "COLUMNS") ds)
     (column_line_faultless before n a b c ((all.0).0) came (not_split before n a b c seen is ((new.0).1))
-    (pair_faultless before l (entry n a b c) one (ap (is_among b) rows_same
+    (pair_faultless before l (entry_of n a b c) one (ap (is_among b) rows_same
     ∙ (all.0).1) ((all.0).2) (ap (is_said a b) is.told_are
     ∙ (new.0).0)))
-    (columns_faultless rows (before ++ l ∷ []) (suc n) ds (seen ++ told (entry n a b c) ∷ [])
+    (columns_faultless rows (before ++ l ∷ []) (suc n) ds (seen ++ told (entry_of n a b c) ∷ [])
     (still_came before n (codes "COLUMNS") (a ∷ b ∷ c ∷ []) came) rows_same (column_known before n a b c seen ((all.0).0) is) all.1 new.1)
 columns_faultless rows before n ((true, a ∷ b ∷ c ∷ d ∷ fs) ∷ ds) seen came known is all new = absurd all.0
 columns_faultless rows before n ((true, a ∷ b ∷ []) ∷ ds) seen came known is all new = absurd all.0
@@ -367,5 +367,5 @@ bounds_faultless before n (c ∷ cs) came h =
 -- ---- section lines
 
 pub opening_faultless : (before : List Line) (n : ℕ) (word : List ℕ) (words : List (List ℕ)) → words_of before ≡ words
-    → is_none (place_of word) ≡ false → may_come words word ≡ true → line_faults before (opening n (word ∷ []) word) ≡ []
+    → is_none (section_place word) ≡ false → may_come words word ≡ true → line_faults before (opening n (word ∷ []) word) ≡ []
 opening_faultless before n word words e known comes = opening_right before n (word ∷ []) word known (ap (λ ws. may_come ws word) e ∙ comes)

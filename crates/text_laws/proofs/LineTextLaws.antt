@@ -1,14 +1,14 @@
 -- A written text is read as its lines: each with its number, its section and its fields.
-use Rattle.std.specs.Prelude.{◌≡◌, ℕ, suc, ◌+◌, ◌-◌, ◌==◌, nat_le, Bool, true, false, ◌&&◌, ◌||◌, not, cond, if◌then◌else◌, List, [], ◌∷◌,
-    ◌++◌, length, take, map, filter, flat_map, slice_index_or, bytes_eq, codes, ⊤}
+use Rattle.std.specs.Prelude.{◌≡◌, ℕ, suc, ◌+◌, ◌-◌, ◌==◌, nat_le, Bool, true, false, ◌&&◌, ◌||◌, not, cond, if◌then◌else◌, List, [], ◌∷◌}
+use Rattle.std.specs.Prelude.{◌++◌, length, take, map, filter, flat_map, slice_index_or, bytes_eq, codes, ⊤}
 use Rattle.std.specs.List.{slice_split, onto_first, list_any, list_all, enumerate_from, concat}
 use Rattle.std.proofs.Common.{refl, arith, ap, sym, ◌∙◌, le-leb}
 use Rattle.std.proofs.lemmas.List.Folds.{list_any-append}
 use Rattle.std.proofs.lemmas.List.Splits.{slice_split-cons_yes, slice_split-cons_no}
 use Rattle.mps_defs.specs.Lists.{with_earlier, after_those, through_first}
 use Rattle.mps_defs.specs.CanonicalText.{Written, written_text, newline, is_separator}
-use Rattle.mps_defs.specs.Records.{Line, is_blank, is_star, begins_with, without_return, fields_of, numbered, opens, opens_end,
-    first_field, last_word, line_of, lines_of, is_line_end, is_read}
+use Rattle.mps_defs.specs.Records.{Line, is_blank, is_star, begins_with, without_return, fields_of, numbered, is_section_line, is_end_line}
+use Rattle.mps_defs.specs.Records.{first_field, last_word, line_of, lines_of, is_line_end, is_read}
 use Rattle.text_laws.proofs.WrittenLaws.{is_field, is_readable, section_word, section_after, lines_from, is_last}
 use Rattle.ip_defs.proofs.BoolLaws.{both_true}
 use Rattle.std.proofs.lemmas.List.{append-nil, append_assoc}
@@ -210,7 +210,7 @@ text_numbered ws h =
 
 -- ---- sections
 
-line_opens : (n : ℕ) (w : Written) → is_readable w ≡ true → opens (n, line_text w) ≡ not w.0
+line_opens : (n : ℕ) (w : Written) → is_readable w ≡ true → is_section_line (n, line_text w) ≡ not w.0
 line_opens n (true, []) e = absurd cc
 line_opens n (true, f ∷ fs) e = refl
 line_opens n (false, []) e = absurd cc
@@ -253,7 +253,7 @@ pub lines_are : (before : List (ℕ × List ℕ)) (n : ℕ) (word : List ℕ) (w
 lines_are before n word [] h e = refl
 lines_are before n word (w ∷ ws) h e =
     let section = line_section before n w h.0 ∙ ap (λ l. section_after l w) e in
-    let item : not (opens (n, line_text w)) ≡ w.0 = ap not (line_opens n w h.0) ∙ twice w.0 in
+    let item : not (is_section_line (n, line_text w)) ≡ w.0 = ap not (line_opens n w h.0) ∙ twice w.0 in
     let rest = lines_are (before ++ (n, line_text w) ∷ []) (suc n) (section_after word w) ws h.1 section in
     ap (λ l. l ∷ map line_of (after_those (before ++ (n, line_text w) ∷ []) (numbered_from (suc n) ws)))
     (ap (λ t. made t (last_word (before ++ (n, line_text w) ∷ [])) (fields_of (line_text w))) item
@@ -270,7 +270,7 @@ lines_are before n word (w ∷ ws) h e =
 
 -- ---- up to the ENDATA line
 
-line_ends : (n : ℕ) (w : Written) → is_readable w ≡ true → opens_end (n, line_text w) ≡ is_last w
+line_ends : (n : ℕ) (w : Written) → is_readable w ≡ true → is_end_line (n, line_text w) ≡ is_last w
 line_ends n w e = ap (λ t. t && bytes_eq (first_field (n, line_text w)) (codes "ENDATA")) (line_opens n w e) ∙ by w.0 refl
   where
     by : (t : Bool) → w.0 ≡ t
@@ -284,17 +284,17 @@ EndsOnce [] = ⊥
 EndsOnce (w ∷ []) = is_last w ≡ true
 EndsOnce (w ∷ v ∷ ws) = (is_last w ≡ false) × EndsOnce (v ∷ ws)
 
-all_through : (n : ℕ) (ws : List Written) → AreReadable ws → EndsOnce ws → through_first opens_end (numbered_from n ws) ≡ numbered_from n ws
+all_through : (n : ℕ) (ws : List Written) → AreReadable ws → EndsOnce ws → through_first is_end_line (numbered_from n ws) ≡ numbered_from n ws
 all_through n [] h e = absurd e
 all_through n (w ∷ []) h e = ap (λ t. if t then (n, line_text w) ∷ [] else (n, line_text w) ∷ []) (line_ends n w h.0 ∙ e)
 all_through n (w ∷ v ∷ ws) h e =
-    ap (λ t. if t then (n, line_text w) ∷ [] else (n, line_text w) ∷ through_first opens_end (numbered_from (suc n) (v ∷ ws)))
+    ap (λ t. if t then (n, line_text w) ∷ [] else (n, line_text w) ∷ through_first is_end_line (numbered_from (suc n) (v ∷ ws)))
     (line_ends n w h.0 ∙ e.0)
     ∙ ap (λ l. (n, line_text w) ∷ l) (all_through (suc n) (v ∷ ws) h.1 e.1)
 
 -- a written text is read as its lines
 pub text_lines : (ws : List Written) → AreReadable ws → EndsOnce ws → lines_of (flat_map written_text ws) ≡ lines_from 1 [] ws
 text_lines ws h e =
-    ap (λ ps. map line_of (with_earlier (through_first opens_end ps))) (text_numbered ws h)
+    ap (λ ps. map line_of (with_earlier (through_first is_end_line ps))) (text_numbered ws h)
     ∙ ap (λ ps. map line_of (with_earlier ps)) (all_through 1 ws h e)
     ∙ lines_are [] 1 [] ws h refl

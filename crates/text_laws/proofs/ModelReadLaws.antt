@@ -1,6 +1,6 @@
 -- The model of a canonical text is the program that it was written of.
-use Rattle.std.specs.Prelude.{◌≡◌, ℕ, zero, suc, ◌+◌, ◌==◌, true, false, ◌&&◌, not, if◌then◌else◌, List, [], ◌∷◌, ◌++◌, length, map,
-    filter, flat_map, find, Option, None, Some, option_map, unwrap_or, slice_get, bytes_eq, codes, ℤ, pos, negsuc, neg_ℤ}
+use Rattle.std.specs.Prelude.{◌≡◌, ℕ, zero, suc, ◌+◌, ◌==◌, true, false, ◌&&◌, not, if◌then◌else◌, List, [], ◌∷◌, ◌++◌, length, map, filter}
+use Rattle.std.specs.Prelude.{flat_map, find, Option, None, Some, option_map, unwrap_or, slice_get, bytes_eq, codes, ℤ, pos, negsuc, neg_ℤ}
 use Rattle.std.specs.List.{list_any, list_all}
 use Rattle.std.specs.Option.{option_map_or, option_or}
 use Rattle.std.specs.Ordering.{int_eq}
@@ -8,14 +8,14 @@ use Rattle.std.proofs.Common.{refl, arith, ap, sym, ◌∙◌, subst}
 use Rattle.std.proofs.lemmas.Int.{ints}
 use Rattle.mps_defs.specs.Lists.{is_among}
 use Rattle.mps_defs.specs.Numbers.{decimal_text}
-use Rattle.mps_defs.specs.CanonicalText.{kind_text, right_side, rhs_line, range_line, constant_line, value_text, canonical_text,
-    is_printable, is_printable_name}
+use Rattle.mps_defs.specs.CanonicalText.{kind_text, right_side, rhs_line, range_line, constant_line, value_text, canonical_text}
+use Rattle.mps_defs.specs.CanonicalText.{is_printable, is_printable_name}
 use Rattle.ip_defs.specs.Program.{is_crossed}
 use Rattle.mps_defs.specs.Records.{kept_entries, column_names, row_lines, row_kind, row_name, is_free}
 use Rattle.mps_defs.specs.Faults.{model_of}
-use Rattle.mps_defs.specs.TextModels.{no_number, units, largest, written_at, written_for, decimals_in, row_decimals, row_sides, coefs_in,
-    row_from, column_from, model_from, lower_side, upper_side, box_low, box_high, number_or_zero}
-use Rattle.mps_defs.specs.declared.texts.How.{How}
+use Rattle.mps_defs.specs.TextModels.{no_number, units, largest, written_at, written_for, decimals_in, row_decimals, row_sides, coefs_in}
+use Rattle.mps_defs.specs.TextModels.{row_from, column_from, model_from, lower_side, upper_side, box_low, box_high, number_or_zero}
+use Rattle.mps_defs.specs.declared.reading.How.{How}
 use Rattle.ip_defs.specs.declared.programs.Column.{Column}
 use Rattle.ip_defs.specs.declared.programs.Row.{Row}
 use Rattle.ip_defs.specs.declared.programs.Parts.{Parts}
@@ -23,15 +23,15 @@ use Rattle.text_laws.specs.ReadBack.{needed_decimals, range_of, IsCanonical}
 use Rattle.text_laws.proofs.NumberTextLaws.{decimal_text_units}
 use Rattle.text_laws.proofs.CanonicalLaws.{program_lines}
 use Rattle.text_laws.proofs.ReadableLaws.{IsProgramText, IsRowText, IsColumnText, program_text, canonical_lines_read, right_side_small}
-use Rattle.text_laws.proofs.EntryReadLaws.{told, tells, told_at, told_for, told_decimals, for_append, decimals_append, tells_append,
-    written_at_told, written_for_told, decimals_told}
+use Rattle.text_laws.proofs.EntryReadLaws.{told, tells, told_at, told_for, told_decimals, for_append, decimals_append, tells_append}
+use Rattle.text_laws.proofs.EntryReadLaws.{written_at_told, written_for_told, decimals_told}
 use Rattle.text_laws.proofs.RecordReadLaws.{IsApart, objective_read, rows_read, columns_kept, right_sides_kept, ranges_kept}
 use Rattle.text_laws.proofs.NameReadLaws.{names_read}
 use Rattle.text_laws.proofs.CoefReadLaws.{told_from, coef_written, cost_written}
 use Rattle.text_laws.proofs.OrderReadLaws.{IsFrom, ordered_from, coefs_read}
 use Rattle.text_laws.proofs.BoundReadLaws.{lower_read, upper_read}
-use Rattle.text_laws.proofs.SideReadLaws.{AreOfRow, none_for, none_of, own_of, rhs_told, range_told, rhs_own, range_own, sides_read,
-    when_row, amount_for, amount_number}
+use Rattle.text_laws.proofs.SideReadLaws.{AreOfRow, none_for, none_of, own_of, rhs_told, range_told, rhs_own, range_own, sides_read}
+use Rattle.text_laws.proofs.SideReadLaws.{when_row, amount_for, amount_number}
 use Rattle.text_laws.proofs.DecimalReadLaws.{flat_flat, coef_decimals, cost_decimals_read, rhs_decimals, range_decimals, constant_decimals}
 use Rattle.ip_defs.proofs.BoolLaws.{both_true, left_false, right_false}
 use Rattle.ip_defs.proofs.ListLaws.{each_get, or_none}
@@ -70,7 +70,7 @@ map_back f g xs h = map-map g f xs ∙ map_same (λ x. g (f x)) xs h
 
 all_decimals : (m : Parts) (row : List ℕ) → IsProgramText m → is_among m.objective (map (λ k. k.name) m.rows) ≡ false
     → decimals_in (kept_entries (codes "COLUMNS") (program_lines m) ++ kept_entries (codes "RHS") (program_lines m)
-        ++ kept_entries (codes "RANGES") (program_lines m)) row
+    ++ kept_entries (codes "RANGES") (program_lines m)) row
     ≡ told_decimals (told_from m 0 m.columns) row
     ++ (told_decimals (flat_map tells (constant_line m)) row ++ told_decimals (flat_map rhs_told m.rows) row) ++ told_decimals
     (flat_map range_told m.rows) row
@@ -146,7 +146,7 @@ cost_units_read m how h =
     ∙ ap (λ l. largest how.digits
     (l ++ (told_decimals (flat_map tells (constant_line m)) m.objective ++ told_decimals
     (flat_map rhs_told m.rows) m.objective) ++ told_decimals (flat_map range_told m.rows) m.objective))
-        (cost_decimals_read m h.rows.0 text.decimals 0 m.columns text.columns)
+    (cost_decimals_read m h.rows.0 text.decimals 0 m.columns text.columns)
     ∙ ap (λ l. largest how.digits
     (costs ++ (told_decimals (flat_map tells (constant_line m)) m.objective ++ l) ++ told_decimals
     (flat_map range_told m.rows) m.objective)) (none_of rhs_told rhs_own m.rows m.objective h.rows.0).1

@@ -1,6 +1,6 @@
 -- The names of the columns are read in their order.
-use Rattle.std.specs.Prelude.{◌≡◌, ℕ, suc, ◌+◌, ◌==◌, Bool, true, false, ◌||◌, not, cond, if◌then◌else◌, List, [], ◌∷◌, ◌++◌, length, map,
-    filter, flat_map, find, Option, None, Some, bytes_eq, codes, ℤ}
+use Rattle.std.specs.Prelude.{◌≡◌, ℕ, suc, ◌+◌, ◌==◌, Bool, true, false, ◌||◌, not, cond, if◌then◌else◌, List, [], ◌∷◌, ◌++◌, length, map}
+use Rattle.std.specs.Prelude.{filter, flat_map, find, Option, None, Some, bytes_eq, codes, ℤ}
 use Rattle.std.specs.List.{enumerate_from}
 use Rattle.std.specs.Option.{option_map_or}
 use Rattle.std.proofs.Common.{refl, arith, ap, sym, ◌∙◌, subst}
@@ -69,7 +69,7 @@ lines_told m h =
 
     by : (cs : List Column)
         → map column_name (filter (λ l. not (is_marker l)) (lines_from first (codes "COLUMNS") (if length cs == 0 then []
-            else start ∷ flat_map (column_block m) (enumerate_from 0 cs) ++ last ∷ [])))
+        else start ∷ flat_map (column_block m) (enumerate_from 0 cs) ++ last ∷ [])))
         ≡ owners (flat_map tells (flat_map (column_block m) (enumerate_from 0 cs)))
     by [] = refl
     by (c ∷ cs) =

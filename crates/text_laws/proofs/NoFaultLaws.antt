@@ -1,22 +1,22 @@
 -- A canonical text has no fault.
-use Rattle.std.specs.Prelude.{◌≡◌, ℕ, suc, ◌+◌, ◌==◌, Bool, true, false, ◌&&◌, ◌||◌, not, if◌then◌else◌, List, [], ◌∷◌, ◌++◌, length, map,
-    filter, flat_map, bytes_eq, codes}
+use Rattle.std.specs.Prelude.{◌≡◌, ℕ, suc, ◌+◌, ◌==◌, Bool, true, false, ◌&&◌, ◌||◌, not, if◌then◌else◌, List, [], ◌∷◌, ◌++◌, length, map}
+use Rattle.std.specs.Prelude.{filter, flat_map, bytes_eq, codes}
 use Rattle.std.specs.List.{enumerate_from}
 use Rattle.std.specs.Option.{option_map_or}
 use Rattle.std.proofs.Common.{refl, ap, sym, ◌∙◌}
 use Rattle.std.proofs.lemmas.List.Folds.{list_any-append}
 use Rattle.mps_defs.specs.Lists.{is_among, last_of, AreDistinct}
 use Rattle.mps_defs.specs.CanonicalText.{Written, head, pair, triple, kind_text, column_block, columns_block}
-use Rattle.mps_defs.specs.Records.{Line, items_of, words_of, row_name, is_marker, in_force, column_name, entries_of, field, opening,
-    row_names}
+use Rattle.mps_defs.specs.Records.{Line, items_of, words_of, row_name, is_marker, in_force, column_name, entries_of, field, opening}
+use Rattle.mps_defs.specs.Records.{row_names}
 use Rattle.mps_defs.specs.Faults.{all_line_faults, faults_after}
 use Rattle.ip_defs.specs.declared.programs.Column.{Column}
 use Rattle.ip_defs.specs.declared.programs.Row.{Row}
 use Rattle.ip_defs.specs.declared.programs.Parts.{Parts}
 use Rattle.text_laws.proofs.WrittenLaws.{lines_from}
 use Rattle.text_laws.specs.ReadBack.{CanonicalTextsHaveNoFault}
-use Rattle.text_laws.proofs.SectionLaws.{AreItems, number_after, items_all, columns_are, columns_at, lines_in, after_rows, after_columns,
-    after_right_sides, after_ranges, after_bounds}
+use Rattle.text_laws.proofs.SectionLaws.{AreItems, number_after, items_all, columns_are, columns_at, lines_in, after_rows, after_columns}
+use Rattle.text_laws.proofs.SectionLaws.{after_right_sides, after_ranges, after_bounds}
 use Rattle.text_laws.proofs.CanonicalLaws.{sections_of, are_sections}
 use Rattle.text_laws.proofs.ReadableLaws.{IsProgramText, IsRowText, IsColumnText, program_text}
 use Rattle.text_laws.proofs.EntryReadLaws.{told, tells_append}
@@ -26,10 +26,11 @@ use Rattle.text_laws.proofs.NameReadLaws.{owners, lines_told, none_seen}
 use Rattle.text_laws.proofs.ModelReadLaws.{each_apart}
 use Rattle.text_laws.proofs.ContinuousLaws.{triples_items, plain_lines, row_part, mark}
 use Rattle.text_laws.proofs.FreshLaws.{columns_new, right_sides_fresh, ranges_fresh}
-use Rattle.text_laws.proofs.PriorLaws.{section_faultless, line_faultless, Known, after_opening, after_row_lines, after_column_lines,
-    after_right_lines, after_range_lines, words_kept}
-use Rattle.text_laws.proofs.LineFaultLaws.{RowsCame, still_came, same_rows, ColumnsKnown, IsBounded, rows_faultless, row_line_faultless,
-    columns_faultless, sets_faultless, bounds_faultless, begin_faultless, end_faultless, opening_faultless}
+use Rattle.text_laws.proofs.PriorLaws.{section_faultless, line_faultless, Known, after_opening, after_row_lines, after_column_lines}
+use Rattle.text_laws.proofs.PriorLaws.{after_right_lines, after_range_lines, words_kept}
+use Rattle.text_laws.proofs.LineFaultLaws.{RowsCame, still_came, same_rows, ColumnsKnown, IsBounded, rows_faultless, row_line_faultless}
+use Rattle.text_laws.proofs.LineFaultLaws.{columns_faultless, sets_faultless, bounds_faultless, begin_faultless, end_faultless}
+use Rattle.text_laws.proofs.LineFaultLaws.{opening_faultless}
 use Rattle.text_laws.proofs.EntryLineLaws.{rows_named, columns_entries, right_sides_entries, ranges_entries}
 use Rattle.text_laws.proofs.FaultReadLaws.{fault_free}
 use Rattle.text_laws.proofs.Utf8Laws.{canonical_utf8}
@@ -150,7 +151,7 @@ ranges_part m h before n hs k =
     (opening_faultless before n (codes "RANGES") to_right_sides k.words_are refl refl)
     (section_faultless (before ++ l ∷ []) (suc n) (codes "RANGES") s.ranges (after_ranges s) ((are_sections m).ranges)
     (sets_faultless (codes "RANGES") (record { no_rows = refl; no_columns = refl; no_bounds = refl }) (rows_named m) (before
-        ++ l ∷ []) (suc n) s.ranges [] (ap (is_among (codes "ROWS")) now.words_are) (rows_known m (before ++ l ∷ []) now.rows_are)
+    ++ l ∷ []) (suc n) s.ranges [] (ap (is_among (codes "ROWS")) now.words_are) (rows_known m (before ++ l ∷ []) now.rows_are)
     (ap (λ y. map told (flat_map entries_of y)) now.ranges_are) (ranges_entries m h.text) (ranges_fresh m ((h.rows).1)))
     (bounds_part m h ((before ++ l ∷ []) ++ lines_from (suc n) (codes "RANGES") s.ranges) (number_after (suc n) s.ranges) (row_part m) hs
     (lines_from (suc n) (codes "RANGES") s.ranges)
@@ -166,7 +167,7 @@ right_sides_part m h before n k =
     (opening_faultless before n (codes "RHS") to_columns k.words_are refl refl)
     (section_faultless (before ++ l ∷ []) (suc n) (codes "RHS") s.right_sides (after_right_sides s) ((are_sections m).right_sides)
     (sets_faultless (codes "RHS") (record { no_rows = refl; no_columns = refl; no_bounds = refl }) (rows_named m) (before
-        ++ l ∷ []) (suc n) s.right_sides [] (ap (is_among (codes "ROWS")) now.words_are) (rows_known m (before ++ l ∷ []) now.rows_are)
+    ++ l ∷ []) (suc n) s.right_sides [] (ap (is_among (codes "ROWS")) now.words_are) (rows_known m (before ++ l ∷ []) now.rows_are)
     (ap (λ y. map told (flat_map entries_of y)) now.right_sides_are) (right_sides_entries m h.text) (right_sides_fresh m h.rows))
     (ranges_part m h ((before ++ l ∷ []) ++ lines_from (suc n) (codes "RHS") s.right_sides) (number_after (suc n) s.right_sides)
     (lines_from (suc n) (codes "RHS") s.right_sides)
@@ -285,7 +286,7 @@ no_line_faults m h =
     (lines_from 3 (codes "ROWS") (s.rows ++ after_rows s)) refl
     (section_faultless start_lines 3 (codes "ROWS") s.rows (after_rows s) ((are_sections m).rows) (row_lines_faultless m h)
     (columns_part m h (start_lines ++ row_part m) (after_row_lines start_lines to_rows 3 s.rows ((are_sections m).rows)
-        (record { words_are = refl; rows_are = refl; columns_are = refl; right_sides_are = refl; ranges_are = refl })))))
+    (record { words_are = refl; rows_are = refl; columns_are = refl; right_sides_are = refl; ranges_are = refl })))))
 
 -- a canonical text has no fault
 pub none_found : CanonicalTextsHaveNoFault

@@ -1,6 +1,7 @@
 -- Decimal texts are numbers: what is read of a decimal text is what it writes, in the least decimals.
-use Rattle.std.specs.Prelude.{◌≡◌, ℕ, zero, suc, ◌+◌, ◌-◌, ◌*◌, ◌/◌, ◌%◌, ◌^◌, ◌<◌, ◌≤◌, ◌==◌, nat_le, nat_lt, cond, Bool, true, false,
-    ◌&&◌, ◌||◌, not, if◌then◌else◌, List, [], ◌∷◌, ◌++◌, length, map, Some, unwrap_or, decimal, ℤ, pos, negsuc, neg_ℤ, ◌*ℤ◌, ◌-ℤ◌}
+use Rattle.std.specs.Prelude.{◌≡◌, ℕ, zero, suc, ◌+◌, ◌-◌, ◌*◌, ◌/◌, ◌%◌, ◌^◌, ◌<◌, ◌≤◌, ◌==◌, nat_le, nat_lt, cond, Bool, true, false}
+use Rattle.std.specs.Prelude.{◌&&◌, ◌||◌, not, if◌then◌else◌, List, [], ◌∷◌, ◌++◌, length, map, Some, unwrap_or, decimal, ℤ, pos, negsuc}
+use Rattle.std.specs.Prelude.{neg_ℤ, ◌*ℤ◌, ◌-ℤ◌}
 use Rattle.std.specs.Fmt.{signed_decimal}
 use Rattle.std.specs.Int.RustNames.{unsigned_abs}
 use Rattle.std.specs.List.{list_all, list_any, before_first, after_first}
@@ -14,16 +15,17 @@ use Rattle.std.proofs.Math.Nat.{div-le_self, mul-le-mul_left}
 use Rattle.std.proofs.lemmas.Int.{ints}
 use Rattle.decimals.proofs.DecimalLaws.{least_units, units-none}
 use Rattle.decimals.proofs.NumberLaws.{value_from-append, none_after, tens_rise}
-use Rattle.text_laws.proofs.NumeralLaws.{digit_range, decimal_digits, decimal_value, decimal_some, places_digits, places_short,
-    places_none, none_among, no_point, no_mark, no_sign, all_before, before_it, after_it}
+use Rattle.text_laws.proofs.NumeralLaws.{digit_range, decimal_digits, decimal_value, decimal_some, places_digits, places_short, places_none}
+use Rattle.text_laws.proofs.NumeralLaws.{none_among, no_point, no_mark, no_sign, all_before, before_it, after_it}
 use Rattle.text_laws.proofs.ScaleLaws.{places_value, zeros_dropped, units_back}
-use Rattle.mps_defs.specs.Numbers.{is_digit, is_point, is_exponent_mark, is_numeral, is_number, is_infinity, is_minus, without_sign,
-    whole_part, rest_part, exponent_part, is_exponent, value_from, digits_value, places, size_text, decimal_text, power_of, over_tens,
-    fraction_of, number_from, number_of, signed, least_decimals, decimals_of, is_large}
+use Rattle.mps_defs.specs.Numbers.{is_digit, is_point, is_exponent_mark, is_numeral, is_number, is_infinity, is_minus, without_sign}
+use Rattle.mps_defs.specs.Numbers.{whole_part, fraction_part, exponent_part, is_exponent, value_from, digits_value, places, unsigned_text}
+use Rattle.mps_defs.specs.Numbers.{decimal_text, power_of, over_tens, fraction_of, number_from, number_of, signed, least_decimals}
+use Rattle.mps_defs.specs.Numbers.{decimals_of, is_large}
 use Rattle.mps_defs.specs.Lists.{where_true}
 use Rattle.mps_defs.specs.TextModels.{units, number_or_zero}
-use Rattle.mps_defs.specs.declared.texts.Number.{Number}
-use Rattle.mps_defs.specs.declared.texts.Number.TheVariants.{Dec, Large}
+use Rattle.mps_defs.specs.declared.reading.Number.{Number}
+use Rattle.mps_defs.specs.declared.reading.Number.TheVariants.{Dec, Large}
 use Rattle.ip_defs.proofs.BoolLaws.{both_true}
 use Rattle.mps_defs.proofs.NumberLaws.{ten_positive}
 
@@ -35,7 +37,7 @@ joined ds (p ∷ ps) = ds ++ 46 ∷ p ∷ ps
 -- such a body of a number, with its parts
 record IsBody (ds ps body : List ℕ) : Type 0 where
   whole : whole_part body ≡ ds
-  rest : rest_part body ≡ ps
+  rest : fraction_part body ≡ ps
   exponent : exponent_part body ≡ []
   unmarked : list_any is_exponent_mark body ≡ false
 
@@ -44,9 +46,12 @@ joined_parts ds [] d e =
     let plain = none_among is_exponent_mark ds no_mark d in
     let same = all_before is_exponent_mark ds plain in
     let pointless = none_among is_point ds no_point d in
-    record { whole = ap (before_first is_point) same ∙ all_before is_point ds pointless;
-        rest = ap (after_first is_point) same ∙ none_after is_point ds pointless; exponent = none_after is_exponent_mark ds plain;
-        unmarked = plain }
+    record {
+      whole = ap (before_first is_point) same ∙ all_before is_point ds pointless;
+      rest = ap (after_first is_point) same ∙ none_after is_point ds pointless;
+      exponent = none_after is_exponent_mark ds plain;
+      unmarked = plain;
+    }
 joined_parts ds (p ∷ ps) d e =
     let plain =
     list_any-append is_exponent_mark ds (46 ∷ p ∷ ps)
@@ -54,23 +59,26 @@ joined_parts ds (p ∷ ps) d e =
     ∙ none_among is_exponent_mark (p ∷ ps) no_mark e in
     let same = all_before is_exponent_mark (ds ++ 46 ∷ p ∷ ps) plain in
     let pointless = none_among is_point ds no_point d in
-    record { whole = ap (before_first is_point) same ∙ before_it is_point ds 46 (p ∷ ps) pointless refl;
-        rest = ap (after_first is_point) same ∙ after_it is_point ds 46 (p ∷ ps) pointless refl;
-        exponent = none_after is_exponent_mark (ds ++ 46 ∷ p ∷ ps) plain; unmarked = plain }
+    record {
+      whole = ap (before_first is_point) same ∙ before_it is_point ds 46 (p ∷ ps) pointless refl;
+      rest = ap (after_first is_point) same ∙ after_it is_point ds 46 (p ∷ ps) pointless refl;
+      exponent = none_after is_exponent_mark (ds ++ 46 ∷ p ∷ ps) plain;
+      unmarked = plain;
+    }
 
 -- it is a numeral
 numeral_is : (ds ps body : List ℕ) → IsBody ds ps body → list_all is_digit ds ≡ true → list_all is_digit ps ≡ true → 1 ≤ length ds
     → is_numeral body ≡ true
 numeral_is ds ps body b d e some =
     let size = length-append ds ps in
-    and_from (list_all is_digit (whole_part body) && list_all is_digit (rest_part body) && nat_le 1
-    (length (whole_part body ++ rest_part body))) (not (list_any is_exponent_mark body) || is_exponent (exponent_part body))
-    (and_from (list_all is_digit (whole_part body) && list_all is_digit (rest_part body))
-    (nat_le 1 (length (whole_part body ++ rest_part body)))
-    (and_from (list_all is_digit (whole_part body)) (list_all is_digit (rest_part body)) (ap (list_all is_digit) b.whole
+    and_from (list_all is_digit (whole_part body) && list_all is_digit (fraction_part body) && nat_le 1
+    (length (whole_part body ++ fraction_part body))) (not (list_any is_exponent_mark body) || is_exponent (exponent_part body))
+    (and_from (list_all is_digit (whole_part body) && list_all is_digit (fraction_part body))
+    (nat_le 1 (length (whole_part body ++ fraction_part body)))
+    (and_from (list_all is_digit (whole_part body)) (list_all is_digit (fraction_part body)) (ap (list_all is_digit) b.whole
     ∙ d) (ap (list_all is_digit) b.rest
     ∙ e))
-    (ap (λ l. nat_le 1 (length (l ++ rest_part body))) b.whole
+    (ap (λ l. nat_le 1 (length (l ++ fraction_part body))) b.whole
     ∙ ap (λ l. nat_le 1 (length (ds ++ l))) b.rest
     ∙ le-leb 1 (length (ds ++ ps)) (omega arith)))
     (ap (λ t. not t || is_exponent (exponent_part body)) b.unmarked)
@@ -86,8 +94,8 @@ over_places negative n (suc l) =
 fraction_is : (negative : Bool) (ds ps body : List ℕ) → IsBody ds ps body
     → number_from negative (fraction_of body).0 (fraction_of body).1 ≡ number_from negative (value_from 0 (ds ++ ps)) (length ps)
 fraction_is negative ds ps body b =
-    ap (λ l. number_from negative (over_tens (digits_value (l ++ rest_part body)) (power_of body)).0
-    (over_tens (digits_value (l ++ rest_part body)) (power_of body)).1) b.whole
+    ap (λ l. number_from negative (over_tens (digits_value (l ++ fraction_part body)) (power_of body)).0
+    (over_tens (digits_value (l ++ fraction_part body)) (power_of body)).1) b.whole
     ∙ ap (λ l. number_from negative
     (over_tens (digits_value (ds ++ l))
     (signed (is_minus (exponent_part body)) (digits_value (without_sign (exponent_part body))) -ℤ pos (length l))).0 (over_tens
@@ -112,7 +120,7 @@ begins_low d ds e =
 
 -- ---- the text of a size
 
-size_is : (n k : ℕ) → size_text n k ≡ joined (decimal (n / 10 ^ k)) (places k (n % 10 ^ k))
+size_is : (n k : ℕ) → unsigned_text n k ≡ joined (decimal (n / 10 ^ k)) (places k (n % 10 ^ k))
 size_is n k = by (n % 10 ^ k == 0) refl
   where
     ds : List ℕ
@@ -134,14 +142,14 @@ rest_below n k = let p = ten_positive k in omega arith
 whole_below : (n k : ℕ) → n < 2 ^ 64 → n / 10 ^ k < 2 ^ 64
 whole_below n k h = let e = div-le_self n (10 ^ k) in omega arith
 
-body_of : (n k : ℕ) → n < 2 ^ 64 → IsBody (decimal (n / 10 ^ k)) (places k (n % 10 ^ k)) (size_text n k)
+body_of : (n k : ℕ) → n < 2 ^ 64 → IsBody (decimal (n / 10 ^ k)) (places k (n % 10 ^ k)) (unsigned_text n k)
 body_of n k h =
     subst (IsBody (decimal (n / 10 ^ k)) (places k (n % 10 ^ k))) (sym (size_is n k))
     (joined_parts (decimal (n / 10 ^ k)) (places k (n % 10 ^ k)) (decimal_digits (n / 10 ^ k) (whole_below n k h))
     (places_digits k (n % 10 ^ k) (rest_below n k)))
 
 -- at most thirty characters
-pub size_short : (n k : ℕ) → n < 2 ^ 64 → k ≤ 9 → length (size_text n k) ≤ 30
+pub size_short : (n k : ℕ) → n < 2 ^ 64 → k ≤ 9 → length (unsigned_text n k) ≤ 30
 size_short n k h most = by (n % 10 ^ k == 0)
   where
     ds : List ℕ
@@ -166,8 +174,11 @@ begins_plain [] rest all some = absurd (omega arith)
 begins_plain (d ∷ ds) rest all some =
     let here = (both_true (is_digit d) (list_all is_digit ds) all).0 in
     let r = digit_range d here in
-    record { unsigned = ap (λ t. if t then ds ++ rest else d ∷ ds ++ rest) (no_sign d here);
-        positive = ne_eqb d 45 (λ s. omega (arith, r)); finite = begins_low d (ds ++ rest) here }
+    record {
+      unsigned = ap (λ t. if t then ds ++ rest else d ∷ ds ++ rest) (no_sign d here);
+      positive = ne_eqb d 45 (λ s. omega (arith, r));
+      finite = begins_low d (ds ++ rest) here;
+    }
 
 -- the number that a decimal text writes, in the least decimals
 abbrev pub least_number : Bool → ℕ → ℕ → Number
@@ -241,7 +252,7 @@ read_body negative text body without minus short finite numeral =
           ∙ ap (λ b. Some (number_from negative (fraction_of b).0 (fraction_of b).1)) without,
     )
 
-signed_size : (negative : Bool) (text : List ℕ) (n k : ℕ) → n < 2 ^ 64 → k ≤ 9 → without_sign text ≡ size_text n k
+signed_size : (negative : Bool) (text : List ℕ) (n k : ℕ) → n < 2 ^ 64 → k ≤ 9 → without_sign text ≡ unsigned_text n k
     → is_minus text ≡ negative → length text ≤ 32
     → (is_number text ≡ true) × (number_of text ≡ Some (least_number negative n k))
 signed_size negative text n k h most without minus short =
@@ -251,11 +262,11 @@ signed_size negative text n k h most without minus short =
     let e = places_digits k (n % 10 ^ k) (rest_below n k) in
     let some = decimal_some (n / 10 ^ k) w in
     let plain = begins_plain (decimal (n / 10 ^ k)) (if n % 10 ^ k == 0 then [] else 46 ∷ places k (n % 10 ^ k)) d some in
-    let numeral = numeral_is (decimal (n / 10 ^ k)) (places k (n % 10 ^ k)) (size_text n k) b d e some in
-    let read = read_body negative text (size_text n k) without minus short plain.finite numeral in (
+    let numeral = numeral_is (decimal (n / 10 ^ k)) (places k (n % 10 ^ k)) (unsigned_text n k) b d e some in
+    let read = read_body negative text (unsigned_text n k) without minus short plain.finite numeral in (
       read.0,
       read.1
-          ∙ ap Some (fraction_is negative (decimal (n / 10 ^ k)) (places k (n % 10 ^ k)) (size_text n k) b ∙ size_number negative n k h),
+          ∙ ap Some (fraction_is negative (decimal (n / 10 ^ k)) (places k (n % 10 ^ k)) (unsigned_text n k) b ∙ size_number negative n k h),
     )
 
 abbrev pub is_below_zero : ℤ → Bool
@@ -271,9 +282,9 @@ decimal_text_read (pos n) k h most =
     begins_plain (decimal (n / 10 ^ k)) (if n % 10 ^ k == 0 then [] else 46 ∷ places k (n % 10 ^ k)) (decimal_digits (n / 10 ^ k) w)
     (decimal_some (n / 10 ^ k) w) in
     let short = size_short n k h most in
-    signed_size false (size_text n k) n k h most plain.unsigned plain.positive (omega arith)
+    signed_size false (unsigned_text n k) n k h most plain.unsigned plain.positive (omega arith)
 decimal_text_read (negsuc n) k h most =
-    let short = size_short (suc n) k h most in signed_size true (45 ∷ size_text (suc n) k) (suc n) k h most refl refl (omega arith)
+    let short = size_short (suc n) k h most in signed_size true (45 ∷ unsigned_text (suc n) k) (suc n) k h most refl refl (omega arith)
 
 -- its number, in the units that were written, and its decimals
 pub decimal_text_units : (z : ℤ) (k : ℕ) → unsigned_abs z < 2 ^ 64 → k ≤ 9 → units k (number_or_zero (decimal_text z k)) ≡ z
@@ -295,7 +306,7 @@ pub decimal_text_finite : (z : ℤ) (k : ℕ) → unsigned_abs z < 2 ^ 64 → k 
 decimal_text_finite z k h most = ap (λ o. is_large (unwrap_or o (Dec (pos 0) 0))) (decimal_text_read z k h most).1
 
 -- a whole number is a decimal text without decimals
-plain_size : (m : ℕ) → decimal m ≡ size_text m 0
+plain_size : (m : ℕ) → decimal m ≡ unsigned_text m 0
 plain_size m =
     let w : m / 10 ^ 0 ≡ m = omega arith in let r : m % 10 ^ 0 ≡ 0 = omega arith in sym
     (ap (λ (y : ℕ). decimal y ++ (if m % 10 ^ 0 == 0 then [] else 46 ∷ [])) w

@@ -1,6 +1,6 @@
 -- The parts of a numeral that is digits, and a point with digits after them where there are some.
-use Rattle.std.specs.Prelude.{◌≡◌, ℕ, zero, suc, ◌+◌, ◌-◌, ◌*◌, ◌/◌, ◌%◌, ◌^◌, ◌<◌, ◌≤◌, ◌==◌, nat_le, Bool, true, false, ◌||◌, not, cond,
-    if◌then◌else◌, List, [], ◌∷◌, ◌++◌, length, take, drop, decimal}
+use Rattle.std.specs.Prelude.{◌≡◌, ℕ, zero, suc, ◌+◌, ◌-◌, ◌*◌, ◌/◌, ◌%◌, ◌^◌, ◌<◌, ◌≤◌, ◌==◌, nat_le, Bool, true, false, ◌||◌, not, cond}
+use Rattle.std.specs.Prelude.{if◌then◌else◌, List, [], ◌∷◌, ◌++◌, length, take, drop, decimal}
 use Rattle.std.specs.List.{list_all, list_any, before_first, after_first, position_or_len}
 use Rattle.std.specs.Str.Parse.{AllDigits, digits_value_after}
 use Rattle.std.specs.Char.{digit_value}

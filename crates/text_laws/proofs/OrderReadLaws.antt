@@ -1,6 +1,6 @@
 -- The coefficients of a row are read in their order.
-use Rattle.std.specs.Prelude.{◌≡◌, ◌≢◌, ℕ, zero, suc, ◌+◌, ◌<◌, ◌≤◌, ◌^◌, ◌==◌, nat_le, Bool, true, false, not, cond, List, [], ◌∷◌,
-    length, map, filter, filter_map, find, Option, None, Some, option_map, slice_get, ℤ, pos, negsuc, ⊤}
+use Rattle.std.specs.Prelude.{◌≡◌, ◌≢◌, ℕ, zero, suc, ◌+◌, ◌<◌, ◌≤◌, ◌^◌, ◌==◌, nat_le, Bool, true, false, not, cond, List, [], ◌∷◌, length}
+use Rattle.std.specs.Prelude.{map, filter, filter_map, find, Option, None, Some, option_map, slice_get, ℤ, pos, negsuc, ⊤}
 use Rattle.std.specs.List.{enumerate_from, cons_option}
 use Rattle.std.specs.Int.RustNames.{unsigned_abs}
 use Rattle.std.proofs.Common.{refl, arith, ap, sym, ◌∙◌, subst, leb-false}
@@ -9,7 +9,7 @@ use Rattle.ip_defs.specs.Limits.{AreOrdered, AreSmall, index_at as place_at}
 use Rattle.mps_defs.specs.Numbers.{decimal_text}
 use Rattle.mps_defs.specs.Records.{Entry}
 use Rattle.mps_defs.specs.TextModels.{units, written_at, number_or_zero}
-use Rattle.mps_defs.specs.declared.texts.Number.{Number}
+use Rattle.mps_defs.specs.declared.reading.Number.{Number}
 use Rattle.text_laws.proofs.NumberTextLaws.{decimal_text_units}
 
 -- pairs whose numbers rise from one number on and stay below another, with values that are not 0
@@ -25,8 +25,11 @@ ordered_from n lo (p ∷ ps) o s b =
     let small = s 0 inside in (
       (b 0 inside, o.within 0 inside),
       (o.present 0 inside, omega arith),
-      ordered_from n (suc p.0) ps (record { rising = λ i k l m. o.rising (suc i) (suc k) (omega arith) (omega arith);
-          within = λ i l. o.within (suc i) (omega arith); present = λ i l. o.present (suc i) (omega arith) })
+      ordered_from n (suc p.0) ps (record {
+        rising = λ i k l m. o.rising (suc i) (suc k) (omega arith) (omega arith);
+        within = λ i l. o.within (suc i) (omega arith);
+        present = λ i l. o.present (suc i) (omega arith);
+      })
           (λ i l. s (suc i) (omega arith))
           (λ i l. let up = o.rising 0 (suc i) (omega arith) (omega arith) in omega arith),
     )
@@ -49,8 +52,8 @@ coefs_from es row k j cs =
 
 one_more : (es : List Entry) (row : List ℕ) (k j : ℕ) (c : List ℕ) (cs : List (List ℕ)) (o : Option Number) → written_at es row c ≡ o
     → coefs_from es row k j (c ∷ cs) ≡ filter (λ (p : ℕ × ℤ). not (unsigned_abs p.1 == 0))
-        (map (λ (p : ℕ × Number). (p.0, units k p.1)) (cons_option (option_map (λ n. (j, n)) o)
-        (filter_map (λ (p : ℕ × List ℕ). option_map (λ n. (p.0, n)) (written_at es row p.1)) (enumerate_from (suc j) cs))))
+    (map (λ (p : ℕ × Number). (p.0, units k p.1)) (cons_option (option_map (λ n. (j, n)) o)
+    (filter_map (λ (p : ℕ × List ℕ). option_map (λ n. (p.0, n)) (written_at es row p.1)) (enumerate_from (suc j) cs))))
 one_more es row k j c cs o e =
     let next : j + 1 ≡ suc j = omega arith in
     ap (λ u. filter (λ (p : ℕ × ℤ). not (unsigned_abs p.1 == 0))

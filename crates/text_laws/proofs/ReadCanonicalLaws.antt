@@ -1,6 +1,6 @@
 -- A printable program that was read of a text without a fault is canonical, so that its canonical text is read as the same program.
-use Rattle.std.specs.Prelude.{◌≡◌, ℕ, ◌≤◌, Bool, true, false, ◌&&◌, not, cond, if◌then◌else◌, List, [], ◌∷◌, ◌++◌, map, filter, flat_map,
-    find, Option, None, Some, option_map, unwrap_or, bytes_eq, codes}
+use Rattle.std.specs.Prelude.{◌≡◌, ℕ, ◌≤◌, Bool, true, false, ◌&&◌, not, cond, if◌then◌else◌, List, [], ◌∷◌, ◌++◌, map, filter, flat_map}
+use Rattle.std.specs.Prelude.{find, Option, None, Some, option_map, unwrap_or, bytes_eq, codes}
 use Rattle.std.specs.Option.{is_none}
 use Rattle.std.specs.Str.{is_utf8}
 use Rattle.std.proofs.Common.{refl, ap, sym, ◌∙◌, subst}
@@ -8,20 +8,20 @@ use Rattle.std.proofs.lemmas.Str.{is_utf8-from_IsUtf8}
 use Rattle.ip_defs.specs.Lists.{first_of, when, Each}
 use Rattle.mps_defs.specs.Lists.{with_earlier, AreDistinct}
 use Rattle.ip_defs.specs.Limits.{IsRow, IsWithinLimits, limits_of}
-use Rattle.mps_defs.specs.Records.{is_new_column, Line, lines_of, row_lines, row_kind, row_name, is_free, objective, column_name,
-    column_names, first_lines}
+use Rattle.mps_defs.specs.Records.{is_new_column, Line, lines_of, row_lines, row_kind, row_name, is_free, objective, column_name}
+use Rattle.mps_defs.specs.Records.{column_names, first_lines}
 use Rattle.mps_defs.specs.TextModels.{largest, row_decimals, row_from, column_from, model_from}
-use Rattle.mps_defs.specs.Faults.{all_line_faults, is_ended, continuous_faults, bound_missing, upper_faults, limit_faults, faults_of_lines,
-    mps_fault, model_of}
+use Rattle.mps_defs.specs.Faults.{all_line_faults, is_ended, continuous_faults, bound_missing, upper_faults, limit_faults, faults_of_lines}
+use Rattle.mps_defs.specs.Faults.{mps_fault, model_of}
 use Rattle.ip_defs.specs.declared.programs.Column.{Column}
 use Rattle.ip_defs.specs.declared.programs.Row.{Row}
 use Rattle.ip_defs.specs.declared.programs.Parts.{Parts}
 use Rattle.ip_defs.specs.declared.limits.Limit as Passing
-use Rattle.mps_defs.specs.declared.texts.How.{How}
-use Rattle.mps_defs.specs.declared.texts.MpsError.TheVariants.{NoEnd, NoObjective, NotUtf8, Limit}
+use Rattle.mps_defs.specs.declared.reading.How.{How}
+use Rattle.mps_defs.specs.declared.reading.MpsError.TheVariants.{NoEnd, NoObjective, NotUtf8, Limit}
 use Rattle.ip_model.proofs.LimitLaws.{within_limits}
-use Rattle.text_laws.specs.ReadBack.{HasLeastDecimals, HasTextNames, IsCanonical, ModelsReadAreCanonical, ModelsReadArePrintedAndReadBack,
-    needed_decimals, row_amounts}
+use Rattle.text_laws.specs.ReadBack.{HasLeastDecimals, HasTextNames, IsCanonical, ModelsReadAreCanonical, ModelsReadArePrintedAndReadBack}
+use Rattle.text_laws.specs.ReadBack.{needed_decimals, row_amounts}
 use Rattle.text_laws.proofs.EachLaws.{each_filter, each_of_map, each_those}
 use Rattle.text_laws.proofs.Utf8ReadLaws.{IsTextLine, lines_utf8, field_utf8}
 use Rattle.text_laws.proofs.SoundLaws.{sound_read}
@@ -34,11 +34,11 @@ use Rattle.ip_defs.proofs.ListLaws.{each_weaker, each_get, none_append, none_whe
 use Rattle.mps_defs.proofs.ListLaws.{get_from_map}
 
 -- what it says of a text that it has no fault
-record IsFaultless (text : List ℕ) (how : How) : Type 0 where
-  valid : is_utf8 text ≡ true
-  lines : all_line_faults (lines_of text) ≡ []
-  objective : (l : Line) × (find is_free (row_lines (lines_of text)) ≡ Some l)
-  limits : limits_of (model_of text how) ≡ []
+pub record IsFaultless (text : List ℕ) (how : How) : Type 0 where
+  pub valid : is_utf8 text ≡ true
+  pub lines : all_line_faults (lines_of text) ≡ []
+  pub objective : (l : Line) × (find is_free (row_lines (lines_of text)) ≡ Some l)
+  pub limits : limits_of (model_of text how) ≡ []
 
 no_limits : (m : Parts) → limit_faults m ≡ [] → limits_of m ≡ []
 no_limits m e = by (limits_of m) e
@@ -47,7 +47,7 @@ no_limits m e = by (limits_of m) e
     by [] f = refl
     by (l ∷ ls) f = absurd cc
 
-faultless : (text : List ℕ) (how : How) → mps_fault text how ≡ None → IsFaultless text how
+pub faultless : (text : List ℕ) (how : How) → mps_fault text how ≡ None → IsFaultless text how
 faultless text how none = by (is_utf8 text) refl none
   where
     ls : List Line
@@ -88,7 +88,7 @@ faultless text how none = by (is_utf8 text) refl none
 
 -- ---- names
 
-find_each : {A : Type 0} (P : A → Type 0) (test : A → Bool) (xs : List A) (x : A) → Each P xs → find test xs ≡ Some x → P x
+pub find_each : {A : Type 0} (P : A → Type 0) (test : A → Bool) (xs : List A) (x : A) → Each P xs → find test xs ≡ Some x → P x
 find_each P test [] x all at = absurd cc
 find_each {A} P test (y ∷ ys) x all at = by (test y) at (λ g. find_each P test ys x all.1 g)
   where

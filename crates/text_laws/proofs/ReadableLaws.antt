@@ -1,6 +1,7 @@
 -- Each line of the canonical text of a printable program within its limits can be read back, and ENDATA is the last one.
-use Rattle.std.specs.Prelude.{◌≡◌, ℕ, zero, suc, ◌/◌, ◌%◌, ◌^◌, ◌<◌, ◌≤◌, ◌==◌, Bool, true, false, ◌&&◌, ◌||◌, not, cond, if◌then◌else◌,
-    List, [], ◌∷◌, ◌++◌, length, map, flat_map, find, Option, None, Some, slice_get, bytes_eq, codes, decimal, ℤ, pos, negsuc, neg_ℤ, ◌-ℤ◌}
+use Rattle.std.specs.Prelude.{◌≡◌, ℕ, zero, suc, ◌/◌, ◌%◌, ◌^◌, ◌<◌, ◌≤◌, ◌==◌, Bool, true, false, ◌&&◌, ◌||◌, not, cond, if◌then◌else◌}
+use Rattle.std.specs.Prelude.{List, [], ◌∷◌, ◌++◌, length, map, flat_map, find, Option, None, Some, slice_get, bytes_eq, codes, decimal, ℤ}
+use Rattle.std.specs.Prelude.{pos, negsuc, neg_ℤ, ◌-ℤ◌}
 use Rattle.std.specs.Fmt.{signed_decimal}
 use Rattle.std.specs.List.{list_any, list_all, enumerate_from}
 use Rattle.std.specs.Option.{option_map_or, ForSome}
@@ -13,10 +14,10 @@ use Rattle.std.proofs.lemmas.List.Folds.{list_any-append}
 use Rattle.std.proofs.Math.Nat.{div-le_self}
 use Rattle.ip_defs.specs.Lists.{when, Each}
 use Rattle.ip_defs.specs.Limits.{IsWithinLimits, AreSmall}
-use Rattle.mps_defs.specs.Numbers.{decimal_text, size_text, places, is_digit}
-use Rattle.mps_defs.specs.CanonicalText.{Written, head, pair, triple, bound, kind_text, is_equation, is_from_below, coef_line,
-    column_block, columns_block, right_side, rhs_line, constant_line, range_line, written_text, canonical_text, is_printable,
-    is_printable_name, value_text, is_separator, side_line, width_line}
+use Rattle.mps_defs.specs.Numbers.{decimal_text, unsigned_text, places, is_digit}
+use Rattle.mps_defs.specs.CanonicalText.{Written, head, pair, triple, bound_line, kind_text, is_equation, is_from_below, coef_line}
+use Rattle.mps_defs.specs.CanonicalText.{column_block, columns_block, right_side, rhs_line, constant_line, range_line, written_text}
+use Rattle.mps_defs.specs.CanonicalText.{canonical_text, is_printable, is_printable_name, value_text, is_separator, side_line, width_line}
 use Rattle.ip_defs.specs.Program.{is_crossed}
 use Rattle.mps_defs.specs.Records.{lines_of}
 use Rattle.ip_defs.specs.declared.programs.Column.{Column}
@@ -26,8 +27,8 @@ use Rattle.text_laws.proofs.WrittenLaws.{is_field, is_readable, is_last}
 use Rattle.text_laws.proofs.NumeralLaws.{digit_range, decimal_digits, decimal_some, places_digits, none_among}
 use Rattle.text_laws.proofs.NumberTextLaws.{signed_decimal_is}
 use Rattle.text_laws.proofs.LineTextLaws.{AreReadable, EndsOnce, text_lines}
-use Rattle.text_laws.proofs.SectionLaws.{Sections, AreSections, AreItems, section_lines, lines_in, after_rows, after_columns,
-    after_right_sides, after_ranges, after_bounds}
+use Rattle.text_laws.proofs.SectionLaws.{Sections, AreSections, AreItems, section_lines, lines_in, after_rows, after_columns}
+use Rattle.text_laws.proofs.SectionLaws.{after_right_sides, after_ranges, after_bounds}
 use Rattle.text_laws.proofs.CanonicalLaws.{sections_of, canonical_sections, are_sections}
 use Rattle.ip_defs.proofs.BoolLaws.{both_true}
 use Rattle.ip_defs.proofs.ListLaws.{each_numbered}
@@ -43,7 +44,7 @@ digit_even b e =
     ∙ ap (λ t. t || (b == 10)) (ne_eqb b 13 (λ s. omega (arith, r)))
     ∙ ne_eqb b 10 (λ s. omega (arith, r))
 
-size_even : (n k : ℕ) → n < 2 ^ 64 → list_any is_separator (size_text n k) ≡ false
+size_even : (n k : ℕ) → n < 2 ^ 64 → list_any is_separator (unsigned_text n k) ≡ false
 size_even n k h =
     let w : n / 10 ^ k < 2 ^ 64 = let e = div-le_self n (10 ^ k) in omega arith in
     list_any-append is_separator (decimal (n / 10 ^ k)) (if n % 10 ^ k == 0 then [] else 46 ∷ places k (n % 10 ^ k))
@@ -66,10 +67,10 @@ some_before (x ∷ xs) ys l e = omega arith
 pub number_field : (z : ℤ) (k : ℕ) → unsigned_abs z < 2 ^ 64 → is_field (decimal_text z k) ≡ true
 number_field (pos n) k h =
     let w : n / 10 ^ k < 2 ^ 64 = let e = div-le_self n (10 ^ k) in omega arith in
-    field_from (size_text n k)
+    field_from (unsigned_text n k)
     (some_before (decimal (n / 10 ^ k)) (if n % 10 ^ k == 0 then [] else 46 ∷ places k (n % 10 ^ k)) (decimal_some (n / 10 ^ k) w))
     (size_even n k h)
-number_field (negsuc n) k h = field_from (45 ∷ size_text (suc n) k) (λ e. omega arith) (size_even (suc n) k h)
+number_field (negsuc n) k h = field_from (45 ∷ unsigned_text (suc n) k) (λ e. omega arith) (size_even (suc n) k h)
 
 pub bound_field : (z : ℤ) → unsigned_abs z < 2 ^ 64 → is_field (signed_decimal z) ≡ true
 bound_field z h = ap is_field (signed_decimal_is z) ∙ number_field z 0 h
@@ -252,7 +253,7 @@ columns_readable m h = by (length m.columns == 0)
 
     by : (t : Bool)
         → AreReadable (if t then [] else triple (codes "M") (codes "'MARKER'") (codes "'INTORG'") ∷ blocks
-            ++ triple (codes "M") (codes "'MARKER'") (codes "'INTEND'") ∷ [])
+        ++ triple (codes "M") (codes "'MARKER'") (codes "'INTEND'") ∷ [])
     by true = tt
     by false = (
       refl,
@@ -262,7 +263,7 @@ columns_readable m h = by (length m.columns == 0)
     )
 
 bound_readable : (kind name : List ℕ) (z : ℤ) → is_field kind ≡ true → is_field name ≡ true → unsigned_abs z < 2 ^ 64
-    → is_readable (bound kind name z) ≡ true
+    → is_readable (bound_line kind name z) ≡ true
 bound_readable kind name z e f h =
     and_from (is_field kind) (true && (is_field name && (is_field (signed_decimal z) && true))) e (three_more)
   where
@@ -299,7 +300,7 @@ sections_readable m h =
                     refl,
                     readable_append s.bounds (after_bounds s)
                         (readable_flat IsColumnText
-                        (λ c. bound (codes "LO") c.name c.lo ∷ bound (codes "UP") c.name c.hi ∷ []) m.columns h.columns
+                        (λ c. bound_line (codes "LO") c.name c.lo ∷ bound_line (codes "UP") c.name c.hi ∷ []) m.columns h.columns
                         (λ c k. (
                           bound_readable (codes "LO") c.name c.lo refl (name_field c.name k.name) k.lo,
                           (bound_readable (codes "UP") c.name c.hi refl (name_field c.name k.name) k.hi, tt),

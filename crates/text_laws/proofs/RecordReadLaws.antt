@@ -1,6 +1,6 @@
 -- The rows, the columns and the entries of the lines of a canonical text.
-use Rattle.std.specs.Prelude.{◌≡◌, ℕ, suc, ◌==◌, Bool, true, false, ◌&&◌, ◌||◌, not, cond, if◌then◌else◌, List, [], ◌∷◌, ◌++◌, length, map,
-    filter, flat_map, find, Option, None, Some, option_map, bytes_eq, codes, ℤ, pos, neg_ℤ, ◌-ℤ◌, ⊤}
+use Rattle.std.specs.Prelude.{◌≡◌, ℕ, suc, ◌==◌, Bool, true, false, ◌&&◌, ◌||◌, not, cond, if◌then◌else◌, List, [], ◌∷◌, ◌++◌, length, map}
+use Rattle.std.specs.Prelude.{filter, flat_map, find, Option, None, Some, option_map, bytes_eq, codes, ℤ, pos, neg_ℤ, ◌-ℤ◌, ⊤}
 use Rattle.std.specs.List.{list_any, enumerate_from}
 use Rattle.std.specs.Option.{option_map_or}
 use Rattle.std.specs.Ordering.{int_eq}
@@ -9,16 +9,17 @@ use Rattle.std.proofs.lemmas.Bool.{ne_eqb, not-true}
 use Rattle.mps_defs.specs.Lists.{is_among}
 use Rattle.ip_defs.specs.Lists.{when, first_of, Each}
 use Rattle.mps_defs.specs.Numbers.{decimal_text}
-use Rattle.mps_defs.specs.CanonicalText.{Written, pair, triple, kind_text, is_equation, is_from_below, coef_line, column_block, right_side,
-    rhs_line, constant_line, range_line, is_printable_name, value_text, is_separator, side_line, width_line}
-use Rattle.mps_defs.specs.Records.{Line, Entry, items_of, row_lines, row_kind, row_name, is_free, objective, is_objective, is_dropped_row,
-    is_marker, entries_of, all_entries, is_kept, is_kept_set, kept_entries, set_of}
+use Rattle.mps_defs.specs.CanonicalText.{Written, pair, triple, kind_text, is_equation, is_from_below, coef_line, column_block, right_side}
+use Rattle.mps_defs.specs.CanonicalText.{rhs_line, constant_line, range_line, is_printable_name, value_text, is_separator, side_line}
+use Rattle.mps_defs.specs.CanonicalText.{width_line}
+use Rattle.mps_defs.specs.Records.{Line, Entry, items_of, row_lines, row_kind, row_name, is_free, objective, is_objective, is_dropped_row}
+use Rattle.mps_defs.specs.Records.{is_marker, entries_of, all_entries, is_kept, is_kept_set, kept_entries, set_of}
 use Rattle.ip_defs.specs.declared.programs.Column.{Column}
 use Rattle.ip_defs.specs.declared.programs.Row.{Row}
 use Rattle.ip_defs.specs.declared.programs.Parts.{Parts}
 use Rattle.text_laws.proofs.WrittenLaws.{lines_from}
-use Rattle.text_laws.proofs.SectionLaws.{lines_in, rows_are, columns_are, right_sides_are, ranges_are, columns_at, right_sides_at,
-    ranges_at}
+use Rattle.text_laws.proofs.SectionLaws.{lines_in, rows_are, columns_are, right_sides_are, ranges_are, columns_at, right_sides_at}
+use Rattle.text_laws.proofs.SectionLaws.{ranges_at}
 use Rattle.text_laws.proofs.CanonicalLaws.{sections_of, are_sections}
 use Rattle.text_laws.proofs.ReadableLaws.{IsProgramText, IsRowText}
 use Rattle.text_laws.proofs.EntryReadLaws.{told, tells, AreTriples}
@@ -153,7 +154,7 @@ columns_told m h = ap (λ ls. map told (flat_map entries_of ls)) (columns_are (s
             → map told (flat_map entries_of (lines_from n (codes "COLUMNS") (e ∷ (es ++ last ∷ [])))) ≡ flat_map tells (e ∷ es)
         two (true, a ∷ b ∷ c ∷ []) es k rest =
             ap (λ u. map told ((if u then [] else record { line = n; owner = a; row = b; text = c } ∷ [])
-                ++ flat_map entries_of (lines_from (suc n) (codes "COLUMNS") (es ++ last ∷ [])))) k.0
+            ++ flat_map entries_of (lines_from (suc n) (codes "COLUMNS") (es ++ last ∷ [])))) k.0
             ∙ ap (λ l. record { owner = a; row = b; text = c } ∷ l) rest
         two (true, a ∷ b ∷ c ∷ d' ∷ fs) es k rest = absurd k.0
         two (true, a ∷ b ∷ []) es k rest = absurd k.0
@@ -163,7 +164,7 @@ columns_told m h = ap (λ ls. map told (flat_map entries_of ls)) (columns_are (s
 
     by : (cs : List Column)
         → map told (flat_map entries_of (lines_from first (codes "COLUMNS") (if length cs == 0 then []
-            else start ∷ flat_map (column_block m) (enumerate_from 0 cs) ++ last ∷ [])))
+        else start ∷ flat_map (column_block m) (enumerate_from 0 cs) ++ last ∷ [])))
         ≡ flat_map tells (flat_map (column_block m) (enumerate_from 0 cs))
     by [] = refl
     by (c ∷ cs) =
@@ -290,7 +291,7 @@ right_sides_kept m =
     by : (ds : List Written) → constant_line m ++ flat_map rhs_line m.rows ≡ ds
         → AreOfSet (codes "RHS") (λ b. ⊤) (constant_line m ++ flat_map rhs_line m.rows)
         → map told (filter (is_kept (codes "RHS") (lines_in (sections_of m))) (flat_map entries_of
-            (lines_from at (codes "RHS") (constant_line m ++ flat_map rhs_line m.rows))))
+        (lines_from at (codes "RHS") (constant_line m ++ flat_map rhs_line m.rows))))
         ≡ flat_map tells (constant_line m ++ flat_map rhs_line m.rows)
     by [] e all =
         ap (λ ds. map told (filter (is_kept (codes "RHS") (lines_in (sections_of m)))
@@ -326,7 +327,7 @@ ranges_kept m apart =
 
     by : (ds : List Written) → flat_map range_line m.rows ≡ ds → AreOfSet (codes "RNG") (IsApart m) (flat_map range_line m.rows)
         → map told (filter (is_kept (codes "RANGES") (lines_in (sections_of m)))
-            (flat_map entries_of (lines_from at (codes "RANGES") (flat_map range_line m.rows))))
+        (flat_map entries_of (lines_from at (codes "RANGES") (flat_map range_line m.rows))))
         ≡ flat_map tells (flat_map range_line m.rows)
     by [] e all =
         ap (λ ds. map told (filter (is_kept (codes "RANGES") (lines_in (sections_of m)))

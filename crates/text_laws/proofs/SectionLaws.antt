@@ -1,6 +1,6 @@
 -- The data lines of the sections of a written text.
-use Rattle.std.specs.Prelude.{◌≡◌, ℕ, suc, nat_le, Bool, true, false, ◌&&◌, not, cond, List, [], ◌∷◌, ◌++◌, length, map, filter, bytes_eq,
-    codes, ⊤}
+use Rattle.std.specs.Prelude.{◌≡◌, ℕ, suc, nat_le, Bool, true, false, ◌&&◌, not, cond, List, [], ◌∷◌, ◌++◌, length, map, filter, bytes_eq}
+use Rattle.std.specs.Prelude.{codes, ⊤}
 use Rattle.std.proofs.Common.{refl, ap, sym, ◌∙◌}
 use Rattle.mps_defs.specs.Lists.{after_those, is_among}
 use Rattle.ip_defs.specs.Lists.{when}

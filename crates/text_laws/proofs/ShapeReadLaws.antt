@@ -1,14 +1,14 @@
 -- A program that is read is well shaped: its decimals are at most 9, and the column numbers of each row rise.
-use Rattle.std.specs.Prelude.{◌≡◌, ◌≢◌, ℕ, zero, suc, ◌<◌, ◌≤◌, ◌==◌, true, false, not, List, [], ◌∷◌, length, map, filter, unwrap_or,
-    codes, ℤ, pos}
+use Rattle.std.specs.Prelude.{◌≡◌, ◌≢◌, ℕ, zero, suc, ◌<◌, ◌≤◌, ◌==◌, true, false, not, List, [], ◌∷◌, length, map, filter, unwrap_or}
+use Rattle.std.specs.Prelude.{codes, ℤ, pos}
 use Rattle.std.specs.Int.RustNames.{unsigned_abs}
 use Rattle.std.proofs.Common.{arith, ap, sym, subst}
 use Rattle.std.proofs.lemmas.List.{length-map}
 use Rattle.ip_defs.specs.Limits.{AreOrdered, IsRowShaped, IsWellShaped, value_at}
 use Rattle.mps_defs.specs.Records.{Line, Entry, objective, row_lines, row_kind, row_name, is_free, column_names, kept_entries}
 use Rattle.mps_defs.specs.TextModels.{units, written_in, decimals_in, row_decimals, coefs_in, row_from, column_from, model_from}
-use Rattle.mps_defs.specs.declared.texts.How.{How}
-use Rattle.mps_defs.specs.declared.texts.Number.{Number}
+use Rattle.mps_defs.specs.declared.reading.How.{How}
+use Rattle.mps_defs.specs.declared.reading.Number.{Number}
 use Rattle.text_laws.proofs.EachLaws.{each_passes, each_of_map}
 use Rattle.text_laws.proofs.LeastReadLaws.{largest_most}
 use Rattle.text_laws.proofs.FoundReadLaws.{IsFound, at_place, of_row}
@@ -66,8 +66,8 @@ well_shaped ls how read digits =
           λ i r at. each_get (IsRowShaped (length (map column (column_names ls))))
           (map (λ l. row_from ls how (row_kind l) (row_name l)) bound) i r
           (each_of_map (IsRowShaped (length (map column (column_names ls)))) (λ l. row_from ls how (row_kind l) (row_name l)) bound
-              (every (λ l. IsRowShaped (length (map column (column_names ls))) (row_from ls how (row_kind l) (row_name l))) bound
-              (λ l. record {
+          (every (λ l. IsRowShaped (length (map column (column_names ls))) (row_from ls how (row_kind l) (row_name l))) bound
+          (λ l. record {
             decimals = few_decimals_read ls how (row_name l) read digits;
             coefs = subst (λ n. AreOrdered n
                 (coefs_in (kept_entries (codes "COLUMNS") ls) (column_names ls) (row_name l)

@@ -1,6 +1,6 @@
 -- The decimals of a right side and of a range are among those of the amounts that the sides of their row make.
-use Rattle.std.specs.Prelude.{◌≡◌, ℕ, ◌+◌, ◌*◌, ◌^◌, ◌≤◌, Bool, true, false, ◌&&◌, not, if◌then◌else◌, List, [], ◌∷◌, ◌++◌, Option, None,
-    Some, bytes_eq, codes, ℤ, pos, ◌+ℤ◌, ◌-ℤ◌}
+use Rattle.std.specs.Prelude.{◌≡◌, ℕ, ◌+◌, ◌*◌, ◌^◌, ◌≤◌, Bool, true, false, ◌&&◌, not, if◌then◌else◌, List, [], ◌∷◌, ◌++◌, Option, None}
+use Rattle.std.specs.Prelude.{Some, bytes_eq, codes, ℤ, pos, ◌+ℤ◌, ◌-ℤ◌}
 use Rattle.std.specs.Int.RustNames.{unsigned_abs}
 use Rattle.std.specs.Int.Signed.{lt_z}
 use Rattle.std.specs.Option.{option_map_or, is_some, is_none, ForSome}
@@ -10,8 +10,8 @@ use Rattle.std.proofs.lemmas.Nat.{pow-add}
 use Rattle.mps_defs.specs.Lists.{where_true}
 use Rattle.mps_defs.specs.Numbers.{decimals_of, is_large}
 use Rattle.mps_defs.specs.TextModels.{units, plain_sides, range_sides, row_sides}
-use Rattle.mps_defs.specs.declared.texts.Number.{Number}
-use Rattle.mps_defs.specs.declared.texts.Number.TheVariants.{Dec, Large}
+use Rattle.mps_defs.specs.declared.reading.Number.{Number}
+use Rattle.mps_defs.specs.declared.reading.Number.TheVariants.{Dec, Large}
 use Rattle.text_laws.specs.ReadBack.{needed_decimals}
 use Rattle.text_laws.proofs.LeastReadLaws.{difference_needs, nothing_needs}
 use Rattle.ip_defs.specs.Lists.{Each}
@@ -84,7 +84,7 @@ ranged kind k most v x own =
 
     by : (a b c d : Bool) → lt_z (pos 0) (units k x) ≡ c → lt_z (units k x) (pos 0) ≡ d
         → AreWithin k most (if a then (low, Some v) else (if b then (Some v, high)
-            else (if c then (Some v, high) else (if d then (low, Some v) else (Some v, Some v)))))
+        else (if c then (Some v, high) else (if d then (low, Some v) else (Some v, Some v)))))
         → (needed_decimals k v ≤ most) × (decimals_of x ≤ most)
     by true b c d e f h = range_below k most v x own h
     by false true c d e f h = range_above k most v x own h

@@ -1,6 +1,7 @@
 -- The right sides and the ranges of a canonical text are the sides of the rows.
-use Rattle.std.specs.Prelude.{◌≡◌, ℕ, zero, suc, ◌-◌, ◌<◌, ◌≤◌, ◌^◌, Bool, true, false, ◌&&◌, ◌||◌, not, cond, if◌then◌else◌, List, [],
-    ◌∷◌, ◌++◌, map, filter, flat_map, find, Option, None, Some, option_map, unwrap_or, slice_get, bytes_eq, codes, ℤ, pos, ◌-ℤ◌, ◌*ℤ◌, ◌≤ℤ◌}
+use Rattle.std.specs.Prelude.{◌≡◌, ℕ, zero, suc, ◌-◌, ◌<◌, ◌≤◌, ◌^◌, Bool, true, false, ◌&&◌, ◌||◌, not, cond, if◌then◌else◌, List, [], ◌∷◌}
+use Rattle.std.specs.Prelude.{◌++◌, map, filter, flat_map, find, Option, None, Some, option_map, unwrap_or, slice_get, bytes_eq, codes, ℤ}
+use Rattle.std.specs.Prelude.{pos, ◌-ℤ◌, ◌*ℤ◌, ◌≤ℤ◌}
 use Rattle.std.specs.Option.{option_map_or, option_or, ForSome}
 use Rattle.std.specs.Int.RustNames.{unsigned_abs}
 use Rattle.std.specs.Int.Signed.{lt_z}
@@ -13,7 +14,7 @@ use Rattle.mps_defs.specs.Numbers.{decimal_text, is_large, decimals_of}
 use Rattle.mps_defs.specs.CanonicalText.{triple, kind_text, right_side, rhs_line, range_line, side_line, width_line}
 use Rattle.ip_defs.specs.Program.{is_crossed}
 use Rattle.mps_defs.specs.TextModels.{no_number, units, row_sides, range_sides, plain_sides, is_negative_number, number_or_zero}
-use Rattle.mps_defs.specs.declared.texts.Number.{Number}
+use Rattle.mps_defs.specs.declared.reading.Number.{Number}
 use Rattle.ip_defs.specs.declared.programs.Row.{Row}
 use Rattle.text_laws.proofs.NumberTextLaws.{decimal_text_units, decimal_text_finite}
 use Rattle.text_laws.proofs.ReadableLaws.{IsRowText, width_small}

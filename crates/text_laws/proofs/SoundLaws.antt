@@ -1,7 +1,7 @@
 -- Lines without a fault, in the order in which they are read: no line of ROWS comes after a later section, so that what is kept at a
 -- line is kept at the end.
-use Rattle.std.specs.Prelude.{◌≡◌, ℕ, nat_lt, Bool, true, false, ◌&&◌, ◌||◌, not, cond, if◌then◌else◌, List, [], ◌∷◌, ◌++◌, map, Option,
-    None, Some, bytes_eq, codes, ⊤}
+use Rattle.std.specs.Prelude.{◌≡◌, ℕ, nat_lt, Bool, true, false, ◌&&◌, ◌||◌, not, cond, if◌then◌else◌, List, [], ◌∷◌, ◌++◌, map, Option}
+use Rattle.std.specs.Prelude.{None, Some, bytes_eq, codes, ⊤}
 use Rattle.std.specs.List.{list_any, list_all}
 use Rattle.std.specs.Option.{option_map_or}
 use Rattle.std.proofs.Common.{refl, arith, ap, sym, ◌∙◌}
@@ -10,9 +10,9 @@ use Rattle.std.proofs.lemmas.List.Folds.{list_any-append}
 use Rattle.std.proofs.lemmas.Slice.Eq.{bytes_eq-Decides}
 use Rattle.mps_defs.specs.Lists.{after_those, through_first}
 use Rattle.ip_defs.specs.Lists.{first_of}
-use Rattle.mps_defs.specs.Records.{Line, Entry, items_of, words_of, row_lines, is_kept, opens, first_field, last_word, line_of, opens_end,
-    numbered, lines_of}
-use Rattle.mps_defs.specs.Faults.{all_line_faults, line_faults, is_before, place_of, faults_after}
+use Rattle.mps_defs.specs.Records.{Line, Entry, items_of, words_of, row_lines, is_kept, is_section_line, first_field, last_word, line_of}
+use Rattle.mps_defs.specs.Records.{is_end_line, numbered, lines_of}
+use Rattle.mps_defs.specs.Faults.{all_line_faults, line_faults, is_before, section_place, faults_after}
 use Rattle.ip_defs.proofs.BoolLaws.{both_true, either_true}
 use Rattle.ip_defs.proofs.ListLaws.{none_append}
 use Rattle.std.proofs.lemmas.List.{append-nil, append_assoc}
@@ -29,7 +29,7 @@ pub sections_read : (before ps : List (ℕ × List ℕ)) → InSections (last_wo
 sections_read before [] = tt
 sections_read before (p ∷ ps) = (
   λ item. last_word-add before p
-      ∙ ap (λ t. if t then first_field p else last_word before) (not-true (opens p) item),
+      ∙ ap (λ t. if t then first_field p else last_word before) (not-true (is_section_line p) item),
   sections_read (before ++ p ∷ []) ps,
 )
 
@@ -38,7 +38,7 @@ abbrev pub is_late : List ℕ → Bool
 is_late word = is_before (codes "ROWS") word
 
 before_next : (a b c : List ℕ) → is_before a b ≡ true → is_before b c ≡ true → is_before a c ≡ true
-before_next a b c h k = by (place_of a) (place_of b) (place_of c) h k
+before_next a b c h k = by (section_place a) (section_place b) (section_place c) h k
   where
     by : (o p q : Option ℕ) → option_map_or (λ i. option_map_or (nat_lt i) p false) o false ≡ true
         → option_map_or (λ i. option_map_or (nat_lt i) q false) p false ≡ true
@@ -156,4 +156,4 @@ kept_alike word before ls l e h item own late =
 -- the lines of a text without a fault
 pub sound_read : (text : List ℕ) → all_line_faults (lines_of text) ≡ [] → IsSound [] [] (lines_of text)
 sound_read text e =
-    record { sections = sections_read [] (through_first opens_end (numbered text)); faultless = e; begun = λ late. absurd cc }
+    record { sections = sections_read [] (through_first is_end_line (numbered text)); faultless = e; begun = λ late. absurd cc }

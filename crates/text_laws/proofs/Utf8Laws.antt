@@ -1,6 +1,6 @@
 -- A canonical text is UTF-8 where the names of its program are.
-use Rattle.std.specs.Prelude.{◌≡◌, ℕ, suc, ◌/◌, ◌%◌, ◌^◌, ◌<◌, ◌≤◌, ◌==◌, Bool, true, false, not, if◌then◌else◌, List, [], ◌∷◌, ◌++◌,
-    length, flat_map, find, Option, None, Some, codes, decimal, ℤ, pos, negsuc, neg_ℤ, ◌-ℤ◌, nat_lt}
+use Rattle.std.specs.Prelude.{◌≡◌, ℕ, suc, ◌/◌, ◌%◌, ◌^◌, ◌<◌, ◌≤◌, ◌==◌, Bool, true, false, not, if◌then◌else◌, List, [], ◌∷◌, ◌++◌}
+use Rattle.std.specs.Prelude.{length, flat_map, find, Option, None, Some, codes, decimal, ℤ, pos, negsuc, neg_ℤ, ◌-ℤ◌, nat_lt}
 use Rattle.std.specs.Fmt.{signed_decimal}
 use Rattle.std.specs.List.{list_all, enumerate_from, concat}
 use Rattle.std.specs.Option.{option_map_or, ForSome}
@@ -14,10 +14,10 @@ use Rattle.std.proofs.lemmas.Str.{IsUtf8-append, IsUtf8-nil, IsUtf8-from_ascii, 
 use Rattle.std.proofs.lemmas.Str.Ascii.{IsAscii-from_all}
 use Rattle.std.proofs.Math.Nat.{div-le_self}
 use Rattle.ip_defs.specs.Lists.{Each}
-use Rattle.mps_defs.specs.Numbers.{decimal_text, size_text, places, is_digit}
-use Rattle.mps_defs.specs.CanonicalText.{Written, head, pair, triple, bound, kind_text, is_equation, is_from_below, coef_line,
-    column_block, columns_block, right_side, rhs_line, constant_line, range_line, written_text, canonical_text, value_text, newline,
-    side_line, width_line}
+use Rattle.mps_defs.specs.Numbers.{decimal_text, unsigned_text, places, is_digit}
+use Rattle.mps_defs.specs.CanonicalText.{Written, head, pair, triple, bound_line, kind_text, is_equation, is_from_below, coef_line}
+use Rattle.mps_defs.specs.CanonicalText.{column_block, columns_block, right_side, rhs_line, constant_line, range_line, written_text}
+use Rattle.mps_defs.specs.CanonicalText.{canonical_text, value_text, newline, side_line, width_line}
 use Rattle.ip_defs.specs.declared.programs.Column.{Column}
 use Rattle.ip_defs.specs.declared.programs.Row.{Row}
 use Rattle.ip_defs.specs.declared.programs.Parts.{Parts}
@@ -27,8 +27,8 @@ use Rattle.text_laws.proofs.NumberTextLaws.{signed_decimal_is}
 use Rattle.text_laws.proofs.ListLaws.{each_flat, each_map, each_when, each_both}
 use Rattle.text_laws.proofs.SectionLaws.{Sections, section_lines, after_columns, after_right_sides, after_ranges, after_bounds}
 use Rattle.text_laws.proofs.CanonicalLaws.{sections_of, canonical_sections}
-use Rattle.text_laws.proofs.ReadableLaws.{IsProgramText, IsRowText, IsColumnText, all_from, found_small, right_side_small, width_small,
-    negated_small}
+use Rattle.text_laws.proofs.ReadableLaws.{IsProgramText, IsRowText, IsColumnText, all_from, found_small, right_side_small, width_small}
+use Rattle.text_laws.proofs.ReadableLaws.{negated_small}
 use Rattle.ip_defs.proofs.BoolLaws.{both_true}
 use Rattle.ip_defs.proofs.ListLaws.{each_numbered, each_append}
 use Rattle.mps_defs.proofs.NumberLaws.{ten_positive}
@@ -45,7 +45,7 @@ digits_utf8 (d ∷ ds) e =
     let r = digit_range d h.0 in
     IsUtf8-append (d ∷ []) ds (low_utf8 d (omega (arith, r))) (digits_utf8 ds h.1)
 
-size_utf8 : (n k : ℕ) → n < 2 ^ 64 → IsUtf8 (size_text n k)
+size_utf8 : (n k : ℕ) → n < 2 ^ 64 → IsUtf8 (unsigned_text n k)
 size_utf8 n k h =
     let w : n / 10 ^ k < 2 ^ 64 = let e = div-le_self n (10 ^ k) in omega arith in
     IsUtf8-append (decimal (n / 10 ^ k)) (if n % 10 ^ k == 0 then [] else 46 ∷ places k (n % 10 ^ k))
@@ -59,7 +59,7 @@ size_utf8 n k h =
 
 number_utf8 : (z : ℤ) (k : ℕ) → unsigned_abs z < 2 ^ 64 → IsUtf8 (decimal_text z k)
 number_utf8 (pos n) k h = size_utf8 n k h
-number_utf8 (negsuc n) k h = IsUtf8-append (45 ∷ []) (size_text (suc n) k) (low_utf8 45 (omega arith)) (size_utf8 (suc n) k h)
+number_utf8 (negsuc n) k h = IsUtf8-append (45 ∷ []) (unsigned_text (suc n) k) (low_utf8 45 (omega arith)) (size_utf8 (suc n) k h)
 
 whole_utf8 : (z : ℤ) → unsigned_abs z < 2 ^ 64 → IsUtf8 (signed_decimal z)
 whole_utf8 z h = subst IsUtf8 (sym (signed_decimal_is z)) (number_utf8 z 0 h)
@@ -194,7 +194,7 @@ block_utf8 m h t = by (length m.columns == 0)
           (marker_utf8 (codes "'INTEND'") (ascii (codes "'INTEND'") refl), tt),
     )
 
-bound_utf8 : (kind name : List ℕ) (z : ℤ) → IsUtf8 kind → IsUtf8 name → unsigned_abs z < 2 ^ 64 → Each IsUtf8 (bound kind name z).1
+bound_utf8 : (kind name : List ℕ) (z : ℤ) → IsUtf8 kind → IsUtf8 name → unsigned_abs z < 2 ^ 64 → Each IsUtf8 (bound_line kind name z).1
 bound_utf8 kind name z e f h = (e, (ascii (codes "BND") refl, (f, (whole_utf8 z h, tt))))
 
 head_utf8 : (word : List ℕ) → list_all (λ b. nat_lt b 128) word ≡ true → Each IsUtf8 (head word).1
@@ -251,7 +251,7 @@ canonical_utf8 m h t =
 
     bounds_are : AreTexts ((sections_of m).bounds)
     bounds_are =
-        each_flat IsColumnUtf8 IsText (λ c. bound (codes "LO") c.name c.lo ∷ bound (codes "UP") c.name c.hi ∷ []) m.columns
+        each_flat IsColumnUtf8 IsText (λ c. bound_line (codes "LO") c.name c.lo ∷ bound_line (codes "UP") c.name c.hi ∷ []) m.columns
         (columns_utf8 m h t)
         (λ c k. (
           bound_utf8 (codes "LO") c.name c.lo (ascii (codes "LO") refl) k.name k.text.lo,

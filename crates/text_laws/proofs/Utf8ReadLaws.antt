@@ -1,6 +1,6 @@
 -- The fields of the lines of a UTF-8 text are UTF-8, since lines and fields are cut at ASCII bytes.
-use Rattle.std.specs.Prelude.{◌≡◌, ℕ, zero, suc, ◌-◌, ◌<◌, ◌≤◌, ◌==◌, nat_lt, nat_le, Bool, true, false, ◌&&◌, ◌||◌, not, if◌then◌else◌,
-    List, [], ◌∷◌, ◌++◌, length, take, map, slice_index_or}
+use Rattle.std.specs.Prelude.{◌≡◌, ℕ, zero, suc, ◌-◌, ◌<◌, ◌≤◌, ◌==◌, nat_lt, nat_le, Bool, true, false, ◌&&◌, ◌||◌, not, if◌then◌else◌}
+use Rattle.std.specs.Prelude.{List, [], ◌∷◌, ◌++◌, length, take, map, slice_index_or}
 use Rattle.std.specs.List.{slice_split, onto_first, list_any, enumerate_from}
 use Rattle.std.specs.Char.{IsScalar}
 use Rattle.std.specs.Str.{IsUtf8, is_utf8, encode_utf8_all}
@@ -8,11 +8,11 @@ use Rattle.std.proofs.Common.{refl, arith, ap, sym, ◌∙◌, subst, get_or}
 use Rattle.std.proofs.Math.Utf8.{encode, scalar, scalars}
 use Rattle.std.proofs.lemmas.Bool.{ltb-true, ltb-false, eqb-true}
 use Rattle.std.proofs.lemmas.List.Splits.{slice_split-cons_yes, slice_split-cons_no}
-use Rattle.std.proofs.lemmas.Str.{IsUtf8-append, IsUtf8-nil, IsUtf8-encode, IsUtf8-from_is_utf8, IsUtf8-take, IsCharBoundary-before_ascii,
-    encode_ascii, inside_one}
+use Rattle.std.proofs.lemmas.Str.{IsUtf8-append, IsUtf8-nil, IsUtf8-encode, IsUtf8-from_is_utf8, IsUtf8-take, IsCharBoundary-before_ascii}
+use Rattle.std.proofs.lemmas.Str.{encode_ascii, inside_one}
 use Rattle.mps_defs.specs.Lists.{with_earlier, through_first}
-use Rattle.mps_defs.specs.Records.{Line, is_blank, is_star, begins_with, without_return, fields_of, numbered, opens_end, line_of, lines_of,
-    field, is_line_end}
+use Rattle.mps_defs.specs.Records.{Line, is_blank, is_star, begins_with, without_return, fields_of, numbered, is_end_line, line_of}
+use Rattle.mps_defs.specs.Records.{lines_of, field, is_line_end}
 use Rattle.text_laws.proofs.LineTextLaws.{split_joined}
 use Rattle.text_laws.proofs.EachLaws.{each_filter, each_of_map, each_through, each_those}
 use Rattle.ip_defs.proofs.BoolLaws.{both_true}
@@ -39,7 +39,7 @@ none_inside test low c high = none_passes test (encode c) (λ k l. by k l (test 
     by k l false e = refl
 
 -- a text has a first part
-first_part : (test : ℕ → Bool) (xs : List ℕ) → (a : List ℕ) × (more : List (List ℕ)) × (slice_split test xs ≡ a ∷ more)
+pub first_part : (test : ℕ → Bool) (xs : List ℕ) → (a : List ℕ) × (more : List (List ℕ)) × (slice_split test xs ≡ a ∷ more)
 first_part test [] = ([], [], refl)
 first_part test (x ∷ xs) = by (test x) refl (first_part test xs)
   where
@@ -122,10 +122,10 @@ lines_utf8 text valid =
     let kept =
     each_filter (λ p. IsUtf8 p.1) (λ p. nat_le 1 (length (fields_of p.1)) && not (begins_with is_star p.1))
     (enumerate_from 1 (map without_return (slice_split is_line_end text))) counted in
-    let ended = each_through (λ p. IsUtf8 p.1) opens_end (numbered text) kept in
-    each_of_map IsTextLine line_of (with_earlier (through_first opens_end (numbered text)))
-    (each_weaker (λ q. IsUtf8 q.1.1) (λ q. IsTextLine (line_of q)) (with_earlier (through_first opens_end (numbered text)))
-    (λ q h. fields_utf8 q.1.1 h) (each_those (λ p. IsUtf8 p.1) [] (through_first opens_end (numbered text)) ended))
+    let ended = each_through (λ p. IsUtf8 p.1) is_end_line (numbered text) kept in
+    each_of_map IsTextLine line_of (with_earlier (through_first is_end_line (numbered text)))
+    (each_weaker (λ q. IsUtf8 q.1.1) (λ q. IsTextLine (line_of q)) (with_earlier (through_first is_end_line (numbered text)))
+    (λ q h. fields_utf8 q.1.1 h) (each_those (λ p. IsUtf8 p.1) [] (through_first is_end_line (numbered text)) ended))
 
 -- a field by its place, which is empty past the end
 pub field_utf8 : (l : Line) (i : ℕ) → IsTextLine l → IsUtf8 (field l i)

@@ -1,9 +1,10 @@
 -- Canonical texts are read back as the programs that they were written of.
-use Rattle.std.specs.Prelude.{◌≡◌, ℕ, ◌≤◌, true, false, List, [], ◌∷◌, ◌++◌, map, None, Some, slice_get, ℤ, ◌-ℤ◌, ⊤}
+use Rattle.std.specs.Prelude.{◌≡◌, ℕ, ◌≤◌, ◌==◌, Bool, true, not, ◌&&◌, List, [], ◌∷◌, ◌++◌, map, None, Some, slice_get, codes, ℤ, ◌-ℤ◌}
 use Rattle.std.specs.Int.RustNames.{unsigned_abs}
+use Rattle.std.specs.List.{list_any}
 use Rattle.std.specs.Option.{option_map_or}
 use Rattle.std.specs.Str.{is_utf8}
-use Rattle.mps_defs.specs.Lists.{is_among}
+use Rattle.mps_defs.specs.Lists.{AreDistinct, is_among}
 use Rattle.ip_defs.specs.Limits.{IsWithinLimits}
 use Rattle.mps_defs.specs.Numbers.{least_decimals}
 use Rattle.mps_defs.specs.CanonicalText.{canonical_text, is_printable, right_side}
@@ -12,12 +13,7 @@ use Rattle.mps_defs.specs.Faults.{mps_fault, model_of}
 use Rattle.ip_defs.specs.declared.programs.Column.{Column}
 use Rattle.ip_defs.specs.declared.programs.Row.{Row}
 use Rattle.ip_defs.specs.declared.programs.Parts.{Parts}
-use Rattle.mps_defs.specs.declared.texts.How.{How}
-
--- no text stands twice in a list
-abbrev pub AreDistinct : List (List ℕ) → Type 0
-AreDistinct [] = ⊤
-AreDistinct (x ∷ xs) = (is_among x xs ≡ false) × AreDistinct xs
+use Rattle.mps_defs.specs.declared.reading.How.{How}
 
 -- the least decimals that write z / 10^decimals
 abbrev pub needed_decimals : ℕ → ℤ → ℕ
@@ -70,7 +66,25 @@ ModelsReadAreCanonical =
     (text : List ℕ) (how : How) → how.digits ≤ 9 → mps_fault text how ≡ None → is_printable (model_of text how) ≡ true
     → IsCanonical (model_of text how) how
 
--- so its canonical text, read with the same digits and any box side, has no fault and gives the program again
+-- a program that was read of a text without a fault is printable unless a column is named 'MARKER' or a name has a carriage return
+abbrev pub has_return : List ℕ → Bool
+has_return name = list_any (λ b. b == 13) name
+
+abbrev pub column_names_of : Parts → List (List ℕ)
+column_names_of m = map (λ c. c.name) m.columns
+
+abbrev pub program_names : Parts → List (List ℕ)
+program_names m = m.objective ∷ column_names_of m ++ map (λ r. r.name) m.rows
+
+abbrev pub ModelsReadArePrintable : Type 0
+ModelsReadArePrintable =
+    (text : List ℕ) (how : How) → mps_fault text how ≡ None
+    → is_printable (model_of text how)
+    ≡ (not (is_among (codes "'MARKER'") (column_names_of (model_of text how)))
+    && not (list_any has_return (program_names (model_of text how))))
+
+-- the canonical text of a printable program that was read has no fault, and gives the program again, read with the same digits and any
+-- box side
 abbrev pub ModelsReadArePrintedAndReadBack : Type 0
 ModelsReadArePrintedAndReadBack =
     (text : List ℕ) (how again : How) → how.digits ≤ 9 → again.digits ≡ how.digits → mps_fault text how ≡ None

@@ -3,7 +3,7 @@ use Rattle.std.specs.Prelude.{◌≡◌, ℕ, List, codes, refl, None, true}
 use Rattle.std.specs.Fmt.{digits}
 use Rattle.mps_defs.specs.CanonicalText.{canonical_text, is_printable}
 use Rattle.mps_defs.specs.Faults.{model_of}
-use Rattle.mps_defs.specs.declared.texts.How.{How}
+use Rattle.mps_defs.specs.declared.reading.How.{How}
 
 abbrev plain_how : How
 plain_how = record { digits = 0; box_side = None }

@@ -2,7 +2,7 @@
 use Rattle.std.specs.Prelude.{◌≡◌, [], codes, refl, None, Some, pos, negsuc, true, false}
 use Rattle.std.specs.Fmt.{digits}
 use Rattle.mps_defs.specs.Numbers.{number_of, exact_units, decimal_text}
-use Rattle.mps_defs.specs.declared.texts.Number.TheVariants.{Dec, Large}
+use Rattle.mps_defs.specs.declared.reading.Number.TheVariants.{Dec, Large}
 
 pub two_and_a_half : number_of (codes "2.50") ≡ Some (Dec (pos 25) 1)
 two_and_a_half = refl

@@ -4,8 +4,8 @@ use Rattle.std.specs.Prelude.{◌≡◌, ◌⊎◌, ◌≤◌, ℕ, List, [], �
 use Rattle.ip_defs.specs.declared.programs.Parts.{Parts}
 use Rattle.ips_io.specs.Files.{Files}
 use Rattle.mps_defs.specs.Faults.{mps_fault, model_of}
-use Rattle.mps_defs.specs.declared.texts.How.{How}
-use Rattle.mps_defs.specs.declared.texts.MpsError.{MpsError}
+use Rattle.mps_defs.specs.declared.reading.How.{How}
+use Rattle.mps_defs.specs.declared.reading.MpsError.{MpsError}
 use Rattle.ipsens_core.specs.Answers.{Answer, says}
 use Rattle.ipsens_core.specs.Models.{ReadsModel, longest_model}
 use Rattle.ipsens_core.specs.Reads.{Reads, Agrees}

@@ -1,7 +1,7 @@
 -- The sections of a canonical text, one after the other, and the text of their lines.
 use Rattle.std.specs.Prelude.{ℕ, List, [], ◌∷◌, ◌++◌, map, flat_map, codes}
-use Rattle.mps_defs.specs.CanonicalText.{Written, head, pair, bound, written_text, kind_text, columns_block, constant_line, rhs_line,
-    range_line}
+use Rattle.mps_defs.specs.CanonicalText.{Written, head, pair, bound_line, written_text, kind_text, columns_block, constant_line, rhs_line}
+use Rattle.mps_defs.specs.CanonicalText.{range_line}
 use Rattle.ip_defs.specs.declared.programs.Column.{Column}
 use Rattle.ip_defs.specs.declared.programs.Row.{Row}
 use Rattle.ip_defs.specs.declared.programs.Parts.{Parts}
@@ -16,7 +16,7 @@ kind_line r = pair (kind_text r) r.name
 
 -- the two lines of a column in BOUNDS
 abbrev pub bound_lines : Column → List Written
-bound_lines c = bound (codes "LO") c.name c.lo ∷ bound (codes "UP") c.name c.hi ∷ []
+bound_lines c = bound_line (codes "LO") c.name c.lo ∷ bound_line (codes "UP") c.name c.hi ∷ []
 
 -- NAME and ROWS
 abbrev pub row_section : Parts → List Written

@@ -2,7 +2,7 @@
 use Rattle.std.specs.Prelude.{◌≡◌, ◌<◌, ◌≤◌, ℕ, List, slice_get, Some}
 use Rattle.std.specs.Option.{ForSome}
 use Rattle.decimals.specs.Decimals.{IsBelowLarge}
-use Rattle.mps_defs.specs.declared.texts.Number.{Number}
+use Rattle.mps_defs.specs.declared.reading.Number.{Number}
 use Rattle.mps_reader.specs.declared.draft.RowDraft.{RowDraft}
 
 -- each number of the entries is so

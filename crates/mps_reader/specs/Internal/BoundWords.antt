@@ -1,15 +1,15 @@
 -- The kinds of bounds, and what a bound says of its column.
-use Rattle.std.specs.Prelude.{◌≡◌, ℕ, nat_le, Bool, true, ◌&&◌, ◌||◌, not, if◌then◌else◌, List, [], ◌∷◌, length, Option, Some, codes, ℤ,
-    pos}
+use Rattle.std.specs.Prelude.{◌≡◌, ℕ, nat_le, Bool, true, ◌&&◌, ◌||◌, not, if◌then◌else◌, List, [], ◌∷◌, length, Option, Some, codes, ℤ}
+use Rattle.std.specs.Prelude.{pos}
 use Rattle.mps_defs.specs.Lists.{is_among, where_true}
 use Rattle.std.specs.Option.{option_or}
 use Rattle.mps_defs.specs.Numbers.{is_large}
 use Rattle.mps_defs.specs.Records.{Line, bound_column, bound_kind, bound_set, bound_text, takes_number}
 use Rattle.mps_defs.specs.TextModels.{is_negative_number, rounded_down, rounded_up}
-use Rattle.mps_defs.specs.declared.texts.Number.{Number}
+use Rattle.mps_defs.specs.declared.reading.Number.{Number}
 use Rattle.mps_reader.specs.declared.bounds.BoundKind.{BoundKind}
-use Rattle.mps_reader.specs.declared.bounds.BoundKind.TheVariants.{Lower, LowerInteger, Upper, UpperInteger, Fixed, Free, NoLower, NoUpper,
-    Binary}
+use Rattle.mps_reader.specs.declared.bounds.BoundKind.TheVariants.{Lower, LowerInteger, Upper, UpperInteger, Fixed, Free, NoLower, NoUpper}
+use Rattle.mps_reader.specs.declared.bounds.BoundKind.TheVariants.{Binary}
 use Rattle.mps_reader.specs.declared.draft.UpperBound.{UpperBound}
 use Rattle.mps_reader.specs.declared.draft.ColumnDraft.{ColumnDraft}
 

@@ -1,18 +1,18 @@
 -- The model that a draft says, and what is wrong with the whole of it.
-use Rattle.std.specs.Prelude.{◌≡◌, Result, Ok, Err, ℕ, suc, ◌==◌, max, Bool, true, false, not, ◌&&◌, if◌then◌else◌, List, [], ◌∷◌, ◌++◌,
-    map, filter, string_bytes, Option, None, Some, option_and_then, unwrap_or, ℤ, pos, neg_ℤ}
+use Rattle.std.specs.Prelude.{◌≡◌, Result, Ok, Err, ℕ, suc, ◌==◌, max, Bool, true, false, not, ◌&&◌, if◌then◌else◌, List, [], ◌∷◌, ◌++◌}
+use Rattle.std.specs.Prelude.{map, filter, string_bytes, Option, None, Some, option_and_then, unwrap_or, ℤ, pos, neg_ℤ}
 use Rattle.std.specs.Int.RustNames.{unsigned_abs}
 use Rattle.std.specs.Option.{is_none}
 use Rattle.ip_defs.specs.Lists.{when, first_of}
-use Rattle.mps_reader.specs.declared.whole.Rule.{Rule}
-use Rattle.mps_reader.specs.declared.whole.Rule.TheVariants.{Integer, Bounded, NotNegative}
+use Rattle.mps_reader.specs.declared.column_rules.Rule.{Rule}
+use Rattle.mps_reader.specs.declared.column_rules.Rule.TheVariants.{Integer, Bounded, NotNegative}
 use Rattle.mps_defs.specs.Faults.{IsFirst, lower_is_missing, upper_is_missing}
 use Rattle.mps_defs.specs.TextModels.{units, no_number, row_sides, box_low, box_high}
-use Rattle.mps_defs.specs.declared.texts.Number.{Number}
-use Rattle.mps_defs.specs.declared.texts.How.{How}
-use Rattle.mps_defs.specs.declared.texts.Side.TheVariants.{Lower, Upper}
-use Rattle.mps_defs.specs.declared.texts.MpsError.{MpsError}
-use Rattle.mps_defs.specs.declared.texts.MpsError.TheVariants.{Continuous, NoBound, NegativeUpper}
+use Rattle.mps_defs.specs.declared.reading.Number.{Number}
+use Rattle.mps_defs.specs.declared.reading.How.{How}
+use Rattle.mps_defs.specs.declared.reading.Side.TheVariants.{Lower, Upper}
+use Rattle.mps_defs.specs.declared.reading.MpsError.{MpsError}
+use Rattle.mps_defs.specs.declared.reading.MpsError.TheVariants.{Continuous, NoBound, NegativeUpper}
 use Rattle.ip_defs.specs.declared.programs.Column.{Column}
 use Rattle.ip_defs.specs.declared.programs.Row.{Row}
 use Rattle.ip_defs.specs.declared.programs.Parts.{Parts}

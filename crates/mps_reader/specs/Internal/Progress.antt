@@ -1,15 +1,15 @@
 -- What a draft has of the lines of a text that were read so far.
-use Rattle.std.specs.Prelude.{◌≡◌, ◌≤◌, ℕ, suc, false, if◌then◌else◌, List, [], ◌∷◌, ◌++◌, length, map, position, slice_get, Option, None,
-    Some, option_map, option_and_then, bytes_eq, string_bytes, codes, Result, Ok, Err}
+use Rattle.std.specs.Prelude.{◌≡◌, ◌≤◌, ℕ, suc, false, if◌then◌else◌, List, [], ◌∷◌, ◌++◌, length, map, position, slice_get, Option, None}
+use Rattle.std.specs.Prelude.{Some, option_map, option_and_then, bytes_eq, string_bytes, codes, Result, Ok, Err}
 use Rattle.ip_defs.specs.Lists.{first_of}
 use Rattle.mps_defs.specs.Lists.{last_of, is_among, where_true}
 use Rattle.std.specs.Option.{option_or}
-use Rattle.mps_defs.specs.Records.{row_names, Line, Entry, items_of, words_of, row_lines, row_kind, is_free, is_marker, in_force,
-    column_name, column_names, set_of, bound_set, kept_entries}
-use Rattle.mps_defs.specs.TextModels.{written_in, written_for, decimals_in, largest, is_integer, lower_entry, upper_entry, lower_by,
-    upper_by}
+use Rattle.mps_defs.specs.Records.{row_names, Line, Entry, items_of, words_of, row_lines, row_kind, is_free, is_marker, in_force}
+use Rattle.mps_defs.specs.Records.{column_name, column_names, set_of, bound_set, kept_entries}
+use Rattle.mps_defs.specs.TextModels.{written_in, written_for, decimals_in, largest, is_integer, lower_entry, upper_entry, lower_by}
+use Rattle.mps_defs.specs.TextModels.{upper_by}
 use Rattle.mps_defs.specs.Faults.{IsFirst, line_faults, all_line_faults, is_negative_upper}
-use Rattle.mps_defs.specs.declared.texts.MpsError.{MpsError}
+use Rattle.mps_defs.specs.declared.reading.MpsError.{MpsError}
 use Rattle.mps_reader.specs.declared.sections.Section.{Section}
 use Rattle.mps_reader.specs.declared.sections.Section.TheVariants as Sections
 use Rattle.mps_reader.specs.declared.draft.RowKind.{RowKind}

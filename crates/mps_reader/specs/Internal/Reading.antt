@@ -2,9 +2,9 @@
 use Rattle.std.specs.Prelude.{◌≡◌, ℕ, Bool, ◌&&◌, List, [], ◌++◌, map, unwrap_or, Result, Ok, Err}
 use Rattle.mps_defs.specs.Lists.{with_earlier, last_of}
 use Rattle.ip_defs.specs.Lists.{when}
-use Rattle.mps_defs.specs.Records.{Line, line_of, opens_end, is_read}
+use Rattle.mps_defs.specs.Records.{Line, line_of, is_end_line, is_read}
 use Rattle.mps_defs.specs.Faults.{all_line_faults}
-use Rattle.mps_defs.specs.declared.texts.MpsError.{MpsError}
+use Rattle.mps_defs.specs.declared.reading.MpsError.{MpsError}
 use Rattle.mps_reader.specs.declared.draft.Draft.{Draft}
 use Rattle.mps_reader.specs.Internal.Progress.{Stands, IsFirstFault}
 
@@ -23,5 +23,5 @@ IsDraftOf ls (Err e) = IsFirstFault (all_line_faults ls) e
 
 -- what taking a numbered line answers, after those read before it: whether it is the ENDATA line, and its draft or the first fault
 abbrev pub IsLineTaken : List (ℕ × List ℕ) → ℕ × List ℕ → Draft → Result Bool MpsError → Type 0
-IsLineTaken ps p new (Ok ended) = (ended ≡ (is_read p && opens_end p)) × Stands (lines_by (ps ++ when (is_read p) p)) new
+IsLineTaken ps p new (Ok ended) = (ended ≡ (is_read p && is_end_line p)) × Stands (lines_by (ps ++ when (is_read p) p)) new
 IsLineTaken ps p new (Err e) = IsFirstFault (all_line_faults (lines_by (ps ++ when (is_read p) p))) e

@@ -1,16 +1,16 @@
 -- What taking a part of a line owes: an entry, a marker, a column, a set.
-use Rattle.std.specs.Prelude.{◌≡◌, ◌⊎◌, ℕ, ◌==◌, max, nat_le, ◌%◌, drop, Bool, true, false, ◌&&◌, ◌||◌, not, if◌then◌else◌, List, [], ◌∷◌,
-    ◌++◌, length, map, filter, flat_map, position, Option, None, Some, option_map, unwrap_or, string_bytes, bytes_eq, codes, Result, Ok,
-    Err}
+use Rattle.std.specs.Prelude.{◌≡◌, ◌⊎◌, ℕ, ◌==◌, max, nat_le, ◌%◌, drop, Bool, true, false, ◌&&◌, ◌||◌, not, if◌then◌else◌, List, [], ◌∷◌}
+use Rattle.std.specs.Prelude.{◌++◌, length, map, filter, flat_map, position, Option, None, Some, option_map, unwrap_or, string_bytes}
+use Rattle.std.specs.Prelude.{bytes_eq, codes, Result, Ok, Err}
 use Rattle.std.specs.Option.{option_map_or, is_some}
 use Rattle.ip_defs.specs.Lists.{first_of, when}
 use Rattle.mps_defs.specs.Lists.{last_of, is_among, after_those}
 use Rattle.mps_defs.specs.Numbers.{decimals_of, is_number, number_of}
 use Rattle.mps_defs.specs.Faults.{entry_faults}
 use Rattle.mps_defs.specs.Records.{row_names, Line, Entry, set_of, column_name, column_names, is_kept, is_kept_set, kept_entries}
-use Rattle.mps_defs.specs.declared.texts.Number.{Number}
-use Rattle.mps_defs.specs.declared.texts.MpsError.{MpsError}
-use Rattle.mps_defs.specs.declared.texts.MpsError.TheVariants as Out
+use Rattle.mps_defs.specs.declared.reading.Number.{Number}
+use Rattle.mps_defs.specs.declared.reading.MpsError.{MpsError}
+use Rattle.mps_defs.specs.declared.reading.MpsError.TheVariants as Out
 use Rattle.mps_reader.specs.declared.sections.Section.{Section}
 use Rattle.mps_reader.specs.declared.sections.Section.TheVariants as Sections
 use Rattle.mps_reader.specs.declared.draft.RowDraft.{RowDraft}

@@ -10,8 +10,8 @@ value_from-requires-clause-digits c =
     ap (list_all is_digit) (c.without_sign.ensures ∙ ap without_sign c.exponent_part-exponent.ensures)
     ∙ (exponent_digits c.args.body.now c.requires).0
 
-pub value_from-requires-clause-room : goal.value_from-requires-clause-room
-value_from-requires-clause-room c =
+pub value_from-requires-clause-fits : goal.value_from-requires-clause-fits
+value_from-requires-clause-fits c =
     let same = ap length (c.without_sign.ensures ∙ ap without_sign c.exponent_part-exponent.ensures) in
     let few = (exponent_digits c.args.body.now c.requires).1 in
     let within = tens_rise (length c.without_sign.result.now) 4 (omega arith) in
@@ -31,5 +31,5 @@ returns-clause-small c =
     let few = (exponent_digits c.args.body.now c.requires).1 in
     let within = tens_rise (length c.without_sign.result.now) 4 (omega arith) in
     let small = c.value_from.ensures.small in
-    let size = c.signed.ensures.size in
+    let absolute = c.signed.ensures.absolute in
     omega (arith, ints)

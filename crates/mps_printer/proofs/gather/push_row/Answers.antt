@@ -1,5 +1,5 @@
-use Rattle.std.proofs.Common.{◌≡◌, ◌<◌, ◌∙◌, ◌++◌, ◌∷◌, [], add-one, ap, append_assoc, arith, get_or, length, refl, rules, set, sym, take,
-    pos, to_z, of_z}
+use Rattle.std.proofs.Common.{◌≡◌, ◌<◌, ◌∙◌, ◌++◌, ◌∷◌, [], add-one, ap, append_assoc, arith, get_or, length, refl, rules, set, sym, take}
+use Rattle.std.proofs.Common.{pos, to_z, of_z}
 use Rattle.std.specs.Prelude.{Some, slice_get}
 use Rattle.std.specs.Int.{w64}
 use Rattle.std.proofs.lemmas.Int.{to_z-of_z}

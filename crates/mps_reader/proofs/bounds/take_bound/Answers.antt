@@ -3,10 +3,10 @@ use Rattle.std.specs.Option.{is_some, is_none}
 use Rattle.std.proofs.Common.{◌∙◌, ap, sym, subst}
 use Rattle.ip_defs.specs.Lists.{first_of, when}
 use Rattle.mps_defs.specs.Records.{bound_column, bound_set, column_names, items_of}
-use Rattle.mps_defs.specs.declared.texts.MpsError.TheVariants.{Number}
+use Rattle.mps_defs.specs.declared.reading.MpsError.TheVariants.{Number}
 use Rattle.mps_reader.specs.Internal.Progress.{Stands}
-use Rattle.mps_reader.proofs.BoundLaws.{bound_item, bound_stands, column_found, columns_kept, columns_noted, faults_by, has_column_where,
-    kept_set_more, line_says, noted_count, number_counts, number_fault, of_kept_set, unknown_column}
+use Rattle.mps_reader.proofs.BoundLaws.{bound_item, bound_stands, column_found, columns_kept, columns_noted, faults_by, has_column_where}
+use Rattle.mps_reader.proofs.BoundLaws.{kept_set_more, line_says, noted_count, number_counts, number_fault, of_kept_set, unknown_column}
 use Rattle.mps_reader.proofs.bounds.take_bound.Goals.{then-branch, else-branch}
 use Rattle.mps_reader.proofs.bounds.take_bound.Goals as goal
 
@@ -27,7 +27,7 @@ returns-in-None-number_in c before fields h rows there bound =
     (Some c.in-Some.column) h.columns bound.column_is c.in-Some.ensures.index in
     let counted =
     number_fault l c.args.kind c.args.bound.text.now c.number_in.result bound.kind_is bound.text_is c.number_in.ensures.none
-        c.number_in.ensures.some in
+    c.number_in.ensures.some in
     ap first_of (faults_by before c.args.line fields c.args.kind (Some c.in-Some.column) c.number_in.result rows bound.kind_is bound.count
     (has_column_where before (bound_column l) (Some c.in-Some.column) found) counted)
     ∙ ap (λ o. first_of (when (is_none o) (Number c.args.line))) c.in-None-number_in.is
@@ -40,7 +40,7 @@ returns c before fields h rows there bound =
     (Some c.in-Some.column) h.columns bound.column_is c.in-Some.ensures.index in
     let counted =
     number_fault l c.args.kind c.args.bound.text.now c.number_in.result bound.kind_is bound.text_is c.number_in.ensures.none
-        c.number_in.ensures.some in
+    c.number_in.ensures.some in
     let right_line =
     faults_by before c.args.line fields c.args.kind (Some c.in-Some.column) c.number_in.result rows bound.kind_is bound.count
     (has_column_where before (bound_column l) (Some c.in-Some.column) found) counted in
@@ -59,7 +59,7 @@ returns c before fields h rows there bound =
       | then-branch w ↦
           (let says = line_says l c.args.kind c.in-Some-number_in.number w.said_by.result bound.kind_is
           (number_counts l c.args.kind c.args.bound.text.now c.number_in.result c.in-Some-number_in.number bound.kind_is bound.text_is
-              c.number_in.ensures.none c.in-Some-number_in.is) w.said_by.ensures in
+          c.number_in.ensures.none c.in-Some-number_in.is) w.said_by.ensures in
           subst (Stands (before ++ l ∷ [])) (sym w.draft-is)
           (bound_stands before d _ c.args.line fields h no_faults there refl refl refl refl refl refl refl
           (noted_count d.columns.columns.items w.note_bound.new.columns.items (column_names before)

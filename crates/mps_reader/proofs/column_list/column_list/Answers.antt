@@ -1,12 +1,12 @@
 use Rattle.std.proofs.Common.{arith, sym, ap, ◌∙◌, ◌≡◌, ◌++◌, ℕ, suc, ◌+◌, List, [], drop, get_or, ◌∷◌, map}
 use Rattle.std.specs.Prelude.{string_bytes, false, None}
 use Rattle.std.specs.Option.{is_some}
-use Rattle.mps_defs.specs.declared.texts.Number.{Number}
+use Rattle.mps_defs.specs.declared.reading.Number.{Number}
 use Rattle.ip_defs.specs.declared.programs.Column.{Column}
 use Rattle.mps_reader.specs.declared.draft.ColumnDraft.{ColumnDraft}
 use Rattle.mps_reader.specs.Internal.Clamps.{clamped_column}
 use Rattle.mps_reader.specs.Internal.Drafted.{drafted_column, drafted_columns, cost_rest, cost_head}
-use Rattle.mps_reader.proofs.FinishLaws.{columns_more, cost_taken, cost_left, drop_at, drop_mapped}
+use Rattle.mps_reader.proofs.ModelListLaws.{columns_more, cost_taken, cost_left, drop_at, drop_mapped}
 use Rattle.mps_reader.proofs.column_list.column_list.Goals as goal
 use Rattle.mps_reader.proofs.column_list.column_list.Goals.{then-is_some, else-is_some}
 

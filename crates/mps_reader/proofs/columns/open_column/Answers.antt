@@ -1,6 +1,6 @@
 use Rattle.std.proofs.Common.{◌∙◌, ap, sym, subst, map, position, bytes_eq, string_bytes, inr}
 use Rattle.ip_defs.specs.Lists.{first_of, when}
-use Rattle.mps_defs.specs.declared.texts.MpsError.TheVariants as Out
+use Rattle.mps_defs.specs.declared.reading.MpsError.TheVariants as Out
 use Rattle.mps_reader.specs.Internal.Taking.{IsColumnAdded, IsColumnOpen}
 use Rattle.mps_reader.proofs.ColumnLaws.{column_item}
 use Rattle.mps_reader.proofs.OpenLaws.{split_or_not, went_on, begun_faultless, begun, opened_at}

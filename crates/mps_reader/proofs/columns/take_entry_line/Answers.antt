@@ -23,5 +23,5 @@ returns c before h there has_rows no_bounds plain =
     let opened = c.in_ok-number.ensures before (words fields) h.columns h.bounds no_bounds plain name in
     entry_line before c.args.draft.now c.args.line
     (words fields) _ c.take_entries.new.rows c.open_column.new.columns c.in_ok-number.number c.take_entries.result count.0 h there has_rows
-        plain
+    plain
     (rest_words fields) opened.0 opened.1 c.take_entries.ensures

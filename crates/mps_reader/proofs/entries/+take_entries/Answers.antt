@@ -1,5 +1,5 @@
 use Rattle.std.proofs.Common.{sym, ap, ◌++◌, ◌∷◌, [], ◌-◌, length, take, drop, get_or, subst}
-use Rattle.mps_defs.specs.Records.{entries_from, entry}
+use Rattle.mps_defs.specs.Records.{entries_from, entry_of}
 use Rattle.mps_defs.specs.Faults.{entry_faults}
 use Rattle.mps_reader.specs.Internal.Taking.{owner_word, RowsHave, AreEntriesTaken, entry_faults_after}
 use Rattle.mps_reader.proofs.TakingLaws.{passed_on, stopped}
@@ -15,7 +15,7 @@ returns-in_err-take_entry-in-len2-up t c =
     let fields = c.args.fields.now in
     let rest = take (length fields - 2) (drop 2 fields) in
     λ ls es name have owns.
-    let e = entry c.args.line name (get_or fields 0 _).now (get_or fields 1 _).now in
+    let e = entry_of c.args.line name (get_or fields 0 _).now (get_or fields 1 _).now in
     let more = entries_from c.args.line name (words rest) in
     subst (λ l. AreEntriesTaken ls c.args.owner es c.take_entry.new.rows l c.from_residual.result)
     (sym (one_entry c.args.line name fields _ c.in-len2-up.len_at_least))
@@ -36,7 +36,7 @@ returns-in_ok-take_entry-in-len2-up t c =
     let fields = c.args.fields.now in
     let rest = take (length fields - 2) (drop 2 fields) in
     λ ls es name have owns.
-    let e = entry c.args.line name (get_or fields 0 _).now (get_or fields 1 _).now in
+    let e = entry_of c.args.line name (get_or fields 0 _).now (get_or fields 1 _).now in
     let more = entries_from c.args.line name (words rest) in
     let first = c.in_ok-take_entry-in-len2-up.ensures ls es name have owns in
     subst (λ l. AreEntriesTaken ls c.args.owner es c.take_entries.new.rows l c.take_entries.result)

@@ -3,7 +3,7 @@ use Rattle.std.proofs.Common.{◌∙◌, sym, ap, map, string_bytes}
 use Rattle.ip_defs.specs.Lists.{first_of, when}
 use Rattle.mps_defs.specs.Lists.{is_among}
 use Rattle.mps_defs.specs.Numbers.{is_number}
-use Rattle.mps_defs.specs.declared.texts.MpsError.TheVariants as Out
+use Rattle.mps_defs.specs.declared.reading.MpsError.TheVariants as Out
 use Rattle.mps_reader.proofs.PlaceLaws.{place_of_name}
 use Rattle.mps_reader.proofs.TakingLaws.{met, not_met, where_none}
 use Rattle.mps_defs.proofs.PlaceLaws.{unknown, known}

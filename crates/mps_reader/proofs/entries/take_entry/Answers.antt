@@ -5,7 +5,7 @@ use Rattle.mps_reader.proofs.CountLaws.{is_at}
 use Rattle.mps_reader.specs.Internal.Taking.{counts_on}
 use Rattle.mps_reader.proofs.TakingLaws.{passed_on, is_faulty}
 use Rattle.mps_reader.proofs.TableLaws.{not_read, not_counted, counted_entry, row_there}
-use Rattle.mps_defs.specs.Records.{entry}
+use Rattle.mps_defs.specs.Records.{entry_of}
 use Rattle.mps_reader.proofs.entries.take_entry.Goals as goal
 
 pub returns-in_err-place : goal.returns-in_err-place
@@ -14,7 +14,7 @@ returns-in_err-place c =
     let error = c.in_err-place.field-0.0 in
     let is = passed_on c.from_residual.result error _ a.0 a.1 (λ x g. g) in
     λ ls es name have owns.
-    let e = entry c.args.line name c.args.row.now c.args.text.now in
+    let e = entry_of c.args.line name c.args.row.now c.args.text.now in
     is_faulty _ _ c.from_residual.result error is (not_read ls c.args.owner es c.args.rows.now e error have.rows c.in_err-place.ensures)
 
 pub returns-then-keeps : goal.returns-then-keeps
@@ -26,9 +26,9 @@ returns-then-keeps c =
     slice_get-get_or table.rows.items place row (ltb-true place (length table.rows.items) (sym c.in-Some.ensures.item.0))
     ∙ ap Some (sym c.in-Some.ensures.value) in
     λ ls es name have owns.
-    let e = entry c.args.line name c.args.row.now c.args.text.now in
+    let e = entry_of c.args.line name c.args.row.now c.args.text.now in
     counted_entry ls c.args.owner es table place row c.write.new.self e c.in_ok-place.number c.write.result have owns
-        c.in_ok-place.ensures.0 there c.in_ok-place.ensures.1
+    c.in_ok-place.ensures.0 there c.in_ok-place.ensures.1
     (ap (λ b. counts_on c.args.owner b (is_at table.objective place)) (sym c.is_free.ensures)
     ∙ ap (counts_on c.args.owner c.is_free.result) (sym c.is_objective-is_objective.ensures)
     ∙ sym c.if-keeps.ensures) c.write.ensures
@@ -42,7 +42,7 @@ returns-else-keeps c =
     slice_get-get_or table.rows.items place row (ltb-true place (length table.rows.items) (sym c.in-Some.ensures.item.0))
     ∙ ap Some (sym c.in-Some.ensures.value) in
     λ ls es name have owns.
-    let e = entry c.args.line name c.args.row.now c.args.text.now in
+    let e = entry_of c.args.line name c.args.row.now c.args.text.now in
     not_counted ls c.args.owner es table place row e c.in_ok-place.number have owns c.in_ok-place.ensures.0 there c.in_ok-place.ensures.1
     (ap (λ b. counts_on c.args.owner b (is_at table.objective place)) (sym c.is_free.ensures)
     ∙ ap (counts_on c.args.owner c.is_free.result) (sym c.is_objective-is_objective.ensures)

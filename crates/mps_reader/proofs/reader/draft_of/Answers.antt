@@ -3,7 +3,7 @@ use Rattle.std.specs.Prelude.{◌≡◌, false, length, map, take}
 use Rattle.std.specs.List.{list_any, slice_split}
 use Rattle.std.proofs.Common.{◌∙◌, ap, sym, subst, arith}
 use Rattle.std.proofs.lemmas.List.{length-map, take_all}
-use Rattle.mps_defs.specs.Records.{is_line_end, opens_end}
+use Rattle.mps_defs.specs.Records.{is_line_end, is_end_line}
 use Rattle.mps_defs.specs.Faults.{all_line_faults}
 use Rattle.mps_reader.specs.Internal.Progress.{Stands, IsFirstFault}
 use Rattle.mps_reader.specs.Internal.Reading.{lines_by}
@@ -56,5 +56,5 @@ returns c =
     ap (map (λ x. x.now)) c.as_slice-line-items.ensures.value ∙ c.in_ok-lines.ensures in
     let inv = c.loop-line.invariant in
     let all : take i xs ≡ xs = take_all i xs (omega (arith, length-map items (λ x. x.now), c.loop-line-test.false)) in
-    let going = subst (λ ys. list_any opens_end (read_from 1 ys) ≡ false) all inv.1 in
+    let going = subst (λ ys. list_any is_end_line (read_from 1 ys) ≡ false) all inv.1 in
     subst (λ ls. Stands ls c.loop-line.draft) (ap (λ ys. lines_by (read_from 1 ys)) all ∙ all_read xs going ∙ ap said_by lines) inv.2

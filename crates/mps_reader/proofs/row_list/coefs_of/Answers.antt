@@ -1,10 +1,10 @@
 use Rattle.std.proofs.Common.{arith, sym, ap, ◌∙◌, ◌≡◌, ◌++◌, ◌+◌, [], drop, get_or, ◌∷◌, drop-cons, pos, suc, to_z, of_z}
 use Rattle.std.specs.Int.{w128, w64}
 use Rattle.std.proofs.lemmas.Int.{ints}
-use Rattle.mps_defs.specs.declared.texts.Number.TheVariants.{Dec}
+use Rattle.mps_defs.specs.declared.reading.Number.TheVariants.{Dec}
 use Rattle.mps_reader.specs.Internal.Clamps.{clamped, clamped_coefs}
 use Rattle.mps_reader.specs.Internal.Drafted.{drafted_coefs}
-use Rattle.mps_reader.proofs.FinishLaws.{coefs_skip, coefs_take}
+use Rattle.mps_reader.proofs.ModelListLaws.{coefs_skip, coefs_take}
 use Rattle.mps_reader.proofs.row_list.coefs_of.Goals as goal
 use Rattle.mps_reader.proofs.row_list.coefs_of.Goals.{then-coefficient-ne0+in_ok-push, else-coefficient-ne0}
 

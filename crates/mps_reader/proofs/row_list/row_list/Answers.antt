@@ -2,7 +2,7 @@ use Rattle.std.proofs.Common.{arith, sym, ap, ◌∙◌, ◌++◌, ◌+◌, drop
 use Rattle.std.specs.Prelude.{string_bytes}
 use Rattle.mps_reader.specs.Internal.Clamps.{clamped_row}
 use Rattle.mps_reader.specs.Internal.Drafted.{drafted_row, drafted_rows}
-use Rattle.mps_reader.proofs.FinishLaws.{rows_take, rows_skip, drop_read, drop_mapped}
+use Rattle.mps_reader.proofs.ModelListLaws.{rows_take, rows_skip, drop_read, drop_mapped}
 use Rattle.mps_reader.proofs.row_list.row_list.Goals as goal
 use Rattle.mps_reader.proofs.row_list.row_list.Goals.{then-not-is_free+in_ok-row_of+in_ok-push, else-not-is_free}
 

@@ -1,4 +1,4 @@
-// The measured loop of `frac_bench` with the same algorithms in plain Rust: `frac128 whole|small|long ROUNDS`.
+// The measured loop of `ipsens_bench fractions` with the same algorithms in plain Rust: `frac128 whole|small|long ROUNDS`.
 mod fractions;
 
 use fractions::{Frac, Wide, frac, mul, sub};

@@ -1,7 +1,7 @@
 #!/bin/bash
 # Times products and differences of fractions, as proved and in plain Rust, in one run, by processor time:
 #     tools/bench/frac128.sh [ROUNDS]
-# `rt run` in crates/frac_bench builds the proved program first.
+# `rt run -- fractions whole 1` in crates/ipsens_bench builds the proved program first.
 set -eu
 top=$(cd "$(dirname "$0")/../.." && pwd)
 rounds=${1:-100000000}
@@ -12,12 +12,12 @@ rustc -O --edition 2021 -o "$plain" "$top/tools/bench/frac128.rs"
 # Prints the checksum of a program at a kind of fractions, and the seconds that it took.
 measure() {
     local TIMEFORMAT=%U
-    { time "$1" "$2" "$rounds"; } 2> "$plain.time"
+    { time "$@" "$rounds"; } 2> "$plain.time"
     cat "$plain.time"
 }
 
 for kind in whole small long; do
-    proved=($(measure "$top/crates/frac_bench/out/frac_bench" $kind))
+    proved=($(measure "$top/crates/ipsens_bench/out/ipsens_bench" fractions $kind))
     same=($(measure "$plain" $kind))
     if [ "${proved[0]}" != "${same[0]}" ]; then
         echo "$kind: the checksums differ: ${proved[0]} and ${same[0]}"

@@ -1,4 +1,5 @@
-//! The bound of one certificate, as often as the argument says: the model and the loops of `crates/cert_bench` in plain Rust.
+//! The bound of one certificate, computed as often as the argument says: the model and the loops of `ipsens_bench certificates` in
+//! plain Rust.
 
 use std::hint::black_box;
 

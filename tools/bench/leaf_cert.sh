@@ -7,19 +7,20 @@ entries=$((200 * 50))
 work=$(mktemp -d)
 trap 'rm -r "$work"' EXIT
 rustc --edition 2024 -O -o "$work/plain" tools/bench/leaf_cert.rs
-(cd crates/cert_bench && rt run -- 1 >/dev/null 2>&1)
+(cd crates/ipsens_bench && rt run -- certificates 1 >/dev/null 2>&1)
 TIMEFORMAT=%U
 
 # Milliseconds of the least of five runs.
 least() {
     for _ in 1 2 3 4 5; do
-        { time "$1" "$2" >"$work/text"; } 2>&1
+        { time "$@" >"$work/text"; } 2>&1
     done | sort -n | awk 'NR == 1 { print int($1 * 1000) }'
 }
 
-for program in crates/cert_bench/out/cert_bench "$work/plain"; do
-    taken=$(($(least "$program" "$rounds") - $(least "$program" 1)))
-    echo "$(basename "$program"): $(cat "$work/text"), $((entries * rounds / taken / 1000)) million entries per second"
+for program in "crates/ipsens_bench/out/ipsens_bench certificates" "$work/plain"; do
+    read -ra command <<<"$program"
+    taken=$(($(least "${command[@]}" "$rounds") - $(least "${command[@]}" 1)))
+    echo "$(basename "${command[0]}"): $(cat "$work/text"), $((entries * rounds / taken / 1000)) million entries per second"
     echo "$taken" >>"$work/times"
 done
 awk 'NR == 1 { proved = $1 } NR == 2 { printf "time of the proved program over plain Rust: %.2f\n", proved / $1 }' "$work/times"

@@ -1,4 +1,4 @@
-// The pivots of `tableau_bench` with the same algorithms in plain Rust: `tableau ROUNDS`.
+// The pivots of `ipsens_bench tableau` with the same algorithms in plain Rust: `tableau ROUNDS`.
 mod fractions;
 
 use fractions::{Frac, Wide, div, frac, mul, sub};

@@ -6,19 +6,20 @@ rounds=${1:-1000}
 work=$(mktemp -d)
 trap 'rm -r "$work"' EXIT
 rustc --edition 2021 -O -o "$work/plain" tools/bench/tableau.rs
-(cd crates/tableau_bench && rt run -- 1 >/dev/null 2>&1)
+(cd crates/ipsens_bench && rt run -- tableau 1 >/dev/null 2>&1)
 TIMEFORMAT=%U
 
 # Milliseconds of the least of five runs.
 least() {
     for _ in 1 2 3 4 5; do
-        { time "$1" "$2" >"$work/text"; } 2>&1
+        { time "$@" >"$work/text"; } 2>&1
     done | sort -n | awk 'NR == 1 { print int($1 * 1000) }'
 }
 
-for program in crates/tableau_bench/out/tableau_bench "$work/plain"; do
-    taken=$(($(least "$program" "$((rounds + 1))") - $(least "$program" 1)))
-    echo "$(basename "$program"): checksum $(cat "$work/text"), $taken ms for $rounds pivots"
+for program in "crates/ipsens_bench/out/ipsens_bench tableau" "$work/plain"; do
+    read -ra command <<<"$program"
+    taken=$(($(least "${command[@]}" "$((rounds + 1))") - $(least "${command[@]}" 1)))
+    echo "$(basename "${command[0]}"): checksum $(cat "$work/text"), $taken ms for $rounds pivots"
     echo "$taken" >>"$work/times"
     cat "$work/text" >>"$work/sums"
 done

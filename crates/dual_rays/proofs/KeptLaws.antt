@@ -62,7 +62,7 @@ kept_from n rows (z ∷ zs) l = by (unsigned_abs z == 0) refl (kept_from (n + 1)
 pub present-ordered : (zs : List ℤ) → AreOrdered (length zs) (present zs)
 present-ordered zs = (kept_from 0 (length zs) zs (omega arith)).ordered
 
--- ---- sizes
+-- ---- absolute values
 kept_small : (n : ℕ) (zs : List ℤ) → list_any (exceeds (2 ^ 36)) zs ≡ false → AreSmall (2 ^ 36) (kept n zs)
 kept_small n [] e = λ i l. absurd (omega arith)
 kept_small n (z ∷ zs) e = let parts = neither_true (exceeds (2 ^ 36) z) (list_any (exceeds (2 ^ 36)) zs) e in

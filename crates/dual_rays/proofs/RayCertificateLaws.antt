@@ -1,4 +1,4 @@
--- How the certificate of a ray is found from the ray over the size of its first number that is not 0.
+-- How the certificate of a ray is found from the ray divided by the absolute value of its first number that is not 0.
 use Rattle.std.specs.Prelude.{◌≡◌, ℕ, zero, suc, ◌+◌, ◌*◌, ◌/◌, ◌^◌, ◌<◌, ◌≤◌, nat_lt, Bool, true, false, if◌then◌else◌, List, [], ◌∷◌,
     length, map, filter, Option, None, Some, option_map, ℤ, pos, ◌*ℤ◌, int_div, unsigned_abs}
 use Rattle.std.specs.Int.{◌∣◌}
@@ -68,7 +68,7 @@ above_none q zs e = ap (λ t. if nat_lt (2 ^ 36) q then None else option_map (ce
     by true = refl
     by false = refl
 
--- a divisor that is a multiplier's size makes no difference
+-- a divisor that is the absolute value of a multiplier makes no difference
 same_divisor : (q : ℕ) (zs : List ℤ) (i : ℕ) → i < length zs → unsigned_abs (at zs i) ≡ q →
     without_divisor (certificate_of q zs) ≡ certificate_of 0 zs
 same_divisor q zs i l e = by (list_any (exceeds (2 ^ 36)) zs) refl (nat_lt (2 ^ 36) q) refl
@@ -141,7 +141,7 @@ module _ (xs : List Fraction) (s : Rational) (e : first_size (values xs) ≡ Som
       ap unsigned_abs (get_or-map (multiple q) rs k (of (pos 0)) (pos 0) (in_list k l) ∙ ap (multiple q) (number_is k l))
           ∙ unsigned_abs-mul r.numerator (pos (q / suc r.less))
 
-  -- a quotient that is wide makes a multiplier that passes the limit
+  -- a wide quotient makes a multiplier that exceeds the limit
   pub wide-ray : AreQuotients ps s None → None ≡ certificate_of_ray xs
   wide-ray (k, l, wide) = sym (ap (certificate_of 0) same_multiples ∙ above_none 0 (multiples rs) (by wide))
     where

@@ -48,7 +48,7 @@ minus_one_top : ((of (negsuc 0)).numerator ≡ negsuc 0) × ((of (negsuc 0)).les
 unfolding of over gcd
 minus_one_top = (refl, refl)
 
--- a number over its own size is 1 or -1
+-- a number over its own absolute value is 1 or -1
 unit : (p : Rational) → p.numerator ≢ pos 0 → (unsigned_abs (quotient p (absolute p)).numerator ≡ 1) × ((quotient p (absolute p)).less ≡ 0)
 unit p n = by (sign_of p.numerator)
   where
@@ -73,7 +73,7 @@ down_size : (t : ℤ) (e : ℕ) → t <ℤ pos 0 → pos (unsigned_abs (t *ℤ p
 down_size (pos n) e h = absurd (omega (arith, ints))
 down_size (negsuc n) e h = omega (arith, ints)
 
--- the size of a multiple is the multiple of the size
+-- the absolute value of a multiple is the multiple of the absolute value
 size-multiple : (q : ℕ) (p : Rational) → suc p.less ∣ q → of (pos (unsigned_abs (multiple q p))) ≡ mul (of (pos q)) (absolute p)
 size-multiple q p d = by (sign_of p.numerator)
   where
@@ -92,7 +92,7 @@ map_same f f' g g' h [] e = refl
 map_same f f' g g' h (p ∷ ps) e = ap (λ z. z ∷ map f (map g (map h ps))) (e 0 (omega arith))
     ∙ ap (λ zs. f' (g' p) ∷ zs) (map_same f f' g g' h ps (λ k l. e (suc k) (omega arith)))
 
--- what divides two numbers with a common factor, and is prime to what is left of them, divides the factor
+-- what divides two numbers with a common factor, and is coprime to the cofactors, divides the factor
 common_factor : (d t b e : ℕ) → gcd t b ≡ 1 → 0 < e → d ∣ t * e → d ∣ b * e → d ∣ e
 common_factor d t b e one positive first second =
     let all : gcd (e * t) (e * b) ≡ e = gcd-mul e t b positive ∙ ap (λ n. e * n) one ∙ omega arith in
@@ -157,7 +157,7 @@ module _ (ps : List Rational) (i : ℕ) (l : i < length ps) (n : (number_at ps i
       ((var 0 ⊗ var 1) ⊗ (var 2 ⊗ (var 3 ⊗ var 4))) (var 2 ⊗ (var 0 ⊗ var 3)) refl (size-inverse (number_at ps i) n, tt)
       ∙ ap (mul (of (pos q))) (sym second) ∙ sym (of_mul (pos q) (multiple Q p)))
 
-  -- the multiple of the number itself is the denominator in size
+  -- the absolute value of the number's own multiple is the denominator
   pub unit-multiple : unsigned_abs (at (multiples rs) i) ≡ q
   unit-multiple =
       let r = quotient (number_at ps i) s in
@@ -207,7 +207,7 @@ module _ (ps : List Rational) (i : ℕ) (l : i < length ps) (n : (number_at ps i
       subst (λ z. 0 < z) (sym (unsigned_abs-mul p.numerator (pos e))) (positive_both (unsigned_abs p.numerator) e
           (size_positive p.numerator n) right)
 
-  -- the least whole multiple of a ray is that of its numbers over the size of one of them
+  -- the least whole multiple of a ray is that of its numbers over the absolute value of one of them
   pub primitive-unit : primitive (multiples ps) ≡ multiples rs
   primitive-unit = primitive-same w q (multiples ps) (multiples rs) w_positive (denominator-positive rs)
       (map_same (λ z. pos w *ℤ z) (λ z. pos q *ℤ z) (multiple q) (multiple (common_denominator ps)) (λ p. quotient p s) ps in_proportion)

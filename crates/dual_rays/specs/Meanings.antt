@@ -1,4 +1,4 @@
--- What the certificates of prices and of rays are, in terms of the multipliers that they are made of.
+-- What the certificates of dual prices and of dual rays mean, in terms of the prices and the ray.
 use Rattle.std.specs.Prelude.{◌≡◌, ◌≢◌, ℕ, ◌<◌, List, length, Some, ℤ, pos, ◌≤ℤ◌, ◌<ℤ◌, unsigned_abs}
 use Rattle.std.specs.Int.{◌∣◌}
 use Rattle.ip_defs.specs.Boxes.{IsOpen}
@@ -33,27 +33,27 @@ pub record IsOfPrices (xs : List Fraction) (c : Cert) : Type 0 where
 abbrev pub IsPresent : List Fraction → Type 0
 IsPresent xs = (k : ℕ) × (k < length xs) × (numbers_of xs k ≢ of (pos 0))
 
--- a certificate of a ray: q is 0, and its multipliers are a positive multiple of the ray's numbers, whole and without a common divisor
+-- a certificate of a ray: q is 0, and its multipliers are a positive multiple of the ray's numbers, whole and with no common divisor
 pub record IsOfRay (xs : List Fraction) (c : Cert) : Type 0 where
   pub certificate : IsCert (length xs) c
   pub zero : c.q ≡ pos 0
   pub multipliers : (a : Rational) × (pos 0 <ℤ a.numerator) × AreMultiples c (length xs) a (numbers_of xs)
   pub lowest : (n : ℕ) → IsPresent xs → ((k : ℕ) → k < length xs → n ∣ unsigned_abs (coefficient c.y k)) → n ≡ 1
 
--- where no column of a box is empty, a certificate bounds by the dual value of the prices, rounded up
+-- over a box without an empty column, the leaf bound of the certificate is the dual value of the prices, rounded up
 abbrev pub BoundsByPrices : List Fraction → Cert → Type 0
 BoundsByPrices xs c = (m : Parts) (b : List (ℤ × ℤ)) (g : Rational) → length m.rows ≡ length xs → length b ≡ length m.columns → IsOpen b →
     dual m b (of (pos 1)) (numbers_of xs) ≡ Some g → leaf_bound m b c ≡ At (rounded_up g)
 
--- a certificate leaves no point where the dual value of the ray is positive
+-- over a box where the dual value of the ray is positive, the leaf bound of the certificate is infinite
 abbrev pub BoundsByRay : List Fraction → Cert → Type 0
 BoundsByRay xs c = (m : Parts) (b : List (ℤ × ℤ)) (g : Rational) → length m.rows ≡ length xs → length b ≡ length m.columns →
     dual m b (of (pos 0)) (numbers_of xs) ≡ Some g → pos 0 <ℤ g.numerator → leaf_bound m b c ≡ Infinite
 
--- no certificate within the limits has multipliers that are its positive q times the prices
+-- no certificate within the limits has a positive q and as multipliers q times the prices
 abbrev pub HasNoCertificate : List Fraction → Type 0
 HasNoCertificate xs = (c : Cert) → IsCert (length xs) c → pos 0 <ℤ c.q → ¬ AreMultiples c (length xs) (of c.q) (numbers_of xs)
 
--- no certificate within the limits has multipliers that are a positive multiple of the ray
+-- no certificate within the limits has as multipliers a positive multiple of the ray
 abbrev pub HasNoRay : List Fraction → Type 0
 HasNoRay xs = (c : Cert) (a : Rational) → IsCert (length xs) c → pos 0 <ℤ a.numerator → ¬ AreMultiples c (length xs) a (numbers_of xs)

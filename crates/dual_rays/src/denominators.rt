@@ -6,7 +6,7 @@ ghost use Rattle.dual_rays.specs.Multiples.{lcm, common_denominator};
 
 use frac128::{Frac, gcd};
 
-/// The greatest size of a certificate's numbers.
+/// The greatest absolute value of a certificate's numbers.
 pub const LARGEST: u128 = 1 << 36;
 
 /// The denominator of a fraction.
@@ -27,7 +27,7 @@ fn product(a: u128, b: u128) -> u128
     a * b
 }
 
-/// The least common multiple of a denominator and a number within the limit, where it is within the limit too.
+/// The least common multiple of a denominator and a number within the limit, none where it exceeds the limit.
 fn common(a: u128, b: u128) -> Option<u128>
     requires first { 0 < a }
     requires second { 0 < b }
@@ -45,7 +45,7 @@ fn common(a: u128, b: u128) -> Option<u128>
     }
 }
 
-/// The least common denominator, where it is within the limit.
+/// The least common denominator, none where it exceeds the limit.
 pub fn least_denominator(prices: &[Frac]) -> Option<u128>
     ensures { result ≡ divisor_of (common_denominator (values prices.now)) }
 {

@@ -1,7 +1,7 @@
 //! Certificates with whole numbers from dual prices and from rays, which are fractions.
 //!
-//! A linear program over a node answers with a price for each row, or with a ray. [`cert_of_prices`] and [`cert_of_ray`] make
-//! certificates of them that bound the node alike, where their numbers are within the limit.
+//! The linear program of a node has an optimal dual solution, a price for each row, or a dual ray. [`cert_of_prices`] and
+//! [`cert_of_ray`] turn these into certificates with the same bound, where the whole numbers stay within the limit.
 #![tactic(auto)]
 
 mod denominators;

@@ -1,4 +1,4 @@
-//! The multipliers of rows: whole multiples of fractions.
+//! The multipliers of rows: fractions times a common multiple of their denominators.
 ghost use Rattle.std.specs.Prelude.{◌≡◌, ◌^◌, ◌≤◌, ◌++◌, ◌∷◌, [], filter, length, map, IfOk, OnOk};
 ghost use Rattle.frac128.specs.Values.{value_of};
 ghost use Rattle.dual_rays.specs.Certificates.{is_present, multiplier_of, multipliers_of, values};
@@ -9,7 +9,7 @@ use frac128::Frac;
 use ip_defs::{Memory, Multipliers};
 use std::alloc::{AllocError, Global};
 
-/// A multiple of a fraction, where it is within the limit.
+/// A fraction times a multiple of its denominator, none where that exceeds the limit.
 fn multiplier(q: u128, x: Frac) -> Option<i64>
     requires { q ≤ 2 ^ 36 }
     ensures { result ≡ multiplier_of (multiple q (value_of x)) }
@@ -21,7 +21,7 @@ fn multiplier(q: u128, x: Frac) -> Option<i64>
     }
 }
 
-/// Adds a multiplier of a row, unless it is 0.
+/// Appends the multiplier of a row, unless it is 0.
 fn add(y: &mut Multipliers, row: u32, multiple: i64) -> Result<(), AllocError>
     ensures { OnOk result (y.new ≡ y.old ++ filter is_present ((row, multiple) ∷ [])) }
 {
@@ -31,7 +31,7 @@ fn add(y: &mut Multipliers, row: u32, multiple: i64) -> Result<(), AllocError>
     y.push((row, multiple))
 }
 
-/// The multiples of fractions by row, those of 0 left out, where each is within the limit.
+/// The multiples of the fractions by row, without zeros; none where one of them exceeds the limit.
 pub fn multipliers(alloc: Global, q: u128, prices: &[Frac]) -> Result<Option<Multipliers>, Memory>
     requires limit { q ≤ 2 ^ 36 }
     requires size { length prices.now ≤ 1024 }

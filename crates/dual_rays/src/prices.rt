@@ -1,4 +1,4 @@
-//! The certificate of the prices of rows.
+//! The certificate of dual prices.
 ghost use Rattle.std.specs.Prelude.{◌≡◌, ◌≤◌, length, IfOk, IfNone, IfSome};
 ghost use Rattle.dual_rays.specs.Certificates.{certificate_of_prices};
 ghost use Rattle.dual_rays.specs.Meanings.{IsOfPrices, BoundsByPrices, HasNoCertificate};
@@ -10,7 +10,7 @@ use ip_defs::{Cert, Memory};
 use lp_duality::Fracs;
 use std::alloc::Global;
 
-/// The certificate of prices, with its exact answer.
+/// The certificate of fractions over their least common denominator.
 pub fn certificate(alloc: Global, prices: &[Frac]) -> Result<Option<Cert>, Memory>
     requires { length prices.now ≤ 1024 }
     ensures { IfOk result (λ c. c ≡ certificate_of_prices prices.now) }
@@ -25,8 +25,9 @@ pub fn certificate(alloc: Global, prices: &[Frac]) -> Result<Option<Cert>, Memor
     }
 }
 
-/// The certificate of dual prices, one for each row. Its divisor is their least common denominator, and the multiplier of a row is that
-/// many times its price; rows with the price 0 are left out. `None` comes exactly where the divisor or a multiplier passes 2^36 in size.
+/// The certificate of dual prices, one for each row. Its divisor is their least common denominator, and the multiplier of a row is the
+/// divisor times its price; rows with the price 0 are left out. `None` is the answer exactly where the divisor or a multiplier exceeds
+/// 2^36 in absolute value. The only error is out of memory.
 ///
 /// Over a box without an empty column its leaf bound is the dual value of the prices, rounded up.
 pub fn cert_of_prices(alloc: Global, prices: &Fracs) -> Result<Option<Cert>, Memory>

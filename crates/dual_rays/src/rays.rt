@@ -1,4 +1,4 @@
-//! The certificate of a ray.
+//! The certificate of a dual ray.
 ghost use Rattle.std.specs.Prelude.{◌≡◌, ◌≢◌, ◌≤◌, length, pos, IfOk, IfNone, IfSome, MatchOption, option_map};
 ghost use Rattle.frac128.specs.Values.{value_of};
 ghost use Rattle.frac128.specs.Rationals.{quotient};
@@ -12,7 +12,7 @@ use ip_defs::{Cert, Memory, Multipliers};
 use lp_duality::Fracs;
 use std::alloc::Global;
 
-/// The size of the first number that is not 0.
+/// The absolute value of the first number that is not 0.
 fn first_size(ray: &[Frac]) -> Option<Frac>
     ensures value { option_map value_of result ≡ first_size_of (values ray.now) }
     ensures present { IfSome result (λ x. x.num ≢ pos 0) }
@@ -25,7 +25,7 @@ fn first_size(ray: &[Frac]) -> Option<Frac>
     None
 }
 
-/// A quotient, where it is not wide.
+/// A quotient, none where it is wide.
 fn over(x: Frac, size: Frac) -> Option<Frac>
     requires { size.num ≢ pos 0 }
     ensures { MatchOption result (IsWide (quotient (value_of x) (value_of size))) (λ r. value_of r ≡ quotient (value_of x) (value_of size)) }
@@ -37,7 +37,7 @@ fn over(x: Frac, size: Frac) -> Option<Frac>
     }
 }
 
-/// Each number divided by another one, where no quotient is wide.
+/// Each number divided by the same divisor, none where a quotient is wide.
 fn quotients(alloc: Global, ray: &[Frac], size: Frac) -> Result<Option<Fracs>, Memory>
     requires { size.num ≢ pos 0 }
     ensures { IfOk result (AreQuotients (values ray.now) (value_of size)) }
@@ -52,8 +52,8 @@ fn quotients(alloc: Global, ray: &[Frac], size: Frac) -> Result<Option<Fracs>, M
     Ok(Some(quotients))
 }
 
-/// The certificate of a ray, with its exact answer: the numbers over the size of the first that is not 0 have their least whole multiple
-/// at their least common denominator, which is then the size of a multiplier.
+/// The certificate of a ray. Its numbers are first divided by the absolute value of the first that is not 0: the quotients have their
+/// least whole multiple at their least common denominator, which is then the absolute value of a multiplier.
 fn ray_certificate(alloc: Global, ray: &[Frac]) -> Result<Option<Cert>, Memory>
     requires { length ray.now ≤ 1024 }
     ensures { IfOk result (λ c. c ≡ certificate_of_ray ray.now) }
@@ -77,8 +77,9 @@ fn ray_certificate(alloc: Global, ray: &[Frac]) -> Result<Option<Cert>, Memory>
     }
 }
 
-/// The certificate of a ray, one number for each row. Its divisor is 0, and its multipliers are the least whole multiple of the ray, a
-/// positive one without a common divisor; rows with 0 are left out. `None` comes exactly where a multiplier passes 2^36 in size.
+/// The certificate of a dual ray, one number for each row, not all 0. Its divisor is 0, and its multipliers are the least positive
+/// multiple of the ray in whole numbers, which have no common divisor; rows with 0 are left out. `None` is the answer exactly where a
+/// multiplier exceeds 2^36 in absolute value. The only error is out of memory.
 ///
 /// Over a box where the dual value of the ray is positive its leaf bound is infinite.
 pub fn cert_of_ray(alloc: Global, ray: &Fracs) -> Result<Option<Cert>, Memory>

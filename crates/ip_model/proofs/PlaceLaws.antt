@@ -9,11 +9,11 @@ use Rattle.ip_defs.specs.declared.programs.Column.{Column}
 use Rattle.ip_defs.specs.declared.programs.Parts.{Parts}
 use Rattle.ip_defs.specs.declared.programs.Breach.TheVariants as Broken
 
--- what is read of a list stands in it
+-- what is read from a list is an element of it
 pub read_at : {A : Type 0} (xs ys : List A) (i : ℕ) (x : A) → ys ≡ xs → i < length ys → x ≡ get_or ys i x → slice_get xs i ≡ Some x
 read_at xs ys i x same l is = ap (λ zs. slice_get zs i) (sym same) ∙ slice_get_read ys (length ys) i x refl l is
 
--- the sides of a column by its number
+-- the bounds of a column by its number
 pub side_at : (m : Parts) (j : ℕ) (c : Column) → slice_get m.columns j ≡ Some c → get_or (box_of m) j (pos 0, pos 0) ≡ (c.lo, c.hi)
 side_at m j c found = get_or_from_slice_get (box_of m) j (c.lo, c.hi) (pos 0, pos 0)
     (slice_get-map (λ (c : Column). (c.lo, c.hi)) m.columns j
@@ -24,7 +24,7 @@ pub cost_of_column : (m : Parts) (j : ℕ) (c : Column) → slice_get m.columns 
 cost_of_column m j c found = get_or_from_slice_get (costs_of m) j c.cost (pos 0) (slice_get-map (λ (c : Column). c.cost) m.columns j
     ∙ ap (λ (o : Option Column). option_map (λ (c : Column). c.cost) o) found)
 
--- the breach of a column from its sides and the coordinate
+-- the breach of a column from its bounds and the coordinate
 pub column_breach_is : (m : Parts) (x : List ℤ) (j : ℕ) (c : Column) (v : ℤ) → slice_get m.columns j ≡ Some c → v ≡ at x j →
     column_breach (box_of m) x j ≡ (if lt_z v c.lo || lt_z c.hi v then Some (Broken.Column j) else None)
 column_breach_is m x j c v found is =

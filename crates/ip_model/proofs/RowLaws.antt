@@ -1,6 +1,29 @@
--- Coefficients, one more at a time.
-use Rattle.std.specs.Prelude.{◌≡◌, ◌≢◌, ℕ, zero, suc, ◌+◌, ◌<◌, ◌≤◌, ◌==◌, Bool, true, false, cond, List, [], ◌∷◌, ◌++◌, length, take, ℤ,
-    pos, ◌+ℤ◌, unsigned_abs}
+-- The coefficients of a row, one more at a time.
+use Rattle.std.specs.Prelude.{
+  ◌≡◌,
+  ◌≢◌,
+  ℕ,
+  zero,
+  suc,
+  ◌+◌,
+  ◌<◌,
+  ◌≤◌,
+  ◌==◌,
+  Bool,
+  true,
+  false,
+  cond,
+  List,
+  [],
+  ◌∷◌,
+  ◌++◌,
+  length,
+  take,
+  ℤ,
+  pos,
+  ◌+ℤ◌,
+  unsigned_abs,
+}
 use Rattle.std.proofs.Common.{arith, refl, ap, sym, ◌∙◌, get_or, add-one}
 use Rattle.std.proofs.lemmas.Bool.{eqb-true}
 use Rattle.std.proofs.lemmas.Int.{ints}
@@ -20,12 +43,12 @@ coefficient-append (p ∷ ps) qs j = append_step (p.0 == j) p.1 _ _ _ (coefficie
 none_step : (a j : ℕ) (x y : ℤ) → a ≢ j → x ≡ pos 0 → cond (a == j) y x ≡ pos 0
 none_step a j x y apart e = grind (arith, common_steps)
 
--- no coefficient, where no place has the column
+-- the coefficient is 0 where the column is not listed
 pub coefficient_none : (ps : List (ℕ × ℤ)) (j : ℕ) → ((i : ℕ) → i < length ps → index_at ps i ≢ j) → coefficient ps j ≡ pos 0
 coefficient_none [] j h = refl
 coefficient_none (p ∷ ps) j h = none_step p.0 j _ _ (h 0 (omega arith)) (coefficient_none ps j (λ i l. h (suc i) (omega arith)))
 
--- the column at a place has no coefficient before it
+-- the column at an index has no coefficient before it
 pub fresh : (ps : List (ℕ × ℤ)) (i : ℕ) → ((h k : ℕ) → h < k → k < length ps → index_at ps h < index_at ps k) → i < length ps →
     coefficient (take i ps) (index_at ps i) ≡ pos 0
 fresh ps i rising l = coefficient_none (take i ps) (index_at ps i) (λ k small same.
@@ -45,7 +68,7 @@ coefficient_more ps i j l = rw (take_more ps i (0, pos 0) l, coefficient-append)
     by true = omega (arith, ints)
     by false = refl
 
--- a coefficient of a row in order is no larger than all are
+-- the absolute value of a coefficient is at most what all of them keep to
 pub coefficient_small : (n s : ℕ) (ps : List (ℕ × ℤ)) (j i : ℕ) → AreOrdered n ps → AreSmall s ps → i ≤ length ps →
     unsigned_abs (coefficient (take i ps) j) ≤ s
 coefficient_small n s ps j zero ordered few l = omega arith
@@ -59,13 +82,13 @@ coefficient_small n s ps j (suc i) ordered few l = by (index_at ps i == j) refl 
         let none' : coefficient (take i ps) j ≡ pos 0 = ap (coefficient (take i ps)) (sym same) ∙ none in
         let more = coefficient_more ps i j (omega arith) in
         let more' : coefficient (take (i + 1) ps) j ≡ coefficient (take i ps) j +ℤ value_at ps i = more
-                ∙ ap (λ t. coefficient (take i ps) j +ℤ cond t (value_at ps i) (pos 0)) e in
+        ∙ ap (λ t. coefficient (take i ps) j +ℤ cond t (value_at ps i) (pos 0)) e in
         let small = few i (omega arith) in
         let total : coefficient (take (i + 1) ps) j ≡ value_at ps i = omega (arith, ints) in
         rw (← add-one) (rw total small)
     by false e before =
         let more = coefficient_more ps i j (omega arith) in
         let more' : coefficient (take (i + 1) ps) j ≡ coefficient (take i ps) j +ℤ pos 0 = more
-                ∙ ap (λ t. coefficient (take i ps) j +ℤ cond t (value_at ps i) (pos 0)) e in
+        ∙ ap (λ t. coefficient (take i ps) j +ℤ cond t (value_at ps i) (pos 0)) e in
         let total : coefficient (take (i + 1) ps) j ≡ coefficient (take i ps) j = omega (arith, ints) in
         rw (← add-one) (rw total before)

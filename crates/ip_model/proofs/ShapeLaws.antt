@@ -7,7 +7,7 @@ use Rattle.ip_defs.specs.declared.programs.Column.{Column}
 use Rattle.ip_defs.specs.declared.programs.Row.{Row}
 use Rattle.ip_defs.specs.declared.programs.Parts.{Parts}
 
--- the rows below a place are well shaped
+-- the rows below an index are well shaped
 abbrev pub AreShapedBelow : ℕ → List Row → ℕ → Type 0
 AreShapedBelow columns rows i = (k : ℕ) → k < i → (r : Row) → slice_get rows k ≡ Some r → IsRowShaped columns r
 

@@ -1,6 +1,31 @@
--- A row's value from its coefficients alone, one at a time.
-use Rattle.std.specs.Prelude.{◌≡◌, ◌≢◌, ℕ, zero, suc, ◌+◌, ◌<◌, ◌≤◌, ◌==◌, Bool, true, false, cond, List, [], ◌∷◌, ◌++◌, length, take,
-    nat_lt, ℤ, pos, ◌+ℤ◌, ◌*ℤ◌, ◌^◌}
+-- The value of a row from its listed coefficients alone, one more at a time.
+use Rattle.std.specs.Prelude.{
+  ◌≡◌,
+  ◌≢◌,
+  ℕ,
+  zero,
+  suc,
+  ◌+◌,
+  ◌<◌,
+  ◌≤◌,
+  ◌==◌,
+  Bool,
+  true,
+  false,
+  cond,
+  List,
+  [],
+  ◌∷◌,
+  ◌++◌,
+  length,
+  take,
+  nat_lt,
+  ℤ,
+  pos,
+  ◌+ℤ◌,
+  ◌*ℤ◌,
+  ◌^◌,
+}
 use Rattle.std.specs.Int.{w64}
 use Rattle.std.specs.Int.RustNames.{unsigned_abs}
 use mir.Val.{SFits}
@@ -26,7 +51,7 @@ sum_over_more f xs i d l =
     let more = ap (sum_over f) (take_more xs i d l) ∙ sum_over-append f (take i xs) (get_or xs i d ∷ []) in
     omega (arith, ints)
 
--- a value at one place, and 0 elsewhere
+-- a sum whose terms are 0 but at one index
 abbrev lone : ℕ → ℤ → ℕ → ℤ
 lone a v j = cond (a == j) v (pos 0)
 
@@ -58,7 +83,7 @@ lone_within a v x (suc n) l = by (a == n) refl (λ h. lone_within a v x n h)
         let none : pos 0 *ℤ at x n ≡ pos 0 = omega (arith, ints) in
         omega (arith, ints)
 
--- the place is below the end, or what stands there is 0
+-- the index is below the end, or the coordinate there is 0
 lone_sum : (a : ℕ) (v : ℤ) (x : List ℤ) → sum_below (λ j. lone a v j *ℤ at x j) (length x) ≡ v *ℤ at x a
 lone_sum a v x = by (nat_lt a (length x)) refl
   where
@@ -82,12 +107,12 @@ row_walk (p ∷ ps) x =
     let each : (j : ℕ) → j < length x → coefficient (p ∷ ps) j *ℤ at x j ≡ lone p.0 p.1 j *ℤ at x j +ℤ coefficient ps j *ℤ at x j = λ j l.
     ap (λ z. z *ℤ at x j) (apart_of (p.0 == j) p.1 (coefficient ps j)) ∙ add_mul (lone p.0 p.1 j) (coefficient ps j) (at x j) in
     let same = sum_same (λ j. coefficient (p ∷ ps) j *ℤ at x j) (λ j. lone p.0 p.1 j *ℤ at x j
-            +ℤ coefficient ps j *ℤ at x j) (length x) each in
+    +ℤ coefficient ps j *ℤ at x j) (length x) each in
     let split = sum_add (λ j. lone p.0 p.1 j *ℤ at x j) (λ j. coefficient ps j *ℤ at x j) (length x) in
     let first = lone_sum p.0 p.1 x in
     omega (arith, ints)
 
--- a place is at most the number there, where numbers rise
+-- an index is at most the number there, where numbers increase
 pub place_below : (ps : List (ℕ × ℤ)) (i : ℕ) → ((h k : ℕ) → h < k → k < length ps → index_at ps h < index_at ps k) → i < length ps →
     i ≤ index_at ps i
 place_below ps zero rising l = omega arith
@@ -96,6 +121,6 @@ place_below ps (suc i) rising l =
     let more = rising i (suc i) (omega arith) l in
     omega arith
 
--- a number within the limit of a coefficient fits a word
+-- a number within the limit of coefficients fits into 64 bits
 pub small_fits : (z : ℤ) → unsigned_abs z ≤ 2 ^ 40 → SFits w64 z
 small_fits z h = omega (arith, ints)

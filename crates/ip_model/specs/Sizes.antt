@@ -2,16 +2,15 @@
 use Rattle.std.specs.Prelude.{ℕ, ◌+◌, ◌/◌, ◌^◌, min, if◌then◌else◌, length, sum_by, position, Option, ℤ}
 use Rattle.std.specs.Int.{int_gap}
 use Rattle.std.specs.List.{list_any}
-use Rattle.ip_defs.specs.Program.{box_of}
+use Rattle.ip_defs.specs.Program.{box_of, is_crossed}
 use Rattle.ip_defs.specs.Certificates.{is_empty_side}
-use Rattle.ip_defs.specs.Program.{is_crossed}
 use Rattle.ip_defs.specs.declared.programs.Parts.{Parts}
 
--- how far the second side is above the first
+-- the upper bound less the lower bound, 0 where it is below
 abbrev pub width_of : ℤ × ℤ → ℕ
 width_of s = int_gap s.0 s.1
 
--- the sum of the columns' widths, 0 where some column has its upper side below its lower side
+-- the sum of the widths of the columns, 0 where a column is empty
 abbrev pub width_sum : Parts → ℕ
 width_sum m = if list_any is_empty_side (box_of m) then 0 else sum_by width_of (box_of m)
 
@@ -19,6 +18,6 @@ width_sum m = if list_any is_empty_side (box_of m) then 0 else sum_by width_of (
 abbrev pub first_crossed : Parts → Option ℕ
 first_crossed m = position is_crossed m.rows
 
--- how many nodes a tree may have where so many are asked for
+-- the number of nodes that a tree may have, where `nodes` are asked for
 abbrev pub allowance : Parts → ℕ → ℕ
 allowance m nodes = min nodes (2 ^ 24 / (length m.columns + length m.rows + 1))

@@ -10,7 +10,7 @@ use crate::IntModel;
 use ip_defs::{Area, Column, Memory};
 use std::alloc::{AllocError, Global};
 
-/// The two sides of each column.
+/// The two bounds of each column.
 fn sides_of(alloc: Global, columns: &[Column]) -> Result<Vec<(i64, i64)>, AllocError>
     ensures { IfOk result (λ v. v.items ≡ map (λ c. (c.lo, c.hi)) columns.now) }
 {
@@ -20,7 +20,7 @@ fn sides_of(alloc: Global, columns: &[Column]) -> Result<Vec<(i64, i64)>, AllocE
         .collect(alloc)
 }
 
-/// The box of a model: the two sides of each column.
+/// The box of a model: the two bounds of each column. The only error is out of memory.
 pub fn box_of(alloc: Global, model: &IntModel) -> Result<Area, Memory>
     ensures sides { IfOk result (λ b. b ≡ box_of_parts model.now) }
     ensures limits { OnOk result (IsWithinLimits model.now) }
@@ -28,7 +28,7 @@ pub fn box_of(alloc: Global, model: &IntModel) -> Result<Area, Memory>
     Ok(Area::from_vec(sides_of(alloc, model.parts().columns.as_slice())?))
 }
 
-/// Sets an area to the sides of columns.
+/// Sets a box to the bounds of the columns.
 fn set_sides(columns: &[Column], area: &mut Area)
     requires { length area.old ≡ length columns.now }
     ensures { area.new ≡ map (λ c. (c.lo, c.hi)) columns.now }
@@ -38,7 +38,7 @@ fn set_sides(columns: &[Column], area: &mut Area)
     }
 }
 
-/// Sets an area with a pair of sides for each column to the box of a model. Takes no memory.
+/// Sets a box with one pair for each column to the box of a model. Allocates nothing.
 pub fn set_box(model: &IntModel, area: &mut Area)
     requires { length area.old ≡ length model.now.columns }
     ensures sides { area.new ≡ box_of_parts model.now }
@@ -47,7 +47,7 @@ pub fn set_box(model: &IntModel, area: &mut Area)
     set_sides(model.parts().columns.as_slice(), area);
 }
 
-/// Lowers the upper side of a column to a cut, and says whether the column still has a number between its sides.
+/// Lowers the upper bound of column `j` to a cut. The answer says whether the column still has an integer between its bounds.
 #[inline]
 pub fn cut_below(area: &mut Area, j: usize, cut: i64) -> bool
     requires { j < length area.old }
@@ -60,7 +60,7 @@ pub fn cut_below(area: &mut Area, j: usize, cut: i64) -> bool
     side.0 <= high
 }
 
-/// The greater of a lower side and the number after a cut.
+/// The greater of a lower bound and the integer after a cut.
 #[inline]
 fn raised(low: i64, cut: i64) -> i64
     requires { unsigned_abs cut ≤ 2 ^ 24 }
@@ -69,7 +69,8 @@ fn raised(low: i64, cut: i64) -> i64
     low.max(cut + 1)
 }
 
-/// Raises the lower side of a column to the number after a cut, and says whether the column still has a number between its sides.
+/// Raises the lower bound of column `j` to the integer after a cut. The answer says whether the column still has an integer between
+/// its bounds.
 #[inline]
 pub fn cut_above(area: &mut Area, j: usize, cut: i64) -> bool
     requires within { j < length area.old }

@@ -1,4 +1,4 @@
-//! The first breach of a point: a column or a row that it does not meet.
+//! The first breach of a point: a column whose bounds or a row whose sides it violates.
 ghost use Rattle.std.specs.Prelude.{◌≡◌, ◌^◌, ◌≤◌, ◌↔◌, ◌||◌, if◌then◌else◌, IsNone, length, slice_get};
 ghost use Rattle.std.specs.Int.Signed.{lt_z};
 ghost use Rattle.ip_defs.specs.Lists.{first};
@@ -7,10 +7,10 @@ ghost use Rattle.ip_defs.specs.Program.{IsFeasible, box_of, row_sum};
 ghost use Rattle.ip_defs.specs.Breaches.{column_breach, is_below_side, is_above_side, row_breach, first_breach as first_breach_of};
 
 use crate::models::IntModel;
-use crate::wide::{term, total_of};
+use crate::terms::{term, total_of};
 use ip_defs::{Breach, Column, Parts, Point, Row};
 
-/// The value of a row at a point, from its coefficients alone. With at most 4,096 columns it stays below 2^115 in size.
+/// The value of a row at a point, from its coefficients alone. With at most 4,096 columns its absolute value stays below 2^115.
 fn row_value(coefs: &[(u32, i64)], point: &[i64]) -> i128
     requires ordered { AreOrdered (length point.now) coefs.now }
     requires small { AreSmall (2 ^ 40) coefs.now }
@@ -24,7 +24,7 @@ fn row_value(coefs: &[(u32, i64)], point: &[i64]) -> i128
     total
 }
 
-/// A value is below a side, where there is one.
+/// Whether a value is below a side that exists.
 fn is_below(value: i128, side: Option<i64>) -> bool
     ensures { result ≡ is_below_side value side }
 {
@@ -34,7 +34,7 @@ fn is_below(value: i128, side: Option<i64>) -> bool
     }
 }
 
-/// A value is above a side, where there is one.
+/// Whether a value is above a side that exists.
 fn is_above(value: i128, side: Option<i64>) -> bool
     ensures { result ≡ is_above_side value side }
 {
@@ -44,7 +44,7 @@ fn is_above(value: i128, side: Option<i64>) -> bool
     }
 }
 
-/// The breach of a column's sides by a coordinate.
+/// The breach of a column by a coordinate outside its bounds.
 fn breach_of_column(column: &Column, index: u32, coordinate: i64) -> Option<Breach>
     ensures { result ≡ (if lt_z coordinate column.now.lo || lt_z column.now.hi coordinate then Some (Breach.Column index) else None) }
 {
@@ -55,7 +55,7 @@ fn breach_of_column(column: &Column, index: u32, coordinate: i64) -> Option<Brea
     }
 }
 
-/// The breach of a row's sides by a point.
+/// The breach of a row by a point at which its value lies outside its sides.
 fn breach_of_row(row: &Row, index: u32, point: &[i64]) -> Option<Breach>
     requires shape { IsRowShaped (length point.now) row.now }
     requires limits { IsRow row.now }
@@ -70,7 +70,7 @@ fn breach_of_row(row: &Row, index: u32, point: &[i64]) -> Option<Breach>
     }
 }
 
-/// The first column whose sides a point breaks.
+/// The first column whose bounds a point violates.
 fn first_column(parts: &Parts, point: &[i64]) -> Option<Breach>
     requires limits { IsWithinLimits parts.now }
     requires size { length point.now ≡ length parts.now.columns }
@@ -85,7 +85,7 @@ fn first_column(parts: &Parts, point: &[i64]) -> Option<Breach>
     None
 }
 
-/// The first row whose sides a point breaks.
+/// The first row whose sides a point violates.
 fn first_row(parts: &Parts, point: &[i64]) -> Option<Breach>
     requires limits { IsWithinLimits parts.now }
     requires size { length point.now ≡ length parts.now.columns }
@@ -100,7 +100,7 @@ fn first_row(parts: &Parts, point: &[i64]) -> Option<Breach>
     None
 }
 
-/// The first broken column, else the first broken row.
+/// The first column with a breach, else the first row with one.
 fn breach_at(parts: &Parts, point: &[i64]) -> Option<Breach>
     requires limits { IsWithinLimits parts.now }
     requires size { length point.now ≡ length parts.now.columns }
@@ -112,7 +112,7 @@ fn breach_at(parts: &Parts, point: &[i64]) -> Option<Breach>
     }
 }
 
-/// The first sides that a point with one coordinate for each column breaks: columns before rows, each by number. None comes exactly
+/// The first breach of a point with one coordinate for each column: columns before rows, each by number. None is the answer exactly
 /// where the point is feasible.
 pub fn first_breach(model: &IntModel, point: &Point) -> Option<Breach>
     requires { length point.now ≡ length model.now.columns }

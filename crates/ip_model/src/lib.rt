@@ -1,22 +1,26 @@
-//! Integer programs within their limits, their points and their costs.
+//! Models, which are integer programs within their limits: their boxes, points and costs.
 #![tactic(auto)]
 
+mod allowances;
 mod areas;
 mod breaches;
 mod costs;
+mod crossed_rows;
 mod limits;
 mod models;
 mod shapes;
-mod sizes;
+mod terms;
 #[cfg(test)]
 mod tests;
-mod wide;
+mod widths;
 
+pub use allowances::allowance;
 pub use areas::{box_of, cut_above, cut_below, set_box};
 pub use breaches::first_breach;
 pub use costs::cost;
+pub use crossed_rows::crossed;
 pub use ip_defs::{Breach, Column, Limit, Memory, Name, Parts, Point, Row, What};
 pub use models::{IntModel, make};
 pub use shapes::well_shaped;
-pub use sizes::{allowance, crossed, width_sum};
-pub use wide::total_of;
+pub use terms::total_of;
+pub use widths::width_sum;

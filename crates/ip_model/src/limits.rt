@@ -17,24 +17,24 @@ const MOST_ROWS: usize = 1_024;
 /// The most coefficients in all rows.
 const MOST_ENTRIES: usize = 200_000;
 
-/// The greatest size of a cost or a coefficient.
+/// The greatest absolute value of a cost or a coefficient.
 const LARGEST_COST: u64 = 1 << 40;
 
-/// The greatest size of a side of a column.
+/// The greatest absolute value of a bound of a column.
 const LARGEST_BOUND: u64 = 1 << 24;
 
-/// The greatest size of a side of a row and of the constant.
+/// The greatest absolute value of a side of a row and of the constant.
 const LARGEST_SIDE: u64 = 1 << 62;
 
-/// A name above 255 bytes.
+/// Whether a name has more than 255 bytes.
 fn is_long_name(name: &Name) -> bool
     ensures { result ≡ is_long name.now }
 {
     name.as_str().len() > 255
 }
 
-/// A side, where there is one, that is above its size.
-fn is_above_side(side: Option<i64>) -> bool
+/// Whether a row has this side and its absolute value exceeds the limit.
+fn is_large_side(side: Option<i64>) -> bool
     ensures { result ≡ option_map_or (exceeds (2 ^ 62)) side false }
 {
     match side {
@@ -43,7 +43,7 @@ fn is_above_side(side: Option<i64>) -> bool
     }
 }
 
-/// A row with a coefficient that is above its size.
+/// Whether the absolute value of a coefficient exceeds the limit.
 fn has_large_coef(coefs: &[(u32, i64)]) -> bool
     ensures { result ≡ list_any (λ c. exceeds (2 ^ 40) c.1) coefs.now }
 {
@@ -52,7 +52,7 @@ fn has_large_coef(coefs: &[(u32, i64)]) -> bool
         .any(|entry| entry.1.unsigned_abs() > LARGEST_COST)
 }
 
-/// The first limit that a column passes.
+/// The first limit that a column exceeds.
 fn column_limit(column: &Column, index: u32) -> Option<Limit>
     ensures { result ≡ first_of (column_limits (index, column.now)) }
 {
@@ -83,7 +83,7 @@ fn column_limit(column: &Column, index: u32) -> Option<Limit>
     None
 }
 
-/// The first limit that a row passes.
+/// The first limit that a row exceeds.
 fn row_limit(row: &Row, index: u32) -> Option<Limit>
     ensures { result ≡ first_of (row_limits (index, row.now)) }
 {
@@ -99,7 +99,7 @@ fn row_limit(row: &Row, index: u32) -> Option<Limit>
             index,
         });
     }
-    if is_above_side(row.low) || is_above_side(row.high) {
+    if is_large_side(row.low) || is_large_side(row.high) {
         return Some(Limit {
             what: What::Side,
             index,
@@ -108,7 +108,7 @@ fn row_limit(row: &Row, index: u32) -> Option<Limit>
     None
 }
 
-/// The first limit that the columns pass.
+/// The first limit that one of the columns exceeds.
 fn first_of_columns(columns: &[Column]) -> Option<Limit>
     requires { length columns.now ≤ 4096 }
     ensures { result ≡ first_of (flat_map column_limits (enumerate_from 0 columns.now)) }
@@ -122,7 +122,7 @@ fn first_of_columns(columns: &[Column]) -> Option<Limit>
     None
 }
 
-/// The first limit that the rows pass.
+/// The first limit that one of the rows exceeds.
 fn first_of_rows(rows: &[Row]) -> Option<Limit>
     requires { length rows.now ≤ 1024 }
     ensures { result ≡ first_of (flat_map row_limits (enumerate_from 0 rows.now)) }
@@ -136,22 +136,22 @@ fn first_of_rows(rows: &[Row]) -> Option<Limit>
     None
 }
 
-/// More coefficients than are allowed.
+/// Whether the rows have more coefficients than the limit.
 fn has_many_entries(rows: &[Row]) -> bool
     ensures { result ≡ nat_lt 200000 (sum_by (λ r. length r.coefs) rows.now) }
 {
-    let mut room = MOST_ENTRIES;
+    let mut left = MOST_ENTRIES;
     for row in rows {
         let entries = row.coefs.as_slice().len();
-        if entries > room {
+        if entries > left {
             return true;
         }
-        room -= entries;
+        left -= entries;
     }
     false
 }
 
-/// The first limit of a count that is passed: of columns, rows or coefficients.
+/// The first count that exceeds its limit: columns, rows or coefficients.
 fn count_limit(parts: &Parts) -> Option<Limit>
     ensures { result ≡ first_of (count_limits parts.now) }
 {
@@ -176,7 +176,7 @@ fn count_limit(parts: &Parts) -> Option<Limit>
     None
 }
 
-/// The first limit that is passed of the objective's name and the constant.
+/// The first limit that the objective's name or the constant exceeds.
 fn own_limit(parts: &Parts) -> Option<Limit>
     ensures { result ≡ first_of (own_limits parts.now) }
 {
@@ -195,7 +195,7 @@ fn own_limit(parts: &Parts) -> Option<Limit>
     None
 }
 
-/// The first limit that a program passes, in the order in which they are tried.
+/// The first limit that a program exceeds, in the order in which they are tested.
 pub fn first_limit(parts: &Parts) -> Option<Limit>
     ensures { result ≡ first_of (limits_of parts.now) }
 {

@@ -1,4 +1,4 @@
-//! The model: a program within its limits.
+//! Models: programs within their limits.
 ghost use Rattle.std.specs.Prelude.{◌≡◌, [], IfOk, IfErr, Some};
 ghost use Rattle.ip_defs.specs.Lists.{first_of};
 ghost use Rattle.ip_defs.specs.Limits.{IsWellShaped, IsWithinLimits, limits_of};
@@ -7,7 +7,7 @@ use crate::limits::first_limit;
 use ip_defs::{Limit, Parts};
 use std::marker::Model;
 
-/// An integer program that is well shaped and within every limit, seen as its parts.
+/// An integer program that is well shaped and within every limit. Contracts see it as its parts.
 #[derive(Debug, Drop)]
 pub struct IntModel {
     parts: Parts,
@@ -34,8 +34,8 @@ impl IntModel {
     }
 }
 
-/// The model of well shaped parts. Takes no memory. Where a limit is passed the parts are handed back with the first one in the
-/// order of `What`: the counts, the columns by number, the rows by number, and what is the program's own.
+/// Makes the model of well shaped parts. Allocates nothing. If the parts exceed a limit, the error returns them with the first such
+/// limit, in the order of `What`: the three counts, the columns by number, the rows by number, the objective's name, the constant.
 pub fn make(parts: Parts) -> Result<IntModel, (Parts, Limit)>
     requires { IsWellShaped parts }
     ensures model { IfOk result (λ m. m ≡ parts) }

@@ -4,10 +4,10 @@ ghost use Rattle.ip_defs.specs.Limits.{AreOrdered, IsRowShaped, IsWellShaped};
 
 use ip_defs::{Parts, Row};
 
-/// The most decimals that a row or the costs may have.
+/// The greatest number of decimals of a row or of the costs.
 const MOST_DECIMALS: u8 = 9;
 
-/// Whether the column numbers rise and are below a number of columns, and no coefficient is 0.
+/// Whether the column numbers increase and are below `columns`, and no coefficient is 0.
 fn are_ordered(coefs: &[(u32, i64)], columns: usize) -> bool
     ensures { IsTrue result ↔ AreOrdered columns coefs.now }
 {
@@ -22,15 +22,15 @@ fn are_ordered(coefs: &[(u32, i64)], columns: usize) -> bool
     true
 }
 
-/// Whether a row of a program with so many columns is well shaped.
+/// Whether a row of a program with `columns` columns is well shaped.
 fn is_row_shaped(row: &Row, columns: usize) -> bool
     ensures { IsTrue result ↔ IsRowShaped columns row.now }
 {
     row.decimals <= MOST_DECIMALS && are_ordered(row.coefs.as_slice(), columns)
 }
 
-/// Whether a program is well shaped: in each row the column numbers rise and are below the number of columns, no coefficient is 0,
-/// and no decimals are above 9.
+/// Whether a program is well shaped: in each row the column numbers increase and are below the number of columns, no coefficient is
+/// 0, and neither a row nor the costs have more than 9 decimals.
 pub fn well_shaped(parts: &Parts) -> bool
     ensures { IsTrue result ↔ IsWellShaped parts.now }
 {

@@ -6,7 +6,7 @@ use Rattle.std.proofs.lemmas.Int.{ints}
 use Rattle.std.proofs.Math.Nat.{add-div_right, zero-div, div-eq_of_lt}
 use Rattle.ip_defs.specs.Certificates.{ceiling}
 
--- a positive number: one less is divided, and one is added
+-- of a positive number: one less is divided, and one is added
 pub ceiling_up : (a b : ℤ) → pos 0 <ℤ a → pos 0 <ℤ b → int_div (a -ℤ pos 1) b +ℤ pos 1 ≡ ceiling a (unsigned_abs b)
 ceiling_up (pos zero) b p q = absurd (omega (arith, ints))
 ceiling_up (pos (suc a)) (pos zero) p q = absurd (omega (arith, ints))
@@ -18,7 +18,7 @@ ceiling_up (pos (suc a)) (pos (suc b)) p q =
 ceiling_up (pos (suc a)) (negsuc b) p q = absurd (omega (arith, ints))
 ceiling_up (negsuc a) b p q = absurd (omega (arith, ints))
 
--- another number
+-- of any other number
 pub ceiling_down : (a b : ℤ) → a ≤ℤ pos 0 → pos 0 <ℤ b → int_div a b ≡ ceiling a (unsigned_abs b)
 ceiling_down (pos zero) (pos zero) p q = absurd (omega (arith, ints))
 ceiling_down (pos zero) (pos (suc b)) p q = ap pos (zero-div (suc b) ∙ sym (div-eq_of_lt (omega arith)))

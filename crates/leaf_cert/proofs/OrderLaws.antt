@@ -6,12 +6,12 @@ use Rattle.std.proofs.lemmas.Bool.{eqb-true, eqb-false}
 use Rattle.ip_defs.specs.Limits.{index_at, value_at}
 use Rattle.leaf_cert.specs.Internal.Multipliers.{IsNext}
 
--- the first row that is free after so many pairs
+-- the first row that is free after i pairs
 abbrev pub least_after : List (ℕ × ℤ) → ℕ → ℕ
 least_after ps zero = 0
 least_after ps (suc i) = index_at ps i + 1
 
--- so many pairs of a list are in order and within the limit
+-- the first i pairs of a list are in order and within the limit
 pub record AreFirst (ps : List (ℕ × ℤ)) (rows count : ℕ) : Type 0 where
   pub rising : (i k : ℕ) → i < k → k < count → index_at ps i < index_at ps k
   pub within : (i : ℕ) → i < count → index_at ps i < rows
@@ -22,7 +22,7 @@ pub record AreFirst (ps : List (ℕ × ℤ)) (rows count : ℕ) : Type 0 where
 pub least_more : (ps : List (ℕ × ℤ)) (i : ℕ) → index_at ps i + 1 ≡ least_after ps (i + 1)
 least_more ps i = sym (ap (least_after ps) (add-one i))
 
--- no number before is as great as the first free row
+-- the row numbers before are below the first free row
 below_least : (ps : List (ℕ × ℤ)) (i : ℕ) → ((h k : ℕ) → h < k → k < i → index_at ps h < index_at ps k) → (h : ℕ) → h < i →
     index_at ps h < least_after ps i
 below_least ps zero rising h l = absurd (omega arith)

@@ -1,6 +1,30 @@
--- What multipliers take from costs, one multiplier at a time, and its size.
-use Rattle.std.specs.Prelude.{◌≡◌, ℕ, zero, suc, ◌+◌, ◌*◌, ◌^◌, ◌<◌, ◌≤◌, List, [], ◌∷◌, length, map, take, slice_get, Some, None, Option,
-    ℤ, pos, ◌+ℤ◌, ◌-ℤ◌, ◌*ℤ◌}
+-- The sums over the rows of multiplier times coefficient, one multiplier at a time, and bounds on them.
+use Rattle.std.specs.Prelude.{
+  ◌≡◌,
+  ℕ,
+  zero,
+  suc,
+  ◌+◌,
+  ◌*◌,
+  ◌^◌,
+  ◌<◌,
+  ◌≤◌,
+  List,
+  [],
+  ◌∷◌,
+  length,
+  map,
+  take,
+  slice_get,
+  Some,
+  None,
+  Option,
+  ℤ,
+  pos,
+  ◌+ℤ◌,
+  ◌-ℤ◌,
+  ◌*ℤ◌,
+}
 use Rattle.std.specs.Int.{int_min}
 use Rattle.std.specs.Int.RustNames.{unsigned_abs}
 use Rattle.std.proofs.Common.{arith, refl, ap, subst, add-one}
@@ -36,7 +60,7 @@ entry_small m i j limits = by (slice_get m.rows i) refl
         let shape = limits.shape.rows i r e in
         let all = take_all (length r.coefs) r.coefs (omega arith) in
         subst (λ ps. unsigned_abs (coefficient ps j) ≤ 2 ^ 40) all (coefficient_small (length m.columns) (2 ^ 40) r.coefs j
-            (length r.coefs) shape.coefs row.coefs (omega arith))
+        (length r.coefs) shape.coefs row.coefs (omega arith))
 
 costs_small : (columns : List Column) → ((j : ℕ) (c : Column) → slice_get columns j ≡ Some c → IsColumn c) → (j : ℕ) → j < length columns →
     unsigned_abs (at (map (λ c. c.cost) columns) j) ≤ 2 ^ 40
@@ -48,7 +72,7 @@ costs_small (c ∷ cs) all (suc j) within = costs_small cs (λ k d e. all (suc k
 pub cost_small : (m : Parts) (j : ℕ) → IsWithinLimits m → j < length m.columns → unsigned_abs (at (costs_of m) j) ≤ 2 ^ 40
 cost_small m j limits within = costs_small m.columns limits.columns j within
 
--- the size of what i multipliers take
+-- the absolute value of the sum over i multipliers
 pub taken_small : (m : Parts) (y : List (ℕ × ℤ)) (i j : ℕ) → IsWithinLimits m → AreSmall (2 ^ 36) y → i ≤ length y →
     unsigned_abs (taken_of m.rows (take i y) j) ≤ i * 2 ^ 76
 taken_small m y zero j limits few l = omega (arith, ints)
@@ -57,11 +81,11 @@ taken_small m y (suc i) j limits few l =
     let more = taken_more m.rows y i j (omega arith) in
     let small = few i (omega arith) in
     let product = size_of_product (value_at y i) (coefficient_of m.rows (index_at y i) j) (2 ^ 36) (2 ^ 40) small
-            (entry_small m (index_at y i) j limits) in
+    (entry_small m (index_at y i) j limits) in
     let step : unsigned_abs (taken_of m.rows (take (i + 1) y) j) ≤ (i + 1) * 2 ^ 76 = omega (arith, ints) in
     rw (← add-one) (omega (arith, step))
 
--- the size of what all multipliers take
+-- the absolute value of the sum over all multipliers
 pub taken_whole : (m : Parts) (y : List (ℕ × ℤ)) (j : ℕ) → IsWithinLimits m → AreOrdered (length m.rows) y → AreSmall (2 ^ 36) y →
     unsigned_abs (taken_of m.rows y j) ≤ 2 ^ 86
 taken_whole m y j limits ordered few =
@@ -72,7 +96,7 @@ taken_whole m y j limits ordered few =
     let small' = subst (λ ys. unsigned_abs (taken_of m.rows ys j) ≤ length y * 2 ^ 76) all small in
     omega arith
 
--- the columns' part by a list of what is taken
+-- the columns' part of the dual value, given the sums over the rows
 pub columns_same : (m : Parts) (b : List (ℤ × ℤ)) (q : ℤ) (y : List (ℕ × ℤ)) (taken : List ℤ) →
     ((j : ℕ) → j < length b → at taken j ≡ taken_of m.rows y j) → sum_below (least_part (costs_of m) q taken b) (length b)
     ≡ column_part m b q y
@@ -80,7 +104,7 @@ columns_same m b q y taken is =
     sum_same (least_part (costs_of m) q taken b) (λ j. int_min (reduced m q y j *ℤ low_at b j) (reduced m q y j *ℤ high_at b j)) (length b)
     (λ j l. ap (λ z. int_min ((q *ℤ at (costs_of m) j -ℤ z) *ℤ low_at b j) ((q *ℤ at (costs_of m) j -ℤ z) *ℤ high_at b j)) (is j l))
 
--- a total with one part more
+-- the total with one more column
 pub sum_step : (f : ℕ → ℤ) (j : ℕ) (total one more : ℤ) → total ≡ sum_below f j → one ≡ f j → more ≡ total +ℤ one →
     more ≡ sum_below f (j + 1)
 sum_step f j total one more before is e = rw add-one (omega (arith, ints))

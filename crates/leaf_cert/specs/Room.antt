@@ -1,12 +1,12 @@
--- The room that a leaf bound works in.
+-- Scratches: which models they fit.
 use Rattle.std.specs.Prelude.{◌≡◌, ℕ, length, vec_len}
 use Rattle.ip_defs.specs.declared.programs.Parts.{Parts}
-use Rattle.leaf_cert.specs.declared.room.Scratch.{Scratch}
+use Rattle.leaf_cert.specs.declared.workspaces.Scratch.{Scratch}
 
--- for how many columns a scratch has room
+-- the number of columns that a scratch has numbers for
 abbrev pub room_of : Scratch → ℕ
 room_of s = vec_len s.taken
 
--- there is room for each column of a program, and for no more
+-- a scratch fits a program: it has one number for each column
 abbrev pub FitsScratch : Parts → Scratch → Type 0
 FitsScratch m s = room_of s ≡ length m.columns

@@ -5,17 +5,17 @@ ghost use Rattle.leaf_cert.specs.Internal.Multipliers.{IsNext};
 
 use ip_defs::Cert;
 
-/// The greatest size of a certificate's numbers.
+/// The greatest absolute value of a certificate's numbers.
 const LARGEST: u64 = 1 << 36;
 
-/// Whether a multiplier may stand next, where `least` is the first row that is free.
+/// Whether a multiplier may come next in the list, where `least` is the first row that is free.
 fn is_next(least: u32, row: u32, multiplier: i64, rows: u32) -> bool
     ensures { IsTrue result ↔ IsNext least row multiplier rows }
 {
     least <= row && row < rows && multiplier != 0 && multiplier.unsigned_abs() <= LARGEST
 }
 
-/// Whether the row numbers rise and are below `rows`, and each multiplier is not 0 and within the limit.
+/// Whether the row numbers increase and are below `rows`, and each multiplier is not 0 and within the limit.
 fn multipliers_ok(y: &[(u32, i64)], rows: u32) -> bool
     ensures { IsTrue result ↔ (AreOrdered rows y.now × AreSmall (2 ^ 36) y.now) }
 {
@@ -29,8 +29,8 @@ fn multipliers_ok(y: &[(u32, i64)], rows: u32) -> bool
     true
 }
 
-/// Whether a certificate is within its limits for a number of rows: `q` lies between 0 and 2^36, the row numbers rise and are below
-/// `rows`, and each multiplier is not 0 and at most 2^36 in size.
+/// Whether a certificate is within its limits for a number of rows: `q` lies between 0 and 2^36, the row numbers increase and are below
+/// `rows`, and each multiplier is not 0 and at most 2^36 in absolute value.
 pub fn cert_ok(cert: &Cert, rows: u32) -> bool
     ensures { IsTrue result ↔ IsCert rows cert.now }
 {

@@ -1,4 +1,4 @@
-//! What the columns of a box add to a dual value.
+//! The part of a dual value that comes from the columns of a box.
 ghost use Rattle.std.specs.Prelude.{◌≡◌, ◌*◌, ◌^◌, ◌<◌, ◌≤◌, ℕ, length, pos, ◌+ℤ◌, ◌*ℤ◌, ◌-ℤ◌};
 ghost use Rattle.std.specs.Int.{int_min};
 ghost use Rattle.std.specs.Int.RustNames.{unsigned_abs};
@@ -9,11 +9,11 @@ ghost use Rattle.ip_defs.specs.Limits.{AreOrdered, AreSmall, IsWithinLimits, IsA
 ghost use Rattle.ip_defs.specs.Sums.{sum_below};
 ghost use Rattle.leaf_cert.specs.Internal.Columns.{AllSmall, taken_of, least_part};
 
-use crate::wide::{difference, product};
+use crate::arithmetic::{difference, product};
 use ip_defs::Parts;
 use ip_model::total_of;
 
-/// Whether some column has no number between its sides.
+/// Whether a column of the box is empty: it has no integer between its bounds.
 pub fn has_empty(area: &[(i64, i64)]) -> bool
     ensures { result ≡ list_any is_empty_side area.now }
 {
@@ -29,7 +29,7 @@ pub fn clear(taken: &mut [i128])
     }
 }
 
-/// A number and a product.
+/// The sum of a number and a product.
 #[inline]
 fn plus_product(total: i128, multiplier: i64, coefficient: i64) -> i128
     requires { unsigned_abs total ≤ 2 ^ 125 }
@@ -41,7 +41,7 @@ fn plus_product(total: i128, multiplier: i64, coefficient: i64) -> i128
     )
 }
 
-/// Adds a multiple of a row to numbers, one for each column.
+/// Adds a multiple of a row's coefficients to numbers, one for each column.
 fn add_row(taken: &mut [i128], coefs: &[(u32, i64)], multiplier: i64)
     requires ordered { AreOrdered (length taken.old) coefs.now }
     requires small { AllSmall (2 ^ 125) taken.old }
@@ -53,7 +53,7 @@ fn add_row(taken: &mut [i128], coefs: &[(u32, i64)], multiplier: i64)
     }
 }
 
-/// What the multipliers take from the cost of each column: it is at most 2^10 times 2^36 times 2^40 in size, which is 2^86.
+/// For each column the sum over the rows of multiplier times coefficient. Its absolute value is at most 2^10 * 2^36 * 2^40 = 2^86.
 pub fn take_rows(parts: &Parts, y: &[(u32, i64)], taken: &mut [i128])
     requires limits { IsWithinLimits parts.now }
     requires ordered { AreOrdered (length parts.now.rows) y.now }
@@ -69,7 +69,7 @@ pub fn take_rows(parts: &Parts, y: &[(u32, i64)], taken: &mut [i128])
     }
 }
 
-/// What is left of a column's cost.
+/// The reduced cost of a column, times q: q times its cost, less the sum over the rows.
 #[inline]
 fn reduced_cost(q: i64, cost: i64, taken: i128) -> i128
     requires q_small { unsigned_abs q ≤ 2 ^ 36 }
@@ -81,7 +81,7 @@ fn reduced_cost(q: i64, cost: i64, taken: i128) -> i128
     difference(product(i128::from(q), i128::from(cost)), taken)
 }
 
-/// The lesser of two products.
+/// The lesser of reduced cost times lower bound and times upper bound.
 #[inline]
 fn lesser_end(reduced: i128, low: i64, high: i64) -> i128
     requires reduced_small { unsigned_abs reduced ≤ 2 ^ 87 }
@@ -95,7 +95,7 @@ fn lesser_end(reduced: i128, low: i64, high: i64) -> i128
     below.min(above)
 }
 
-/// What the columns add at least, of which there are at most 2^12.
+/// The sum over the columns of the lesser of reduced cost times lower bound and times upper bound. There are at most 2^12 columns.
 pub fn column_sum(parts: &Parts, q: i64, taken: &[i128], area: &[(i64, i64)]) -> i128
     requires limits { IsWithinLimits parts.now }
     requires q_small { unsigned_abs q ≤ 2 ^ 36 }

@@ -6,14 +6,14 @@ ghost use Rattle.ip_defs.specs.Certificates.{IsAtMost, dual_value, box_sum, leaf
 ghost use Rattle.ip_defs.specs.Limits.{IsWithinLimits, IsCert, IsArea};
 ghost use Rattle.leaf_cert.specs.Room.{FitsScratch, room_of};
 
+use crate::arithmetic::{ceil_div, product};
 use crate::columns::{clear, column_sum, has_empty, take_rows};
 use crate::payments::paid;
-use crate::room::Scratch;
-use crate::wide::{ceil_div, product};
+use crate::workspaces::Scratch;
 use ip_defs::{Area, Bound, Cert, Parts};
 use ip_model::{IntModel, total_of};
 
-/// The constant, q times.
+/// The constant times q.
 fn weighed(q: i64, constant: i64) -> i128
     requires q_small { unsigned_abs q ≤ 2 ^ 36 }
     requires constant_small { unsigned_abs constant ≤ 2 ^ 62 }
@@ -23,7 +23,7 @@ fn weighed(q: i64, constant: i64) -> i128
     product(i128::from(q), i128::from(constant))
 }
 
-/// What the certificate proves of q times each cost: the payments, the constant and the columns, below 2^108, 2^98 and 2^123.
+/// The dual value of the certificate over the box: payments, constant and columns, in absolute value at most 2^108, 2^98 and 2^123.
 fn dual_value_of(
     parts: &Parts,
     cert: &Cert,
@@ -49,7 +49,7 @@ fn dual_value_of(
     }
 }
 
-/// The bound with no multipliers.
+/// The sum of the box: the bound without multipliers.
 fn box_sum_of(parts: &Parts, area: &[(i64, i64)], taken: &mut [i128]) -> i128
     requires limits { IsWithinLimits parts.now }
     requires area { IsArea (length parts.now.columns) area.now }
@@ -88,11 +88,12 @@ fn bound_of(parts: &Parts, cert: &Cert, area: &[(i64, i64)], taken: &mut [i128])
     }
 }
 
-/// The bound of a leaf: each feasible point of the model that lies in the area costs at least it, and where it is infinite there is
-/// no such point. Takes no memory and leaves the box of the scratch alone.
+/// The bound of a leaf: every feasible point of the model in the box `area` costs at least this bound, and if it is infinite there is no
+/// such point. Allocates nothing, and leaves the box of the scratch as it was.
 ///
-/// It is infinite where a column of the area is empty. Where each multiplier's row has the side that it pays, a positive `q` divides
-/// the dual value, rounded up, and a ray with a positive dual value is infinite. In each other case it is the sum of the box alone.
+/// The bound is infinite where a column of the box is empty. Else, if every row has the side that its multiplier is paid for: for
+/// `q > 0` it is the dual value over `q`, rounded up, and for `q = 0` it is infinite where the dual value is positive. In all other
+/// cases it is the sum of the box.
 pub fn leaf_bound(model: &IntModel, cert: &Cert, area: &Area, scratch: &mut Scratch) -> Bound
     requires cert { IsCert (length model.now.rows) cert.now }
     requires area { IsArea (length model.now.columns) area.now }

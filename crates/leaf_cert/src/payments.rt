@@ -1,14 +1,14 @@
-//! What the multipliers of a certificate pay.
+//! The payments of a certificate: multiplier times side, for each row.
 ghost use Rattle.std.specs.Prelude.{◌≡◌, ◌^◌, ◌<◌, ◌≤◌, length, pos, ◌*ℤ◌, IfSome};
 ghost use Rattle.std.specs.Int.RustNames.{unsigned_abs};
 ghost use Rattle.ip_defs.specs.Certificates.{side_for, payment, pay};
 ghost use Rattle.ip_defs.specs.Limits.{AreOrdered, AreSmall, IsWithinLimits};
 
-use crate::wide::product;
+use crate::arithmetic::product;
 use ip_defs::{Parts, Row};
 use ip_model::total_of;
 
-/// The side that a multiplier pays.
+/// The side that a multiplier is paid for.
 fn side_of(multiplier: i64, row: &Row) -> Option<i64>
     ensures { result ≡ side_for multiplier row.now }
 {
@@ -21,7 +21,7 @@ fn side_of(multiplier: i64, row: &Row) -> Option<i64>
     }
 }
 
-/// What one multiplier pays, where its row has that side.
+/// The payment of one multiplier, none where its row does not have the side.
 fn payment_of(parts: &Parts, row: u32, multiplier: i64) -> Option<i128>
     requires limits { IsWithinLimits parts.now }
     requires within { row < length parts.now.rows }
@@ -36,7 +36,7 @@ fn payment_of(parts: &Parts, row: u32, multiplier: i64) -> Option<i128>
     }
 }
 
-/// What all multipliers pay, where each side exists. With at most 2^10 of them it is below 2^108 in size.
+/// The sum of all payments, none where one of them is none. With at most 2^10 of them its absolute value is at most 2^108.
 pub fn paid(parts: &Parts, y: &[(u32, i64)]) -> Option<i128>
     requires limits { IsWithinLimits parts.now }
     requires ordered { AreOrdered (length parts.now.rows) y.now }

@@ -3,12 +3,12 @@ ghost use Rattle.std.specs.Prelude.{◌≡◌, IfOk};
 ghost use Rattle.ip_defs.specs.Program.{box_of as box_of_parts};
 ghost use Rattle.leaf_cert.specs.Room.{FitsScratch};
 
-use crate::room::Scratch;
+use crate::workspaces::Scratch;
 use ip_defs::Memory;
 use ip_model::{IntModel, box_of};
 use std::alloc::Global;
 
-/// A scratch with the box of a model.
+/// A scratch for a model, with the model's box. The only error is out of memory.
 pub fn scratch(alloc: Global, model: &IntModel) -> Result<Scratch, Memory>
     ensures area { IfOk result (λ s. s.area ≡ box_of_parts model.now) }
     ensures fits { IfOk result (FitsScratch model.now) }

@@ -1,4 +1,4 @@
--- A ray divided by the size of its first number that is not 0.
+-- A ray divided by the absolute value of its first number that is not 0.
 use Rattle.std.specs.Prelude.{◌≡◌, ℕ, suc, ◌^◌, ◌<◌, ◌≤◌, ◌==◌, if◌then◌else◌, List, [], ◌∷◌, length, map, Option, None, Some,
     slice_index_or, pos, unsigned_abs}
 use Rattle.std.proofs.Common.{◌⊎◌}
@@ -6,20 +6,20 @@ use Rattle.frac128.specs.Fractions.{Fraction}
 use Rattle.frac128.specs.Rationals.{Rational, of, absolute, quotient}
 use Rattle.dual_rays.specs.Certificates.{values}
 
--- the size of the first number that is not 0
+-- the absolute value of the first number that is not 0
 abbrev pub first_size : List Rational → Option Rational
 first_size [] = None
 first_size (p ∷ ps) = if unsigned_abs p.numerator == 0 then first_size ps else Some (absolute p)
 
--- a part of the number has more than 127 bits
+-- the numerator or the denominator has more than 127 bits
 abbrev pub IsWide : Rational → Type 0
 IsWide p = (2 ^ 127 ≤ unsigned_abs p.numerator) ⊎ (2 ^ 127 ≤ suc p.less)
 
--- a number by its place
+-- the number at an index
 abbrev pub number_at : List Rational → ℕ → Rational
 number_at ps k = slice_index_or ps k (of (pos 0))
 
--- the quotients of numbers by another one, and none where one of them is wide
+-- the quotients of numbers by one divisor, none where one of them is wide
 abbrev pub AreQuotients : List Rational → Rational → Option (List Fraction) → Type 0
 AreQuotients ps s None = (k : ℕ) × (k < length ps) × IsWide (quotient (number_at ps k) s)
 AreQuotients ps s (Some xs) = values xs ≡ map (λ p. quotient p s) ps

@@ -1,4 +1,4 @@
--- The limits of a program that are of neither a column nor a row, in the order in which they are tried.
+-- The limits of a program as a whole, in the order in which they are tested.
 use Rattle.std.specs.Prelude.{◌^◌, nat_lt, List, ◌++◌, length, sum_by}
 use Rattle.ip_defs.specs.Limits.{exceeds, limit_at, is_long}
 use Rattle.ip_defs.specs.declared.programs.Parts.{Parts}

@@ -2,7 +2,7 @@
 use Rattle.std.specs.Prelude.{◌≢◌, ℕ, ◌^◌, ◌<◌, ◌≤◌, ℤ, pos}
 use Rattle.std.specs.Int.RustNames.{unsigned_abs}
 
--- a multiplier may stand next: its row is free and is one of the rows, and its size is within the limit
+-- a multiplier may come next: its row is free and is one of the rows, and the multiplier is not 0 and within the limit
 pub record IsNext (least row : ℕ) (multiplier : ℤ) (rows : ℕ) : Type 0 where
   pub free : least ≤ row
   pub within : row < rows

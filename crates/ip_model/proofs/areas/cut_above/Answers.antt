@@ -17,6 +17,9 @@ returns-clause-cut c =
     let read_high = to_z-of_z w64 (high_at b j) fits_high in
     let read_cut = to_z-of_z w64 cut fits_cut in
     let back : to_z w64 (of_z w64 c.raised-low.result) ≡ c.raised-low.result = omega (arith, ints) in
-    let raised : c.raised-low.result ≡ int_max (low_at b j) (cut +ℤ pos 1) = rw (c.as_slice.ensures, read_low,
-            read_cut) at c.raised-low.ensures in
+    let raised : c.raised-low.result ≡ int_max (low_at b j) (cut +ℤ pos 1) = rw (
+      c.as_slice.ensures,
+      read_low,
+      read_cut,
+    ) at c.raised-low.ensures in
     rw (c.as_slice.ensures, back, raised, read_high) at c.set.ensures

@@ -17,7 +17,7 @@ returns-clause-feasible c =
     let m = c.args.model.now in
     let x = c.args.point.now in
     let is : c.breach_at.result ≡ first_breach m x = c.breach_at.ensures
-            ∙ ap (λ (n : Parts). first_breach n c.as_slice.result.now) c.parts.ensures.parts
-            ∙ ap (λ (y : List ℤ). first_breach m y) c.as_slice.ensures in
+    ∙ ap (λ (n : Parts). first_breach n c.as_slice.result.now) c.parts.ensures.parts
+    ∙ ap (λ (y : List ℤ). first_breach m y) c.as_slice.ensures in
     let law = breaches_are_exact m x c.requires in
     (λ h. law.0 (sym is ∙ none_is c.breach_at.result h), λ h. is_none_of c.breach_at.result (is ∙ law.1 h))

@@ -16,13 +16,13 @@ returns-in-Some c =
     let j = c.loop-j.j in
     let column = c.column-item.result in
     let found : slice_get m.columns j ≡ Some column = read_at m.columns c.as_slice-column-items.result.now j column
-            c.as_slice-column-items.ensures c.loop-j-test.true c.column-item.is in
+    c.as_slice-column-items.ensures c.loop-j-test.true c.column-item.is in
     let fits : SFits w64 (at x j) = search rules in
     let here = column_breach_is m x j column (to_z w64 (of_z w64 (at x j))) found (to_z-of_z w64 (at x j) fits) in
     let same = ap length c.as_slice-column-items.ensures in
     let inside = c.loop-j-test.true in
     sym (first_here (column_breach (box_of m) x) (length m.columns) j c.in-Some.breach c.loop-j.invariant (here
-        ∙ sym c.in-Some.ensures) (omega arith))
+    ∙ sym c.in-Some.ensures) (omega arith))
 
 pub loop-j-preserved : goal.loop-j-preserved
 loop-j-preserved c =
@@ -31,7 +31,7 @@ loop-j-preserved c =
     let j = c.loop-j.j in
     let column = c.column-item.result in
     let found : slice_get m.columns j ≡ Some column = read_at m.columns c.as_slice-column-items.result.now j column
-            c.as_slice-column-items.ensures c.loop-j-test.true c.column-item.is in
+    c.as_slice-column-items.ensures c.loop-j-test.true c.column-item.is in
     let fits : SFits w64 (at x j) = search rules in
     let here = column_breach_is m x j column (to_z w64 (of_z w64 (at x j))) found (to_z-of_z w64 (at x j) fits) in
     none_more (column_breach (box_of m) x) j c.loop-j.invariant (here ∙ sym c.in-None.ensures)

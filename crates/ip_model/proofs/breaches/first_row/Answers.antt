@@ -11,16 +11,16 @@ pub breach_of_row-requires-clause-shape : goal.breach_of_row-requires-clause-sha
 breach_of_row-requires-clause-shape c =
     let m = c.args.parts.now in
     let found : slice_get m.rows c.loop-i.i ≡ Some c.row-item.result =
-            read_at m.rows c.as_slice-row-items.result.now c.loop-i.i c.row-item.result c.as_slice-row-items.ensures c.loop-i-test.true
-            c.row-item.is in
+    read_at m.rows c.as_slice-row-items.result.now c.loop-i.i c.row-item.result c.as_slice-row-items.ensures c.loop-i-test.true
+    c.row-item.is in
     subst (λ (n : ℕ). IsRowShaped n c.row-item.result) (sym c.requires.size) (c.requires.limits.shape.rows c.loop-i.i c.row-item.result
-        found)
+    found)
 
 pub breach_of_row-requires-clause-limits : goal.breach_of_row-requires-clause-limits
 breach_of_row-requires-clause-limits c =
     let m = c.args.parts.now in
     c.requires.limits.rows c.loop-i.i c.row-item.result (read_at m.rows c.as_slice-row-items.result.now c.loop-i.i c.row-item.result
-        c.as_slice-row-items.ensures c.loop-i-test.true c.row-item.is)
+    c.as_slice-row-items.ensures c.loop-i-test.true c.row-item.is)
 
 pub returns-in-Some : goal.returns-in-Some
 returns-in-Some c =
@@ -28,13 +28,13 @@ returns-in-Some c =
     let x = c.args.point.now in
     let i = c.loop-i.i in
     let found : slice_get m.rows i ≡ Some c.row-item.result =
-            read_at m.rows c.as_slice-row-items.result.now i c.row-item.result c.as_slice-row-items.ensures c.loop-i-test.true
-            c.row-item.is in
+    read_at m.rows c.as_slice-row-items.result.now i c.row-item.result c.as_slice-row-items.ensures c.loop-i-test.true
+    c.row-item.is in
     let here = ap (λ (o : Option Row). row_breach x i o) found in
     let same = ap length c.as_slice-row-items.ensures in
     let inside = c.loop-i-test.true in
     sym (first_here (λ k. row_breach x k (slice_get m.rows k)) (length m.rows) i c.in-Some.breach c.loop-i.invariant (here
-        ∙ sym c.in-Some.ensures) (omega arith))
+    ∙ sym c.in-Some.ensures) (omega arith))
 
 pub loop-i-preserved : goal.loop-i-preserved
 loop-i-preserved c =
@@ -42,7 +42,7 @@ loop-i-preserved c =
     let x = c.args.point.now in
     let i = c.loop-i.i in
     let found : slice_get m.rows i ≡ Some c.row-item.result =
-            read_at m.rows c.as_slice-row-items.result.now i c.row-item.result c.as_slice-row-items.ensures c.loop-i-test.true
-            c.row-item.is in
+    read_at m.rows c.as_slice-row-items.result.now i c.row-item.result c.as_slice-row-items.ensures c.loop-i-test.true
+    c.row-item.is in
     let here = ap (λ (o : Option Row). row_breach x i o) found in
     none_more (λ k. row_breach x k (slice_get m.rows k)) i c.loop-i.invariant (here ∙ sym c.in-None.ensures)

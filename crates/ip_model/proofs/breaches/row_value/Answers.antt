@@ -26,8 +26,10 @@ loop-column-preserved c =
     let f : ℕ × ℤ → ℤ = λ p. p.1 *ℤ at x p.0 in
     let fits : SFits w64 (value_at ps i) = small_fits (value_at ps i) (c.requires.small i c.loop-column-test.true) in
     let fits' : SFits w64 (at x (index_at ps i)) = search rules in
-    let value : c.term.result ≡ value_at ps i *ℤ at x (index_at ps i) = rw (to_z-of_z w64 (value_at ps i) fits,
-            to_z-of_z w64 (at x (index_at ps i)) fits') at c.term.ensures.value in
+    let value : c.term.result ≡ value_at ps i *ℤ at x (index_at ps i) = rw (
+      to_z-of_z w64 (value_at ps i) fits,
+      to_z-of_z w64 (at x (index_at ps i)) fits',
+    ) at c.term.ensures.value in
     let before : to_z w128 c.loop-column.total-bits ≡ sum_over f (take i ps) = c.loop-column.invariant.sum in
     let more = sum_over_more f ps i (0, pos 0) c.loop-column-test.true in
     let small = c.loop-column.invariant.small in

@@ -12,8 +12,8 @@ pub term-requires : goal.term-requires
 term-requires c =
     let m = c.args.parts.now in
     let found : slice_get m.columns c.loop-j.j ≡ Some c.column-item.result =
-            read_at m.columns c.as_slice-column-items.result.now c.loop-j.j c.column-item.result c.as_slice-column-items.ensures
-            c.loop-j-test.true c.column-item.is in
+    read_at m.columns c.as_slice-column-items.result.now c.loop-j.j c.column-item.result c.as_slice-column-items.ensures
+    c.loop-j-test.true c.column-item.is in
     let small = (c.requires.limits.columns c.loop-j.j c.column-item.result found).cost in
     omega (arith, ints)
 
@@ -35,7 +35,7 @@ loop-j-preserved c =
     let column = c.column-item.result in
     let f : ℕ → ℤ = λ k. at (costs_of m) k *ℤ at x k in
     let found : slice_get m.columns j ≡ Some column = read_at m.columns c.as_slice-column-items.result.now j column
-            c.as_slice-column-items.ensures c.loop-j-test.true c.column-item.is in
+    c.as_slice-column-items.ensures c.loop-j-test.true c.column-item.is in
     let small_cost = (c.requires.limits.columns j column found).cost in
     let back_cost : to_z w64 (of_z w64 column.cost) ≡ column.cost = omega (arith, ints) in
     let fits : SFits w64 (at x j) = search rules in

@@ -13,7 +13,9 @@ loop-row-preserved c =
     shaped_more (length c.as_slice-columns.result.now) rows i row c.loop-row.invariant found (c.if-not-is_row_shaped.ensures.0 refl)
 
 pub returns : goal.returns
-returns c =
-    (λ t. all_shaped c.args.parts.now c.as_slice-columns.result.now c.as_slice-row-items.result.now c.loop-row.row-index
-        c.as_slice-columns.ensures c.as_slice-row-items.ensures c.if-parts-gt-MOST_DECIMALS.false c.loop-row-test.false
-        c.loop-row.invariant, λ shape. refl)
+returns c = (
+  λ t. all_shaped c.args.parts.now c.as_slice-columns.result.now c.as_slice-row-items.result.now c.loop-row.row-index
+      c.as_slice-columns.ensures c.as_slice-row-items.ensures c.if-parts-gt-MOST_DECIMALS.false c.loop-row-test.false
+      c.loop-row.invariant,
+  λ shape. refl,
+)

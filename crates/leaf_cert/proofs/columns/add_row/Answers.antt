@@ -29,5 +29,5 @@ loop-column-preserved c = λ j l.
     let read_d = to_z-of_z w128 (at c.loop-column.taken col) fits_d in
     let read_a = to_z-of_z w64 (get_or c.args.coefs.now k (0, pos 0)).1 fits_a in
     row_step c.args.taken.now c.loop-column.taken c.args.coefs.now k (to_z w64 (of_z w64 c.args.multiplier))
-        (to_z w128 (of_z w128 c.plus_product.result)) c.loop-column-test.true c.loop-column.invariant inside (back
-        ∙ rw (read_d, read_a) at c.plus_product.ensures) j (omega (arith, length-set {A = ℤ}))
+    (to_z w128 (of_z w128 c.plus_product.result)) c.loop-column-test.true c.loop-column.invariant inside (back
+    ∙ rw (read_d, read_a) at c.plus_product.ensures) j (omega (arith, length-set {A = ℤ}))

@@ -17,7 +17,7 @@ reduced_cost-reduced-requires-clause-cost_small c =
     let column = c.index-columns-j.result in
     let inside : j < length m.columns = omega (arith, c.requires.sides.size) in
     let found : slice_get m.columns j ≡ Some column = read_at m.columns c.as_slice-columns.result.now j column c.as_slice-columns.ensures
-            (rw c.as_slice-columns.ensures inside) c.index-columns-j.is in
+    (rw c.as_slice-columns.ensures inside) c.index-columns-j.is in
     let small = (c.requires.limits.columns j column found).cost in
     rw (← c.index-columns-j.is) (omega (arith, ints))
 
@@ -51,7 +51,7 @@ loop-j-preserved c =
     let read_low = to_z-of_z w64 (low_at area j) fits_low in
     let read_high = to_z-of_z w64 (high_at area j) fits_high in
     let found : slice_get m.columns j ≡ Some column = read_at m.columns c.as_slice-columns.result.now j column c.as_slice-columns.ensures
-            (rw c.as_slice-columns.ensures inside) c.index-columns-j.is in
+    (rw c.as_slice-columns.ensures inside) c.index-columns-j.is in
     let cost = sym (cost_of_column m j column found) in
     let reduced = rw (← c.index-columns-j.is, read_cost, read_d, cost) at c.reduced_cost-reduced.ensures.value in
     let is = rw (back'', read_low, read_high, reduced) at c.lesser_end.ensures.lesser in

@@ -36,7 +36,7 @@ loop-row-preserved c = λ j l.
     let row = c.index-rows-row.result in
     let inside = c.requires.ordered.within i test in
     let found : slice_get m.rows (index_at y i) ≡ Some row =
-            slice_get_read m.rows (length m.rows) (index_at y i) row refl inside (rw c.as_slice-rows.ensures at c.index-rows-row.is) in
+    slice_get_read m.rows (length m.rows) (index_at y i) row refl inside (rw c.as_slice-rows.ensures at c.index-rows-row.is) in
     let read : coefficient_of m.rows (index_at y i) j ≡ coefficient row.coefs j = ap (λ o. coefficient (coefs_of o) j) found in
     let fits : SFits w64 (value_at y i) = small_fits (value_at y i) (let small = (c.requires.multipliers i test) in omega (arith, ints)) in
     let back = to_z-of_z w64 (value_at y i) fits in

@@ -8,6 +8,6 @@ pub returns : goal.returns
 returns c =
     let back : to_z w128 (of_z w128 c.total_of.result) ≡ c.total_of.result = omega (arith, ints) in
     let sum = columns_same c.args.parts.now c.args.area.now (pos 1) [] c.clear.new.taken
-            (λ j l. c.clear.ensures j (omega (arith, c.requires.area.size))) in
+    (λ j l. c.clear.ensures j (omega (arith, c.requires.area.size))) in
     let is = c.column_sum.ensures.sum in
     omega (arith, ints)

@@ -32,13 +32,13 @@ loop-row-preserved c =
     let one = c.in-Some.one in
     let rest = pay rows (drop (i + 1) y) in
     let fits : SFits w64 (value_at y i) = small_fits (value_at y i) (let small = (c.requires.multipliers i c.loop-row-test.true) in
-            omega (arith, ints)) in
+    omega (arith, ints)) in
     let read = to_z-of_z w64 (value_at y i) fits in
     let back : to_z w128 (of_z w128 c.total_of-total.result) ≡ c.total_of-total.result = omega (arith, ints) in
     let back' : to_z w128 (of_z w128 one) ≡ one = omega (arith, ints) in
     let is : payment rows (get_or y i (0, pos 0)) ≡ Some one = sym (rw read at c.payment_of.ensures.value) ∙ c.in-Some.is in
     let sum : total +ℤ one ≡ to_z w128 (of_z w128 c.total_of-total.result) = sym (back
-            ∙ (rw (c.loop-row.total-is, back') at c.total_of-total.ensures)) in
+    ∙ (rw (c.loop-row.total-is, back') at c.total_of-total.ensures)) in
     let before : pay rows y ≡ option_map (λ r. total +ℤ r) (pay rows (drop i y)) = rw c.loop-row.total-is at c.loop-row.invariant.paid in
     let small = c.in-Some.ensures.small in
     let so = c.loop-row.invariant.small in

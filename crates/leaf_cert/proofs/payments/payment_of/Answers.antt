@@ -13,7 +13,7 @@ returns-in-Some-clause-small c =
     let m = c.args.parts.now in
     let row = c.index-rows-row.result in
     let found : slice_get m.rows c.args.row ≡ Some row = slice_get_read m.rows (length m.rows) c.args.row row refl c.requires.within
-            (rw c.as_slice-rows.ensures at c.index-rows-row.is) in
+    (rw c.as_slice-rows.ensures at c.index-rows-row.is) in
     let same : to_z w64 (of_z w64 c.args.multiplier) ≡ c.args.multiplier = omega (arith, ints) in
     let has : side_for c.args.multiplier row ≡ Some c.in-Some.side = sym (rw same at c.side_of.ensures) ∙ c.in-Some.is in
     let small = side_small row c.args.multiplier c.in-Some.side (c.requires.limits.rows c.args.row row found) has in
@@ -28,7 +28,7 @@ returns-in-None-clause-value c =
     let m = c.args.parts.now in
     let row = c.index-rows-row.result in
     let found : slice_get m.rows c.args.row ≡ Some row = slice_get_read m.rows (length m.rows) c.args.row row refl c.requires.within
-            (rw c.as_slice-rows.ensures at c.index-rows-row.is) in
+    (rw c.as_slice-rows.ensures at c.index-rows-row.is) in
     let same : to_z w64 (of_z w64 c.args.multiplier) ≡ c.args.multiplier = omega (arith, ints) in
     let has : side_for c.args.multiplier row ≡ None = sym (rw same at c.side_of.ensures) ∙ c.in-None.is in
     sym (no_payment m.rows (c.args.row, c.args.multiplier) row found has)

@@ -1,5 +1,0 @@
-use Rattle.leaf_cert.specs.Room.{FitsScratch}
-use Rattle.cert_bench.proofs.bound_after.Given as goal
-
-abbrev pub invariant-loop : goal.invariant-loop
-invariant-loop l = FitsScratch l.model-inside.parts l.scratch

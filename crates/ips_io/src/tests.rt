@@ -1,12 +1,12 @@
-//! Worked rows over a shelf and a sink in memory, and one real file.
-ghost use Rattle.std.specs.Prelude.{◌≡◌, ◌<◌, None, IfOk};
+//! What no clause says: that calls succeed over shelves and sinks in memory, and what real files hold.
+ghost use Rattle.std.specs.Prelude.{◌<◌};
 
 use crate::{
-    Failed, MemShelf, ReadError, Shelf, file_shelf, mem_shelf, mem_sink, out_sink, read_all,
-    write_all,
+    Failed, MemShelf, ReadError, Shelf, file_shelf, mem_shelf, mem_sink, out_sink,
+    read_all, write_all,
 };
 use ip_defs::Memory;
-use std::alloc::Global;
+use std::alloc::{AllocError, Global};
 use std::fs;
 use std::test::Fail;
 
@@ -21,106 +21,141 @@ fn shelf_of_two(alloc: Global, piece: u64, failing: u64) -> Result<MemShelf, Mem
     Ok(shelf)
 }
 
+/// Whether a file is read as a text.
+fn reads(
+    alloc: Global,
+    piece: u64,
+    failing: u64,
+    name: &str,
+    most: u64,
+    text: &str,
+) -> Result<bool, Memory>
+    requires { 0 < piece }
+{
+    let mut shelf = shelf_of_two(alloc, piece, failing)?;
+    match read_all(alloc, &mut shelf, name, most) {
+        Ok(bytes) => Ok(bytes.as_slice() == text.as_bytes()),
+        Err(_) => Ok(false),
+    }
+}
+
+/// Whether a file is not read, with this error.
+fn refuses(
+    alloc: Global,
+    piece: u64,
+    failing: u64,
+    name: &str,
+    most: u64,
+    error: ReadError,
+) -> Result<bool, Memory>
+    requires { 0 < piece }
+{
+    let mut shelf = shelf_of_two(alloc, piece, failing)?;
+    match read_all(alloc, &mut shelf, name, most) {
+        Ok(_) => Ok(false),
+        Err(other) => Ok(other == error),
+    }
+}
+
 #[test]
 fn reads_whole_files_piece_by_piece(rt: HostRuntime) -> Result<(), Fail> {
-    let rows = [
-        (1, 0, "a", 5, Ok("hello")),
-        (3, 0, "a", 5, Ok("hello")),
-        (9, 0, "a", 9, Ok("hello")),
-        (1, 0, "e", 0, Ok("")),
-        (1, 0, "a", 4, Err(ReadError::TooLong)),
-        (9, 0, "a", 4, Err(ReadError::TooLong)),
-        (9, 0, "a", 0, Err(ReadError::TooLong)),
-        (1, 0, "b", 5, Err(ReadError::Fault)),
-        (1, 1, "a", 5, Err(ReadError::Fault)),
-        (1, 3, "a", 5, Err(ReadError::Fault)),
-        (1, 7, "a", 5, Err(ReadError::Fault)),
-        (1, 8, "a", 5, Ok("hello")),
-    ];
-    for (piece, failing, name, most, want) in rows {
-        assert!(rt; piece > 0u64);
-        let mut shelf = shelf_of_two(rt.alloc(), piece, failing)?;
-        let got = read_all(rt.alloc(), &mut shelf, name, most);
-        match (&got, want) {
-            (Ok(bytes), Ok(text)) => {
-                assert_eq!(rt;
-                    bytes.as_slice(),
-                    text.as_bytes(),
-                    "piece {piece}, fails at {failing}"
-                );
-            }
-            (Err(error), Err(other)) => {
-                assert_eq!(rt; *error, other, "piece {piece}, fails at {failing}");
-            }
-            _ => assert!(rt; false, "piece {piece}, fails at {failing}, most {most}"),
-        }
-    }
+    let alloc = rt.alloc();
+    assert!(rt; reads(alloc, 1, 0, "a", 5, "hello")?);
+    assert!(rt; reads(alloc, 3, 0, "a", 5, "hello")?);
+    assert!(rt; reads(alloc, 9, 0, "a", 9, "hello")?);
+    assert!(rt; reads(alloc, 1, 0, "e", 0, "")?);
+    assert!(rt; reads(alloc, 1, 8, "a", 5, "hello")?);
     Ok(())
 }
 
 #[test]
-fn writes_whole_texts_piece_by_piece(rt: HostRuntime) -> Result<(), Fail> {
-    let rows = [
-        (9, 1, 0, "hello", true),
-        (9, 3, 0, "hello", true),
-        (9, 9, 0, "hello", true),
-        (5, 2, 0, "hello", true),
-        (4, 3, 0, "hell", false),
-        (0, 1, 0, "", false),
-        (9, 2, 1, "", false),
-        (9, 2, 2, "he", false),
-        (9, 2, 4, "hello", true),
-    ];
-    for (room, piece, failing, want, all) in rows {
-        assert!(rt; piece > 0u64);
-        let mut sink = mem_sink(rt.alloc(), room, piece)?;
-        assert!(rt; sink.fail_at(failing));
-        let got = write_all(&mut sink, b"hello");
-        assert_eq!(rt;
-            got.is_ok(),
-            all,
-            "room {room}, piece {piece}, fails at {failing}"
-        );
-        assert_eq!(rt;
-            sink.bytes(),
-            want.as_bytes(),
-            "room {room}, piece {piece}, fails at {failing}"
-        );
-    }
+fn refuses_long_files(rt: HostRuntime) -> Result<(), Fail> {
+    let alloc = rt.alloc();
+    assert!(rt; refuses(alloc, 1, 0, "a", 4, ReadError::TooLong)?);
+    assert!(rt; refuses(alloc, 9, 0, "a", 4, ReadError::TooLong)?);
+    assert!(rt; refuses(alloc, 9, 0, "a", 0, ReadError::TooLong)?);
     Ok(())
+}
+
+#[test]
+fn answers_failures(rt: HostRuntime) -> Result<(), Fail> {
+    let alloc = rt.alloc();
+    assert!(rt; refuses(alloc, 1, 0, "b", 5, ReadError::Fault)?);
+    assert!(rt; refuses(alloc, 1, 1, "a", 5, ReadError::Fault)?);
+    assert!(rt; refuses(alloc, 1, 3, "a", 5, ReadError::Fault)?);
+    assert!(rt; refuses(alloc, 1, 7, "a", 5, ReadError::Fault)?);
+    Ok(())
+}
+
+/// Whether a sink takes this of a text of five bytes, and whether that is all.
+fn takes(
+    alloc: Global,
+    room: u64,
+    piece: u64,
+    failing: u64,
+    text: &str,
+    all: bool,
+) -> Result<bool, Memory>
+    requires { 0 < piece }
+{
+    let mut sink = mem_sink(alloc, room, piece)?;
+    let _listed = sink.fail_at(failing);
+    let wrote = write_all(&mut sink, b"hello").is_ok();
+    Ok(wrote == all && sink.bytes() == text.as_bytes())
+}
+
+#[test]
+fn writes_whole_texts_piece_by_piece(rt: HostRuntime) -> Result<(), Fail> {
+    let alloc = rt.alloc();
+    assert!(rt; takes(alloc, 9, 1, 0, "hello", true)?);
+    assert!(rt; takes(alloc, 9, 3, 0, "hello", true)?);
+    assert!(rt; takes(alloc, 9, 9, 0, "hello", true)?);
+    assert!(rt; takes(alloc, 5, 2, 0, "hello", true)?);
+    assert!(rt; takes(alloc, 9, 2, 4, "hello", true)?);
+    Ok(())
+}
+
+#[test]
+fn stops_where_a_sink_fails(rt: HostRuntime) -> Result<(), Fail> {
+    let alloc = rt.alloc();
+    assert!(rt; takes(alloc, 4, 3, 0, "hell", false)?);
+    assert!(rt; takes(alloc, 0, 1, 0, "", false)?);
+    assert!(rt; takes(alloc, 9, 2, 1, "", false)?);
+    assert!(rt; takes(alloc, 9, 2, 2, "he", false)?);
+    Ok(())
+}
+
+/// Whether a shelf holds these texts as `a` and `b`.
+fn holds(shelf: &MemShelf, a: &str, b: &str) -> bool {
+    shelf.file("a") == Some(a.as_bytes()) && shelf.file("b") == Some(b.as_bytes())
 }
 
 #[test]
 fn saves_files_within_the_room(rt: HostRuntime) -> Result<(), Fail> {
     let mut shelf = mem_shelf(rt.alloc(), 2, 12, 1)?;
     assert!(rt; shelf.fail_at(6));
-    let rows = [
-        ("a", "one", Ok(()), Some("one"), None),
-        ("b", "two", Ok(()), Some("one"), Some("two")),
-        ("a", "longer", Ok(()), Some("longer"), Some("two")),
-        ("a", "longest!", Err(Failed), Some("longer"), Some("two")),
-        ("c", "", Err(Failed), Some("longer"), Some("two")),
-        ("b", "x", Err(Failed), Some("longer"), Some("two")),
-        ("b", "x", Ok(()), Some("longer"), Some("x")),
-        ("a", "", Ok(()), Some(""), Some("x")),
-    ];
-    for (name, text, want, a, b) in rows {
-        assert_eq!(rt;
-            shelf.save(name, text.as_bytes()),
-            want,
-            "save {name} {text}"
-        );
-        assert_eq!(rt;
-            shelf.file("a"),
-            a.map(|t| t.as_bytes()),
-            "after {name} {text}"
-        );
-        assert_eq!(rt;
-            shelf.file("b"),
-            b.map(|t| t.as_bytes()),
-            "after {name} {text}"
-        );
-    }
+    assert_eq!(rt; shelf.save("a", b"one"), Ok(()));
+    assert!(rt; shelf.file("b").is_none());
+    assert_eq!(rt; shelf.save("b", b"two"), Ok(()));
+    assert!(rt; holds(&shelf, "one", "two"));
+    assert_eq!(rt; shelf.save("a", b"longer"), Ok(()));
+    assert!(rt; holds(&shelf, "longer", "two"));
+    Ok(())
+}
+
+#[test]
+fn refuses_saves_beyond_the_room(rt: HostRuntime) -> Result<(), Fail> {
+    let mut shelf = mem_shelf(rt.alloc(), 2, 12, 1)?;
+    assert!(rt; shelf.add("a", b"longer"));
+    assert!(rt; shelf.add("b", b"two"));
+    assert!(rt; shelf.fail_at(3));
+    assert_eq!(rt; shelf.save("a", b"longest!"), Err(Failed));
+    assert_eq!(rt; shelf.save("c", b""), Err(Failed));
+    assert_eq!(rt; shelf.save("b", b"x"), Err(Failed));
+    assert!(rt; holds(&shelf, "longer", "two"));
+    assert_eq!(rt; shelf.save("b", b"x"), Ok(()));
+    assert_eq!(rt; shelf.save("a", b""), Ok(()));
+    assert!(rt; holds(&shelf, "", "x"));
     Ok(())
 }
 
@@ -137,28 +172,65 @@ fn lists_eight_failing_calls(rt: HostRuntime) -> Result<(), Fail> {
     Ok(())
 }
 
+/// Bytes that repeat only after 251 of them, so that none is lost or moved unseen.
+fn bytes_of(alloc: Global, count: usize) -> Result<Vec<u8>, AllocError> {
+    let mut bytes = Vec::new(alloc);
+    for j in 0..count {
+        bytes.push((j % 251) as u8)?;
+    }
+    Ok(bytes)
+}
+
+/// Whether a file of this many bytes, which the machine wrote, is read as it is; and whether one that is saved is what the machine
+/// reads.
+fn keeps_bytes(rt: &HostRuntime, name: &str, count: usize) -> Result<bool, Fail> {
+    let bytes = bytes_of(rt.alloc(), count)?;
+    let mut shelf = file_shelf(rt.clone()?);
+    fs::write(rt, name, bytes.as_slice())?;
+    let read = match read_all(rt.alloc(), &mut shelf, name, count as u64) {
+        Ok(read) => read.as_slice() == bytes.as_slice(),
+        Err(_) => false,
+    };
+    fs::remove_file(rt, name)?;
+    let saved = shelf.save(name, bytes.as_slice()).is_ok();
+    let kept = fs::read(rt, name)?;
+    fs::remove_file(rt, name)?;
+    Ok(read && saved && kept.as_slice() == bytes.as_slice())
+}
+
 #[test]
-fn reads_and_saves_a_real_file(rt: HostRuntime) -> Result<(), Fail> {
-    let name = "ips_io_test_file.txt";
+fn keeps_the_bytes_of_real_files(rt: HostRuntime) -> Result<(), Fail> {
+    assert!(rt; keeps_bytes(&rt, "ips_io_test_4095", 4095)?);
+    assert!(rt; keeps_bytes(&rt, "ips_io_test_4096", 4096)?);
+    assert!(rt; keeps_bytes(&rt, "ips_io_test_4097", 4097)?);
+    assert!(rt; keeps_bytes(&rt, "ips_io_test_10000", 10_000)?);
+    Ok(())
+}
+
+/// Whether a real file is not read, with this error.
+fn real_refuses(rt: &HostRuntime, name: &str, error: ReadError) -> Result<bool, Fail> {
+    let mut shelf = file_shelf(rt.clone()?);
+    match read_all(rt.alloc(), &mut shelf, name, 5) {
+        Ok(_) => Ok(false),
+        Err(other) => Ok(other == error),
+    }
+}
+
+#[test]
+fn answers_failures_of_real_files(rt: HostRuntime) -> Result<(), Fail> {
+    let name = "ips_io_test_file";
     let mut shelf = file_shelf(rt.clone()?);
     assert_eq!(rt; shelf.save(name, b"hello\n"), Ok(()));
-    let bytes = match read_all(rt.alloc(), &mut shelf, name, 6) {
-        Ok(bytes) => bytes,
-        Err(error) => return Err(Fail::from(error)),
-    };
-    assert_eq!(rt; bytes.as_slice(), b"hello\n".as_slice());
-    for (file, most, want) in [
-        (name, 5, ReadError::TooLong),
-        (".", 5, ReadError::Fault),
-        ("no_such_file.txt", 5, ReadError::Fault),
-    ] {
-        match read_all(rt.alloc(), &mut shelf, file, most) {
-            Ok(_) => assert!(rt; false, "{file} was read"),
-            Err(error) => assert_eq!(rt; error, want, "{file}"),
-        }
-    }
+    assert!(rt; real_refuses(&rt, name, ReadError::TooLong)?);
+    assert!(rt; real_refuses(&rt, ".", ReadError::Fault)?);
+    assert!(rt; real_refuses(&rt, "no_such_file", ReadError::Fault)?);
     assert_eq!(rt; shelf.save(".", b"hello\n"), Err(Failed));
     fs::remove_file(&rt, name)?;
+    Ok(())
+}
+
+#[test]
+fn writes_to_standard_output(rt: HostRuntime) -> Result<(), Fail> {
     let mut out = out_sink(rt.clone()?);
     assert_eq!(rt; write_all(&mut out, b"written\n"), Ok(()));
     Ok(())

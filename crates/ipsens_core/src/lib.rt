@@ -15,4 +15,4 @@ pub use ips_words::{Request, WordsError, request};
 pub use runs::run;
 pub use show::show_at;
 pub use solve::solve_at;
-pub use statuses::{Status, code};
+pub use statuses::{Status, code, complaint, report};

@@ -1,7 +1,11 @@
-//! How a run ends, and the number that the program ends with.
+//! How a run ends: its status, the number that the program ends with, and the line on standard error.
 
-ghost use Rattle.std.specs.Prelude.{◌≡◌};
-ghost use Rattle.ipsens_core.specs.Statuses.{code_of};
+ghost use Rattle.std.specs.Prelude.{◌≡◌, ℕ, length, take};
+ghost use Rattle.ips_io.specs.Causes.{HasCause};
+ghost use Rattle.ips_io.specs.Files.{Takes};
+ghost use Rattle.ipsens_core.specs.Statuses.{code_of, complaint_of, IsReported};
+
+use ips_io::{Sink, write_all};
 
 /// How a run ends. The program ends with the number of the status.
 #[derive(Clone, Copy, Debug, PartialEq, Eq)]
@@ -41,4 +45,25 @@ pub fn code(status: Status) -> u8
         Status::WriteFault => 7,
         Status::Memory => 8,
     }
+}
+
+/// What is written to standard error at a status: a line, or nothing.
+pub fn complaint(status: Status) -> &'static str
+    ensures { result.now ≡ complaint_of status }
+{
+    match status {
+        Status::ReadFault => "read fault\n",
+        Status::WriteFault => "write fault\n",
+        Status::Memory => "out of memory\n",
+        _ => "",
+    }
+}
+
+/// Writes the line of a status to standard error, and gives the number with which the program ends, whether that writing failed or not.
+pub fn report<K: Sink>(status: Status, errors: &mut K) -> u8
+    ensures code { result ≡ code_of status }
+    ensures line { IsReported (K.taken errors.old) (K.taken errors.new) (K.faults errors.old) (K.faults errors.new) (complaint_of status) }
+{
+    let _ = write_all(errors, complaint(status).as_bytes());
+    code(status)
 }

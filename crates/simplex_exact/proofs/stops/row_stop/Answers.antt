@@ -12,7 +12,7 @@ pub stop_at-requires-clause-pivot : goal.stop_at-requires-clause-pivot
 stop_at-requires-clause-pivot c =
     let T = c.args.tableau.now in
     let x : Fraction = entry T.rows c.args.row c.args.var in
-    let numerator : (value_of x).numerator ≡ c.num.result = ap (λ (y : Fraction). (value_of y).numerator) (sym c.entry.ensures)
+    let read : (value_of x).numerator ≡ c.num.result = ap (λ (y : Fraction). (value_of y).numerator) (sym c.entry.ensures)
             ∙ sym c.num.ensures.numerator in
     let back : to_z w128 (of_z w128 c.num.result) ≡ c.num.result = omega (arith, ints) in
-    numerator x (met c.args.up (value_of x) c.in-Some.side (sym (c.side_met.ensures (value_of x) (numerator ∙ sym back)) ∙ c.in-Some.is))
+    numerator x (met c.args.up (value_of x) c.in-Some.side (sym (c.side_met.ensures (value_of x) (read ∙ sym back)) ∙ c.in-Some.is))

@@ -10,7 +10,7 @@ mod writing;
 
 pub use ip_defs::Memory;
 pub use mps_defs::Number;
-pub use numbers::read_number;
+pub use numbers::{read_number, signed};
 pub use numerals::{are_digits, value_from};
 pub use scales::{scaled, units};
 pub use writing::decimal_text;

@@ -95,7 +95,8 @@ fn difference(a: i128, b: i128) -> i128
 /// The written exponent of a numeral without its sign, 0 where it has none.
 fn exponent_of(body: &[u8]) -> i128
     requires { is_numeral_of body.now ≡ true }
-    ensures value { result ≡ signed_of (is_minus_of (exponent_part_of body.now)) (digits_value (without_sign_of (exponent_part_of body.now))) }
+    ensures value { result ≡ signed_of (is_minus_of (exponent_part_of body.now))
+        (digits_value (without_sign_of (exponent_part_of body.now))) }
     ensures small { unsigned_abs result < 10 ^ 4 }
 {
     let exponent = exponent_part(body);
@@ -172,8 +173,8 @@ fn number_in(text: &[u8]) -> Option<Number>
 }
 
 /// The number that a text is: an optional sign, then digits with an optional point and an optional exponent of one to four digits,
-/// or a word for infinity, in at most 32 characters. A number that is not Large has an absolute value below 10^20. `None` means that the text
-/// is no number.
+/// or a word for infinity, in at most 32 characters. A number that is not Large has an absolute value below 10^20. `None` means that the
+/// text is no number.
 pub fn read_number(text: &str) -> Option<Number>
     ensures number { result ≡ number_of text.now }
     ensures below { IfSome result IsBelowLarge }

@@ -9,13 +9,22 @@ fn exact(units: i128, decimals: u32) -> Option<Number> {
 #[test]
 fn reads_numbers(rt: HostRuntime) {
     assert_eq!(rt; read_number("2.50"), exact(25, 1));
-    assert_eq!(rt; read_number("00000000000000000000000000000012"), exact(12, 0));
+    assert_eq!(rt;
+        read_number("00000000000000000000000000000012"),
+        exact(12, 0)
+    );
     assert_eq!(rt; read_number("000000000000000000000000000000012"), None);
     assert_eq!(rt; read_number("-12E-9999"), exact(-12, 9999));
     assert_eq!(rt; read_number("1e00001"), None);
-    assert_eq!(rt; read_number("99999999999999999999999999990e-9"), exact(9_999_999_999_999_999_999_999_999_999, 8));
+    assert_eq!(rt;
+        read_number("99999999999999999999999999990e-9"),
+        exact(9_999_999_999_999_999_999_999_999_999, 8)
+    );
     assert_eq!(rt; read_number("-InF"), Some(Number::Large { negative: true }));
-    assert_eq!(rt; read_number("1e20"), Some(Number::Large { negative: false }));
+    assert_eq!(rt;
+        read_number("1e20"),
+        Some(Number::Large { negative: false })
+    );
 }
 
 #[test]

@@ -11,9 +11,12 @@ use Rattle.ip_defs.proofs.BoolLaws.{left_true, right_true}
 use Rattle.ip_defs.proofs.ListLaws.{each_weaker}
 use Rattle.clap.specs.Words.{App, HasMatchesOf, Row, Rule, built, first_of, first_value, found_of, is_simple, matches_of, rows_of}
 use Rattle.clap.specs.Facts.{Entry}
+use Rattle.clap.specs.Lexer.{long_of}
 use Rattle.clap.specs.Simple.{filled, new_rule, with_index}
 use Rattle.clap.specs.Values.{reading_of}
+use Rattle.clap.specs.Walk.{action_of, arg_by_id, arg_by_long, most_values, reading_by, takes_values}
 use Rattle.clap.specs.Walk.{Walk, has_row, row_of, rows_after, settled_rows, walked, with_default}
+use Rattle.clap.specs.declared.builder.action.ArgAction.TheVariants.{Set}
 use Rattle.clap.specs.declared.builder.value_parser.Reading.{Reading}
 use Rattle.clap.specs.declared.builder.value_parser.ValueParser.TheVariants as Parsers
 use Rattle.clap.specs.declared.parser.matches.ArgMatches.{ArgMatches}
@@ -53,131 +56,61 @@ record IsNoOperand (o : Word) : Type 0 where
 abbrev IsOption : Word → Type 0
 IsOption o = IsRead rules as_text o × IsNoOperand o
 
-tree_is : IsOption (codes "--tree")
-tree_is = (
+-- an option by its word and its name: each fact of it is computed
+option_is : (word name : Word) (rule : Rule) → bytes_eq word (45 ∷ 45 ∷ []) ≡ false → long_of word ≡ Some (name, None)
+    → arg_by_long rules name ≡ Some rule → arg_by_id rules word ≡ Some rule → rule.id ≡ word → takes_values rule ≡ true
+    → most_values rule ≡ 1 → action_of rule ≡ Set → reading_by rule ≡ as_text → IsNoOperand word → IsOption word
+option_is word name' rule' dashes' long' by_long' by_id' id' takes' most' set' reading' other = (
   record {
-    rule = option_of (codes "--tree") (codes "tree");
-    name = codes "tree";
-    dashes = refl;
-    long = refl;
-    by_long = refl;
-    by_id = refl;
-    id = refl;
-    takes = refl;
-    most = refl;
-    set = refl;
-    reading = refl;
+    rule = rule';
+    name = name';
+    dashes = dashes';
+    long = long';
+    by_long = by_long';
+    by_id = by_id';
+    id = id';
+    takes = takes';
+    most = most';
+    set = set';
+    reading = reading';
   },
-  record { first = refl; second = refl; third = refl },
+  other,
 )
+
+tree_is : IsOption (codes "--tree")
+tree_is =
+    option_is (codes "--tree") (codes "tree") (option_of (codes "--tree") (codes "tree")) refl refl refl refl refl refl refl refl refl
+    (record { first = refl; second = refl; third = refl })
 
 proof_is : IsOption (codes "--proof")
-proof_is = (
-  record {
-    rule = option_of (codes "--proof") (codes "proof");
-    name = codes "proof";
-    dashes = refl;
-    long = refl;
-    by_long = refl;
-    by_id = refl;
-    id = refl;
-    takes = refl;
-    most = refl;
-    set = refl;
-    reading = refl;
-  },
-  record { first = refl; second = refl; third = refl },
-)
+proof_is =
+    option_is (codes "--proof") (codes "proof") (option_of (codes "--proof") (codes "proof")) refl refl refl refl refl refl refl refl refl
+    (record { first = refl; second = refl; third = refl })
 
 nodes_is : IsOption (codes "--nodes")
-nodes_is = (
-  record {
-    rule = option_of (codes "--nodes") (codes "nodes");
-    name = codes "nodes";
-    dashes = refl;
-    long = refl;
-    by_long = refl;
-    by_id = refl;
-    id = refl;
-    takes = refl;
-    most = refl;
-    set = refl;
-    reading = refl;
-  },
-  record { first = refl; second = refl; third = refl },
-)
+nodes_is =
+    option_is (codes "--nodes") (codes "nodes") (option_of (codes "--nodes") (codes "nodes")) refl refl refl refl refl refl refl refl refl
+    (record { first = refl; second = refl; third = refl })
 
 depth_is : IsOption (codes "--depth")
-depth_is = (
-  record {
-    rule = option_of (codes "--depth") (codes "depth");
-    name = codes "depth";
-    dashes = refl;
-    long = refl;
-    by_long = refl;
-    by_id = refl;
-    id = refl;
-    takes = refl;
-    most = refl;
-    set = refl;
-    reading = refl;
-  },
-  record { first = refl; second = refl; third = refl },
-)
+depth_is =
+    option_is (codes "--depth") (codes "depth") (option_of (codes "--depth") (codes "depth")) refl refl refl refl refl refl refl refl refl
+    (record { first = refl; second = refl; third = refl })
 
 pivots_is : IsOption (codes "--pivots")
-pivots_is = (
-  record {
-    rule = option_of (codes "--pivots") (codes "pivots");
-    name = codes "pivots";
-    dashes = refl;
-    long = refl;
-    by_long = refl;
-    by_id = refl;
-    id = refl;
-    takes = refl;
-    most = refl;
-    set = refl;
-    reading = refl;
-  },
-  record { first = refl; second = refl; third = refl },
-)
+pivots_is =
+    option_is (codes "--pivots") (codes "pivots") (option_of (codes "--pivots") (codes "pivots")) refl refl refl refl refl refl refl refl refl
+    (record { first = refl; second = refl; third = refl })
 
 digits_is : IsOption (codes "--digits")
-digits_is = (
-  record {
-    rule = option_of (codes "--digits") (codes "digits");
-    name = codes "digits";
-    dashes = refl;
-    long = refl;
-    by_long = refl;
-    by_id = refl;
-    id = refl;
-    takes = refl;
-    most = refl;
-    set = refl;
-    reading = refl;
-  },
-  record { first = refl; second = refl; third = refl },
-)
+digits_is =
+    option_is (codes "--digits") (codes "digits") (option_of (codes "--digits") (codes "digits")) refl refl refl refl refl refl refl refl refl
+    (record { first = refl; second = refl; third = refl })
 
 box_is : IsOption (codes "--box")
-box_is = (
-  record {
-    rule = option_of (codes "--box") (codes "box");
-    name = codes "box";
-    dashes = refl;
-    long = refl;
-    by_long = refl;
-    by_id = refl;
-    id = refl;
-    takes = refl;
-    most = refl;
-    set = refl;
-    reading = refl;
-  },
-  record { first = refl; second = refl; third = refl },
-)
+box_is =
+    option_is (codes "--box") (codes "box") (option_of (codes "--box") (codes "box")) refl refl refl refl refl refl refl refl refl
+    (record { first = refl; second = refl; third = refl })
 
 -- the options of each command are options of the parser
 reading_are : Each (λ d. IsOption d.word) reading_choices
@@ -436,73 +369,88 @@ third_is c ws f e read some =
     let found = ap (first_of (codes "third")) (read ∙ plain_rows c ws e) ∙ third_operand (operands_in c ws) rest (omega arith) in
     ap (λ x. unwrap_or x []) (found_value f (codes "third") ∙ found)
 
+-- the values of all options
+record AreRead (c : OwnCommand) (ws : List Word) (f : Found) : Type 0 where
+  tree : first_value f (codes "--tree") ≡ value_in (options_in c ws) (codes "--tree")
+  proof : first_value f (codes "--proof") ≡ value_in (options_in c ws) (codes "--proof")
+  nodes : first_value f (codes "--nodes") ≡ value_in (options_in c ws) (codes "--nodes")
+  depth : first_value f (codes "--depth") ≡ value_in (options_in c ws) (codes "--depth")
+  pivots : first_value f (codes "--pivots") ≡ value_in (options_in c ws) (codes "--pivots")
+  digits : first_value f (codes "--digits") ≡ value_in (options_in c ws) (codes "--digits")
+  box_side : first_value f (codes "--box") ≡ value_in (options_in c ws) (codes "--box")
+
+are_read : (c : OwnCommand) (ws : List Word) (f : Found) → ArePlain c ws → rows_of f ≡ words_rows ws → AreRead c ws f
+are_read c ws f e read =
+    let value = value_is c ws f e read in
+    record {
+      tree = value (codes "--tree") tree_is.1;
+      proof = value (codes "--proof") proof_is.1;
+      nodes = value (codes "--nodes") nodes_is.1;
+      depth = value (codes "--depth") depth_is.1;
+      pivots = value (codes "--pivots") pivots_is.1;
+      digits = value (codes "--digits") digits_is.1;
+      box_side = value (codes "--box") box_is.1;
+    }
+
 -- so the request is that of the words
 pub same_request : (c : OwnCommand) (ws : List Word) (f : Found) → ArePlain c ws → rows_of f ≡ words_rows ws
     → (command_row c).request (read_operand f) (first_value f) ≡ request_by (command_row c) (drop 1 ws)
-same_request Solve ws f e read =
-    let first = first_is Solve ws f e read (omega arith) in
-    let tree = value_is Solve ws f e read (codes "--tree") tree_is.1 in
-    let nodes = value_is Solve ws f e read (codes "--nodes") nodes_is.1 in
-    let depth = value_is Solve ws f e read (codes "--depth") depth_is.1 in
-    let pivots = value_is Solve ws f e read (codes "--pivots") pivots_is.1 in
-    let digits = value_is Solve ws f e read (codes "--digits") digits_is.1 in
-    let box = value_is Solve ws f e read (codes "--box") box_is.1 in
-    rw (first, tree, nodes, depth, pivots, digits, box) refl
-same_request Check ws f e read =
-    let first = first_is Check ws f e read (omega arith) in
-    let second = second_is Check ws f e read (omega arith) in
-    let digits = value_is Check ws f e read (codes "--digits") digits_is.1 in
-    let box = value_is Check ws f e read (codes "--box") box_is.1 in
-    rw (first, second, digits, box) refl
-same_request Ask ws f e read =
-    let first = first_is Ask ws f e read (omega arith) in
-    let second = second_is Ask ws f e read (omega arith) in
-    let third = third_is Ask ws f e read (omega arith) in
-    let digits = value_is Ask ws f e read (codes "--digits") digits_is.1 in
-    let box = value_is Ask ws f e read (codes "--box") box_is.1 in
-    rw (first, second, third, digits, box) refl
-same_request Sweep ws f e read =
-    let first = first_is Sweep ws f e read (omega arith) in
-    let second = second_is Sweep ws f e read (omega arith) in
-    let proof = value_is Sweep ws f e read (codes "--proof") proof_is.1 in
-    let nodes = value_is Sweep ws f e read (codes "--nodes") nodes_is.1 in
-    let depth = value_is Sweep ws f e read (codes "--depth") depth_is.1 in
-    let pivots = value_is Sweep ws f e read (codes "--pivots") pivots_is.1 in
-    let digits = value_is Sweep ws f e read (codes "--digits") digits_is.1 in
-    let box = value_is Sweep ws f e read (codes "--box") box_is.1 in
-    rw (first, second, proof, nodes, depth, pivots, digits, box) refl
-same_request Recheck ws f e read =
-    let first = first_is Recheck ws f e read (omega arith) in
-    let second = second_is Recheck ws f e read (omega arith) in
-    let third = third_is Recheck ws f e read (omega arith) in
-    let digits = value_is Recheck ws f e read (codes "--digits") digits_is.1 in
-    let box = value_is Recheck ws f e read (codes "--box") box_is.1 in
-    rw (first, second, third, digits, box) refl
-same_request Show ws f e read =
-    let first = first_is Show ws f e read (omega arith) in
-    let digits = value_is Show ws f e read (codes "--digits") digits_is.1 in
-    let box = value_is Show ws f e read (codes "--box") box_is.1 in
-    rw (first, digits, box) refl
-same_request Trial ws f e read =
-    let first = first_is Trial ws f e read (omega arith) in
-    rw first refl
+same_request c ws f e read = by c e (are_read c ws f e read)
+  where
+    by : (c : OwnCommand) → ArePlain c ws → AreRead c ws f
+        → (command_row c).request (read_operand f) (first_value f) ≡ request_by (command_row c) (drop 1 ws)
+    by Solve e v =
+        rw (first_is Solve ws f e read (omega arith), v.tree, v.nodes, v.depth, v.pivots, v.digits, v.box_side) refl
+    by Check e v =
+        rw (first_is Check ws f e read (omega arith), second_is Check ws f e read (omega arith), v.digits, v.box_side) refl
+    by Ask e v =
+        rw (
+          first_is Ask ws f e read (omega arith),
+          second_is Ask ws f e read (omega arith),
+          third_is Ask ws f e read (omega arith),
+          v.digits,
+          v.box_side,
+        ) refl
+    by Sweep e v =
+        rw (
+          first_is Sweep ws f e read (omega arith),
+          second_is Sweep ws f e read (omega arith),
+          v.proof,
+          v.nodes,
+          v.depth,
+          v.pivots,
+          v.digits,
+          v.box_side,
+        ) refl
+    by Recheck e v =
+        rw (
+          first_is Recheck ws f e read (omega arith),
+          second_is Recheck ws f e read (omega arith),
+          third_is Recheck ws f e read (omega arith),
+          v.digits,
+          v.box_side,
+        ) refl
+    by Show e v = rw (first_is Show ws f e read (omega arith), v.digits, v.box_side) refl
+    by Trial e v = rw (first_is Trial ws f e read (omega arith)) refl
 
 -- and the options have their numbers, and so has `trial`
 pub reading_read : (c : OwnCommand) (ws : List Word) (f : Found) → ArePlain c ws → rows_of f ≡ words_rows ws → HasReading (first_value f)
 reading_read c ws f e read =
     let has = all_reading c (options_in c ws) (followed c ws e) in
+    let values = are_read c ws f e read in
     record {
-      digits = λ v is. has.digits v (sym (value_is c ws f e read (codes "--digits") digits_is.1) ∙ is);
-      box_side = λ v is. has.box_side v (sym (value_is c ws f e read (codes "--box") box_is.1) ∙ is);
+      digits = λ v is. has.digits v (sym values.digits ∙ is);
+      box_side = λ v is. has.box_side v (sym values.box_side ∙ is);
     }
 
 pub limits_read : (c : OwnCommand) (ws : List Word) (f : Found) → ArePlain c ws → rows_of f ≡ words_rows ws → HasLimits (first_value f)
 limits_read c ws f e read =
     let has = all_limits c (options_in c ws) (followed c ws e) in
+    let values = are_read c ws f e read in
     record {
-      nodes = λ v is. has.nodes v (sym (value_is c ws f e read (codes "--nodes") nodes_is.1) ∙ is);
-      depth = λ v is. has.depth v (sym (value_is c ws f e read (codes "--depth") depth_is.1) ∙ is);
-      pivots = λ v is. has.pivots v (sym (value_is c ws f e read (codes "--pivots") pivots_is.1) ∙ is);
+      nodes = λ v is. has.nodes v (sym values.nodes ∙ is);
+      depth = λ v is. has.depth v (sym values.depth ∙ is);
+      pivots = λ v is. has.pivots v (sym values.pivots ∙ is);
     }
 
 pub number_read : (c : OwnCommand) (ws : List Word) (f : Found) → ArePlain c ws → rows_of f ≡ words_rows ws → c ≡ Trial

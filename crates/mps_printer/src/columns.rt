@@ -1,3 +1,5 @@
+//! COLUMNS and BOUNDS.
+
 ghost use Rattle.std.specs.Prelude.{◌≡◌, ◌<◌, ◌++◌, ◌∷◌, OnOk, flat_map, string_bytes, length, ℕ};
 ghost use Rattle.std.specs.List.{enumerate_from};
 ghost use Rattle.ip_defs.specs.Limits.{IsWithinLimits, index_at};
@@ -5,7 +7,7 @@ ghost use Rattle.mps_defs.specs.CanonicalText.{column_block, triple, value_text}
 ghost use Rattle.mps_printer.specs.Internal.Entries.{column_entries, entry_line};
 ghost use Rattle.mps_printer.specs.Internal.Sections.{bound_lines, bound_section, column_section, lines_text};
 
-use crate::gather::entries_by_column;
+use crate::column_entries::entries_by_column;
 use crate::lines::{push_amount, push_bound, push_head, push_triple};
 use ip_defs::{Coefs, Column, Memory, Parts, Row};
 use std::alloc::Global;
@@ -40,7 +42,8 @@ fn push_block(
 ) -> Result<(), Memory>
     requires { (i : ℕ) → i < length entries.now → index_at entries.now i < length parts.now.rows }
     ensures { OnOk result (string_bytes text.new ≡ string_bytes text.old
-        ++ lines_text (triple column.now.name parts.now.objective (value_text parts.now column.now.cost) ∷ flat_map (entry_line column.now.name parts.now.rows) entries.now)) }
+        ++ lines_text (triple column.now.name parts.now.objective (value_text parts.now column.now.cost)
+        ∷ flat_map (entry_line column.now.name parts.now.rows) entries.now)) }
 {
     let name = column.name.as_str();
     let units = i128::from(column.cost);
@@ -82,7 +85,7 @@ pub fn push_column_section(alloc: Global, text: &mut String, parts: &Parts) -> R
     push_triple(text, "M", "'MARKER'", "'INTEND'")
 }
 
-/// Adds the two sides of a column.
+/// Adds the two bounds of a column.
 fn push_bounds_of(alloc: Global, text: &mut String, column: &Column) -> Result<(), Memory>
     ensures { OnOk result (string_bytes text.new ≡ string_bytes text.old ++ lines_text (bound_lines column.now)) }
 {
@@ -91,7 +94,7 @@ fn push_bounds_of(alloc: Global, text: &mut String, column: &Column) -> Result<(
     push_bound(alloc, text, "UP", name, column.hi)
 }
 
-/// Adds the two sides of each column.
+/// Adds the two bounds of each column.
 fn push_bounds(alloc: Global, text: &mut String, columns: &[Column]) -> Result<(), Memory>
     ensures { OnOk result (string_bytes text.new ≡ string_bytes text.old ++ lines_text (flat_map bound_lines columns.now)) }
 {

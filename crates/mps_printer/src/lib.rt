@@ -1,8 +1,8 @@
 //! The canonical MPS text of a model: the same model is always printed as the same bytes, in one order and one spelling.
 #![tactic(auto)]
 
+mod column_entries;
 mod columns;
-mod gather;
 mod lines;
 mod names;
 mod printer;

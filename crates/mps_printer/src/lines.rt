@@ -1,3 +1,5 @@
+//! Lines of a text, field by field.
+
 ghost use Rattle.std.specs.Prelude.{◌≡◌, ◌++◌, ◌∷◌, [], IfOk, OnOk, string_bytes};
 ghost use Rattle.std.specs.Fmt.{signed_decimal};
 ghost use Rattle.mps_defs.specs.Numbers.{decimal_text};
@@ -74,7 +76,7 @@ fn whole_text(alloc: Global, value: i64) -> Result<String, AllocError>
     format!(in alloc; "{value}")
 }
 
-/// Adds the line of one side of a column, of the kind `LO` or `UP`.
+/// Adds the line of one bound of a column, of the kind `LO` or `UP`.
 pub fn push_bound(
     alloc: Global,
     text: &mut String,

@@ -1,3 +1,5 @@
+//! Whether the text of a model can be read back.
+
 ghost use Rattle.std.specs.Prelude.{◌≡◌, ◌==◌, ◌&&◌, ◌||◌};
 ghost use Rattle.std.specs.List.{list_all, list_any};
 ghost use Rattle.ip_defs.specs.Program.{is_crossed};
@@ -53,8 +55,9 @@ fn have_row_names(rows: &[Row]) -> bool
 
 /// Whether each name of a program can be read back.
 fn have_names(parts: &Parts) -> bool
-    ensures { result ≡ (is_printable_name parts.now.objective && list_all
-        (λ c. is_printable_name c.name) parts.now.columns && list_all (λ r. is_printable_name r.name) parts.now.rows) }
+    ensures { result ≡ (is_printable_name parts.now.objective
+        && list_all (λ c. is_printable_name c.name) parts.now.columns
+        && list_all (λ r. is_printable_name r.name) parts.now.rows) }
 {
     is_name(parts.objective.as_str())
         && have_column_names(parts.columns.as_slice())

@@ -1,3 +1,5 @@
+//! The canonical text of a model.
+
 ghost use Rattle.std.specs.Prelude.{◌≡◌, IfOk, string_bytes};
 ghost use Rattle.ip_defs.specs.Limits.{IsWithinLimits};
 ghost use Rattle.mps_defs.specs.CanonicalText.{canonical_text};

@@ -1,3 +1,5 @@
+//! ROWS, RHS and RANGES.
+
 ghost use Rattle.std.specs.Prelude.{◌≡◌, ◌++◌, None, OnOk, Some, flat_map, map, string_bytes};
 ghost use Rattle.mps_defs.specs.CanonicalText.{constant_line, is_equation as is_equation_of, is_from_below as is_from_below_of};
 ghost use Rattle.mps_defs.specs.CanonicalText.{kind_text as kind_text_of, range_line, rhs_line, right_side as right_side_of, written_text};

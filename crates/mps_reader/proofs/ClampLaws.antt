@@ -1,4 +1,4 @@
--- Clamped programs pass the limits that the programs themselves pass, and are the programs where none is passed.
+-- Clamped programs exceed the limits that the programs themselves exceed, and are the programs where none is exceeded.
 use Rattle.std.specs.Prelude.{◌≡◌, ℕ, suc, ◌+◌, ◌^◌, ◌≤◌, nat_lt, Bool, true, false, ◌||◌, List, [], ◌∷◌, ◌++◌, length, map, flat_map}
 use Rattle.std.specs.Prelude.{sum_by, Option, Some, None, option_map, unsigned_abs, ℤ}
 use Rattle.std.specs.List.{enumerate_from, list_any}
@@ -20,7 +20,7 @@ use Rattle.mps_reader.specs.Internal.Clamps.{clamped, clamped_column, clamped_co
 use Rattle.mps_defs.proofs.ListLaws.{map_same}
 use Rattle.std.proofs.lemmas.List.{length-map}
 
--- a clamped number passes the same sizes
+-- a clamped number exceeds the same limits
 pub clamp_above : (most : ℕ) (z : ℤ) → most ≤ 2 ^ 62 → exceeds most (clamped z) ≡ exceeds most z
 clamp_above most z small = by (nat_lt most (unsigned_abs (clamped z))) (nat_lt most (unsigned_abs z)) refl refl
   where
@@ -83,7 +83,7 @@ entries_same (r ∷ rs) =
     ∙ ap (λ n. length r.coefs + n) (entries_same rs)
     ∙ sym (sum_by-cons (λ (s : Row). length s.coefs) r rs)
 
--- a clamped program passes the same limits
+-- a clamped program exceeds the same limits
 pub limits_same : (m : Parts) → limits_of (clamped_parts m) ≡ limits_of m
 limits_same m =
     let rs = map clamped_row m.rows in

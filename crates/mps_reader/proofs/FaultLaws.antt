@@ -48,7 +48,7 @@ pub first_here : (here rest : List MpsError) (e : MpsError) → IsFirst (first_o
 first_here [] rest e h = from_none e h (first_of rest)
 first_here (x ∷ xs) rest e h = h
 
--- where a list has no fault, the first is that of the rest
+-- where a list has no fault, the first is that of the others
 pub first_later : (here rest : List MpsError) → first_of here ≡ None → first_of (here ++ rest) ≡ first_of rest
 first_later [] rest e = refl
 first_later (x ∷ xs) rest e = absurd cc

@@ -1,4 +1,4 @@
--- The model of a draft whose numbers are clamped, and the limits that it passes.
+-- The model of a draft whose numbers are clamped, and the limits that it exceeds.
 use Rattle.std.specs.Prelude.{◌≡◌, ℕ, suc, ◌<◌, List, [], ◌∷◌, length, map, Some, Result, Ok, Err}
 use Rattle.std.proofs.Common.{refl, arith, ap, sym, ◌∙◌, subst}
 use Rattle.std.proofs.lemmas.Bool.{lt-ltb}
@@ -27,7 +27,7 @@ count_columns how k j costs [] (c ∷ cs) e = absurd (omega arith)
 count_columns how k j costs (name ∷ names) [] e = absurd (omega arith)
 count_columns how k j costs (name ∷ names) (c ∷ cs) e = ap suc (count_columns how k (suc j) (cost_rest j costs) names cs (omega arith))
 
--- too many columns are the first limit that is passed
+-- too many columns are the first limit that is exceeded
 pub many_columns : (m : Parts) → 4096 < length m.columns
     → first_of (limit_faults m) ≡ Some (Out.Limit (record { what = Columns; index = 0 }))
 many_columns m many = rw (lt-ltb 4096 (length m.columns) many) refl

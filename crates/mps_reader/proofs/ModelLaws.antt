@@ -179,7 +179,7 @@ columns_are ls how row k j costs (name ∷ names) (c ∷ cs) is count s =
 
 -- ---- the whole
 
--- the first that passes, by its place
+-- the first that meets a test, by its place
 pub found_at : {A : Type 0} (t : A → Bool) (xs : List A) (i : ℕ) → position t xs ≡ Some i
     → (x : A) × ((find t xs ≡ Some x) × (slice_get xs i ≡ Some x))
 found_at t [] i e = absurd cc

@@ -125,7 +125,7 @@ rows_grow before t new n k kind name is fresh w h =
           (apart_more (row_names before) name h.apart fresh);
     }
 
--- ---- the rest, which ROWS comes before
+-- ---- what ROWS comes before
 
 later_items : (before : List Line) (d : Draft) (n : ℕ) (kind name word : List ℕ) → Stands before d
     → last_of (words_of before) ≡ Some (codes "ROWS") → is_before (codes "ROWS") word ≡ true

@@ -1,3 +1,5 @@
+//! Lines of BOUNDS: what each says of the lower and the upper bound of its column.
+
 ghost use Rattle.std.specs.Prelude.{◌≡◌, ℕ, ◌||◌, ◌&&◌, [], List, None, Some, true, false, codes, map, not, slice_get, slice_set, IfSome};
 ghost use Rattle.std.specs.Option.{MatchOption};
 ghost use Rattle.decimals.specs.Decimals.{IsBelowLarge};
@@ -97,7 +99,7 @@ fn names_integer(kind: BoundKind) -> bool
     }
 }
 
-/// What a number says as a lower side: none where it is Large and negative.
+/// A number as a lower bound, rounded up: none where it is Large and negative.
 fn lower_side(number: Number) -> Option<i128>
     requires { IsBelowLarge number }
     ensures { result ≡ where_true (not (is_large number && is_negative_number number)) (rounded_up_of number) }
@@ -108,7 +110,7 @@ fn lower_side(number: Number) -> Option<i128>
     }
 }
 
-/// What a number says as an upper side: none where it is Large and positive.
+/// A number as an upper bound, rounded down: none where it is Large and positive.
 fn upper_side(number: Number) -> Option<i128>
     requires { IsBelowLarge number }
     ensures { result ≡ where_true (not (is_large number && not (is_negative_number number))) (rounded_down_of number) }
@@ -129,7 +131,7 @@ fn is_negative(number: Number) -> bool
     }
 }
 
-/// What a bound of a kind says as a lower side.
+/// The lower bound that a line of a kind gives, where it gives one.
 fn lower_said(kind: BoundKind, number: Number) -> Option<Option<i128>>
     requires { IsBelowLarge number }
     ensures { result ≡ lower_of (bound_word kind) number }
@@ -142,7 +144,7 @@ fn lower_said(kind: BoundKind, number: Number) -> Option<Option<i128>>
     }
 }
 
-/// What a bound of a kind says as an upper side.
+/// The upper bound that a line of a kind gives, where it gives one.
 fn upper_said(kind: BoundKind, number: Number) -> Option<UpperBound>
     requires { IsBelowLarge number }
     ensures { result ≡ upper_of (bound_word kind) number }
@@ -191,7 +193,7 @@ fn after_bound(column: ColumnDraft, said: ColumnDraft) -> ColumnDraft
     }
 }
 
-/// The number of a bound, 0 where its kind takes none. None comes where it takes one and the text is none.
+/// The number of a bound, 0 where its kind takes none. `None` means that it takes one and the text is no number.
 fn number_in(kind: BoundKind, text: &str) -> Option<Number>
     ensures none { is_among (bound_word kind) numbered_words ≡ true → result ≡ number_of text.now }
     ensures some { is_among (bound_word kind) numbered_words ≡ false → result ≡ Some no_number }
@@ -207,7 +209,7 @@ fn number_in(kind: BoundKind, text: &str) -> Option<Number>
     }
 }
 
-/// The fields of a line of BOUNDS after its kind. None comes where the kind does not have that number of fields.
+/// The fields of a line of BOUNDS after its kind. `None` means that the kind does not have that number of fields.
 fn fields_after<'a>(kind: BoundKind, fields: &[&'a str]) -> Option<BoundFields<'a>>
     ensures { (l : Line) → bound_kind l ≡ bound_word kind → l.fields ≡ map (λ f. f.now) fields.now
         → MatchOption result (has_right_count l ≡ false) (λ b. IsBound l kind b.set.now b.column.now b.text.now) }

@@ -1,3 +1,5 @@
+//! The columns of the model of a draft.
+
 ghost use Rattle.std.specs.Prelude.{◌≡◌, ◌≤◌, ◌≤ℤ◌, ◌^◌, IfOk, drop, length, map, option_map, pos, string_bytes, unwrap_or};
 ghost use Rattle.std.specs.Option.{ForSome};
 ghost use Rattle.decimals.specs.Decimals.{IsBelowLarge};

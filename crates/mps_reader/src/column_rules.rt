@@ -1,3 +1,5 @@
+//! What each column must meet once the text is read: it is integer, it has its bounds, and its upper bound is no surprise.
+
 ghost use Rattle.std.specs.Prelude.{◌≡◌, length, map, string_bytes};
 ghost use Rattle.mps_defs.specs.Faults.{lower_is_missing as lower_is_missing_of, upper_is_missing as upper_is_missing_of};
 ghost use Rattle.mps_reader.specs.Internal.Drafted.{AnswersFaults, asked, missing_sides, column_faults};
@@ -15,13 +17,13 @@ use std::alloc::Global;
 pub enum Rule {
     /// It is integer.
     Integer,
-    /// It has both sides, or the box can stand for an absent one.
+    /// It has both bounds, or the box side takes the place of a missing one.
     Bounded,
-    /// Its last upper bound is not UP or UI with a negative number, where no bound is for its lower side.
+    /// Its last upper bound is not UP or UI with a negative number, where no line gives its lower bound.
     NotNegative,
 }
 
-/// Whether the lower side is absent and the box side cannot stand for it.
+/// Whether the lower bound is missing and the box side cannot take its place.
 fn lower_is_missing(how: How, lower: Option<i128>, upper: Option<i128>) -> bool
     requires { IsHow how }
     ensures { result ≡ lower_is_missing_of how.box_side lower upper }
@@ -33,7 +35,7 @@ fn lower_is_missing(how: How, lower: Option<i128>, upper: Option<i128>) -> bool
     }
 }
 
-/// Whether the upper side is absent and the box side cannot stand for it.
+/// Whether the upper bound is missing and the box side cannot take its place.
 fn upper_is_missing(how: How, lower: Option<i128>, upper: Option<i128>) -> bool
     ensures { result ≡ upper_is_missing_of how.box_side lower upper }
 {
@@ -44,7 +46,7 @@ fn upper_is_missing(how: How, lower: Option<i128>, upper: Option<i128>) -> bool
     }
 }
 
-/// Whether the last bound for an upper side is negative.
+/// Whether the last upper bound is UP or UI with a negative number.
 fn is_negative_bound(upper: Option<UpperBound>) -> bool
     ensures { result ≡ is_negative_bound_of upper }
 {
@@ -54,7 +56,7 @@ fn is_negative_bound(upper: Option<UpperBound>) -> bool
     }
 }
 
-/// A column without a side, the lower one first.
+/// Refuses a column that lacks a bound, the lower one first.
 fn check_sides(alloc: Global, how: How, name: &str, column: &ColumnDraft) -> Result<(), MpsError>
     requires { IsHow how }
     ensures { AnswersFaults (missing_sides how name.now column.now) result }
@@ -76,7 +78,7 @@ fn check_sides(alloc: Global, how: How, name: &str, column: &ColumnDraft) -> Res
     Ok(())
 }
 
-/// A column that does not meet a rule.
+/// Refuses a column that does not meet a rule.
 fn check_column(
     alloc: Global,
     rule: Rule,
@@ -106,7 +108,7 @@ fn check_column(
     }
 }
 
-/// The first column that does not meet a rule.
+/// Refuses the first column that does not meet a rule.
 pub fn check_columns(
     alloc: Global,
     rule: Rule,

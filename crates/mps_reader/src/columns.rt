@@ -1,3 +1,5 @@
+//! Lines of COLUMNS: markers, and columns with their entries.
+
 ghost use Rattle.std.specs.Prelude.{◌≡◌, ◌==◌, ◌∷◌, ◌&&◌, ◌||◌, ℕ, [], List, IfOk, None, OnOk, bytes_eq, codes, length, map, not, position};
 ghost use Rattle.std.specs.Prelude.{slice_index_or, string_bytes, true, false};
 ghost use Rattle.std.specs.Option.{option_map_or};

@@ -1,3 +1,5 @@
+//! What was read of a text so far.
+
 ghost use Rattle.std.specs.Prelude.{[]};
 ghost use Rattle.mps_reader.specs.Internal.Progress.{Stands};
 
@@ -38,15 +40,14 @@ pub struct RowTable {
     pub objective: Option<usize>,
 }
 
-/// What the last bound for an upper side says: the side that it gives, and whether it is UP or UI with a negative number.
+/// What the last upper bound says: the number that it gives, and whether it is UP or UI with a negative number.
 #[derive(Clone, Copy, Debug)]
 pub struct UpperBound {
     pub side: Option<i128>,
     pub is_negative: bool,
 }
 
-/// A column so far: whether it is known to be integer, the side that the last bound for its lower side gives, and the last bound for
-/// its upper side.
+/// A column so far: whether it is known to be integer, the number of its last lower bound, and its last upper bound.
 #[derive(Clone, Copy, Debug)]
 pub struct ColumnDraft {
     pub is_integer: bool,

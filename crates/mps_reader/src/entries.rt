@@ -1,3 +1,5 @@
+//! Entries of rows: numbers of columns, right sides and ranges.
+
 ghost use Rattle.std.specs.Prelude.{ℕ, ◌≡◌, ◌==◌, ◌++◌, nat_lt, false, List, OnOk, map, string_bytes, bytes_eq, codes};
 ghost use Rattle.std.specs.Option.{option_map_or};
 ghost use Rattle.mps_defs.specs.Lists.{last_of};
@@ -178,9 +180,9 @@ pub fn take_entries(
         → AreEntriesTaken ls owner es rows.new (entries_from line name (map (λ f. f.now) fields.now)) result }
 {
     match fields {
-        [row, text, rest @ ..] => {
+        [row, text, more @ ..] => {
             take_entry(rows, owner, line, row, text)?;
-            take_entries(rows, owner, line, rest)
+            take_entries(rows, owner, line, more)
         }
         _ => Ok(()),
     }

@@ -1,3 +1,5 @@
+//! The fields of a line.
+
 ghost use Rattle.std.specs.Prelude.{◌≡◌, ◌==◌, ◌++◌, IfOk, OnOk, filter, length, map, nat_le};
 ghost use Rattle.std.specs.List.{slice_split};
 ghost use Rattle.mps_defs.specs.Records.{fields_of};

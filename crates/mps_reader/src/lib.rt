@@ -1,4 +1,4 @@
-//! Reads integer programs from MPS texts.
+//! Reads integer programs from MPS texts: each text has its model, or is refused for its first fault.
 #![tactic(auto)]
 
 mod bounds;

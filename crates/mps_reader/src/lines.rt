@@ -1,3 +1,5 @@
+//! The lines of a text, and what a line begins with.
+
 ghost use Rattle.std.specs.Prelude.{◌≡◌, ◌==◌, IfOk, map};
 ghost use Rattle.std.specs.List.{slice_split};
 ghost use Rattle.mps_defs.specs.Records.{begins_with, is_blank, is_star, without_return, is_line_end};

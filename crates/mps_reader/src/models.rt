@@ -1,3 +1,5 @@
+//! The model of a draft, or the first fault of its columns and limits.
+
 ghost use Rattle.std.specs.Prelude.{◌≡◌, ◌≤◌, ◌<◌, IfOk, List, ℕ, Some, length, neg_ℤ, slice_get, string_bytes, unwrap_or};
 ghost use Rattle.std.specs.List.{list_any};
 ghost use Rattle.std.specs.Option.{ForSome};
@@ -46,7 +48,7 @@ fn has_end(sections: &[Section]) -> bool
     sections.iter().any(|section| is_end(*section))
 }
 
-/// The first column that is not integer, else the first without a side, else the first with a negative upper bound.
+/// The first column that is not integer, else the first that lacks a bound, else the first with a negative upper bound.
 fn check_draft(alloc: Global, draft: &Draft, how: How) -> Result<(), MpsError>
     requires how { IsHow how }
     requires counts { HasCounts draft.now }
@@ -105,7 +107,7 @@ fn parts_of(alloc: Global, draft: &Draft, objective: usize, how: How) -> Result<
     })
 }
 
-/// The model of parts, or the first limit that they pass.
+/// The model of parts, or the first limit that they exceed.
 fn limited(parts: Parts) -> Result<IntModel, MpsError>
     requires { IsWellShaped parts }
     ensures { IsMade parts result }
@@ -116,7 +118,7 @@ fn limited(parts: Parts) -> Result<IntModel, MpsError>
     }
 }
 
-/// The model of a draft with its objective, or the first limit that it passes. Too many columns are the first of all.
+/// The model of a draft with its objective, or the first limit that it exceeds. Too many columns come first.
 fn model_within(
     alloc: Global,
     draft: &Draft,

@@ -1,3 +1,5 @@
+//! One walk through the lines of a text, and the model at its end.
+
 ghost use Rattle.std.specs.Prelude.{◌≡◌, ℕ, ◌≤◌, ◌^◌, IfOk, List, None, false, codes, length, map};
 ghost use Rattle.std.specs.List.{list_any};
 ghost use Rattle.mps_defs.specs.Lists.{is_among};
@@ -42,7 +44,7 @@ fn take_item(alloc: Global, draft: &mut Draft, line: u32, fields: &[&str]) -> Re
     }
 }
 
-/// Takes a line of a text, and tells whether it is the ENDATA line. Comments and lines without a field are skipped.
+/// Takes a line of a text, and answers whether it is the ENDATA line. Comments and lines without a field are skipped.
 fn take_line(alloc: Global, draft: &mut Draft, number: u32, text: &str) -> Result<bool, MpsError>
     ensures { (ps : List (ℕ × List ℕ)) → Stands (lines_by ps) draft.old → list_any is_end_line ps ≡ false
         → IsLineTaken ps (number, without_return text.now) draft.new result }
@@ -90,8 +92,8 @@ fn draft_of(alloc: Global, text: &str) -> Result<Draft, MpsError>
 }
 
 /// The model of an MPS text, or its first refusal. A text that is not UTF-8 is refused first; then the first line with a fault, then a
-/// text without ENDATA, then one without an objective, then the columns by number, then the limits. Only `Memory` says nothing of the
-/// text. No row of the model has its low side above its high side.
+/// text without ENDATA, then one without an objective, then the columns by number, then the limits. `Memory` alone says nothing of the
+/// text. No row of the model has its lower side above its upper side.
 pub fn read(alloc: Global, text: &[u8], how: How) -> Result<IntModel, MpsError>
     requires length { length text.now ≤ 2 ^ 31 }
     requires how { IsHow how }

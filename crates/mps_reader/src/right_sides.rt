@@ -1,3 +1,5 @@
+//! Lines of RHS and RANGES.
+
 ghost use Rattle.std.specs.Prelude.{◌≡◌, IfOk, OnOk, ◌&&◌, ◌∷◌, [], nat_le, true, false, List, length, map, codes};
 ghost use Rattle.std.specs.Option.{MatchOption};
 ghost use Rattle.mps_defs.specs.Lists.{is_among};
@@ -12,8 +14,8 @@ use crate::sections::Section;
 use mps_defs::MpsError;
 use std::alloc::{AllocError, Global};
 
-/// The set that a line names, the empty one where it names none, and its fields for entries. None comes where the number of fields
-/// is none of 2 to 5.
+/// The set that a line names, the empty one where it names none, and its fields for entries. `None` means that the number of
+/// fields is none of 2 to 5.
 fn parts_of<'a>(fields: &'a [&'a str]) -> Option<(&'a str, &'a [&'a str])>
     ensures { MatchOption result (nat_le 2 (length fields.now) && nat_le (length fields.now) 5
         ≡ false) (λ p. IsSetLine (map (λ f. f.now) fields.now) p.0.now (map (λ f. f.now) p.1.now)) }

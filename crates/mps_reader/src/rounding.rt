@@ -1,33 +1,23 @@
+//! Bounds are rounded inwards.
+
 ghost use Rattle.std.specs.Prelude.{◌≡◌, ◌+◌, ◌^◌, ◌/◌, ◌<◌};
 ghost use Rattle.decimals.specs.Decimals.{IsBelowLarge};
-ghost use Rattle.mps_defs.specs.Numbers.{signed as signed_of};
 ghost use Rattle.mps_defs.specs.TextModels.{rounded_down as rounded_down_of, rounded_up as rounded_up_of};
 
+use decimals::signed;
 use mps_defs::Number;
 
-/// 10^20 written units, which a Large number stands for.
+/// 10^20, which a Large number counts as.
 const LARGE: u128 = 100_000_000_000_000_000_000;
 
-/// A size with its sign.
-fn signed(negative: bool, size: u128) -> i128
-    requires { size < 2 ^ 127 }
-    ensures { result ≡ signed_of negative size }
-{
-    if negative {
-        -(size as i128)
-    } else {
-        size as i128
-    }
-}
-
-/// The whole part of `size / 10^decimals`, which is below 10^20.
-fn whole_part(size: u128, decimals: u32) -> u128
-    requires { size < 10 ^ (20 + decimals) }
-    ensures value { result ≡ size / 10 ^ decimals }
+/// The whole part of `absolute / 10^decimals`, which is below 10^20.
+fn whole_part(absolute: u128, decimals: u32) -> u128
+    requires { absolute < 10 ^ (20 + decimals) }
+    ensures value { result ≡ absolute / 10 ^ decimals }
     ensures small { result < 10 ^ 20 }
 {
     match 10_u128.checked_pow(decimals) {
-        Some(tens) => size / tens,
+        Some(tens) => absolute / tens,
         None => 0,
     }
 }
@@ -39,11 +29,11 @@ pub fn rounded_down(number: Number) -> i128
 {
     match number {
         Number::Dec { units, decimals } => {
-            let size = units.unsigned_abs();
+            let absolute = units.unsigned_abs();
             if units < 0 {
-                signed(true, whole_part(size - 1, decimals) + 1)
+                signed(true, whole_part(absolute - 1, decimals) + 1)
             } else {
-                signed(false, whole_part(size, decimals))
+                signed(false, whole_part(absolute, decimals))
             }
         }
         Number::Large { negative } => signed(negative, LARGE),
@@ -57,11 +47,11 @@ pub fn rounded_up(number: Number) -> i128
 {
     match number {
         Number::Dec { units, decimals } => {
-            let size = units.unsigned_abs();
+            let absolute = units.unsigned_abs();
             if units > 0 {
-                signed(false, whole_part(size - 1, decimals) + 1)
+                signed(false, whole_part(absolute - 1, decimals) + 1)
             } else {
-                signed(true, whole_part(size, decimals))
+                signed(true, whole_part(absolute, decimals))
             }
         }
         Number::Large { negative } => signed(negative, LARGE),

@@ -1,3 +1,5 @@
+//! The rows of the model of a draft: the table of row sides.
+
 ghost use Rattle.std.specs.Prelude.{◌≡◌, ◌<◌, ◌≤◌, IfOk, length, map, slice_get, string_bytes, unsigned_abs, unwrap_or, pos};
 ghost use Rattle.std.specs.Option.{ForSome};
 ghost use Rattle.decimals.specs.Decimals.{IsBelowLarge};
@@ -80,7 +82,7 @@ fn coefs_of(
     Ok(coefs)
 }
 
-/// The sides of a row, the low one first.
+/// The sides of a row, the lower one first.
 type Sides = (Option<i64>, Option<i64>);
 
 /// The sides of a row without a range.
@@ -134,7 +136,7 @@ fn is_open(kind: RowKind, right_side: Number) -> bool
     }
 }
 
-/// The sides of a row by its kind, its right side and its range. A Large right side that leaves sides passes the limit.
+/// The sides of a row by its kind, its right side and its range. A Large right side that leaves a side exceeds the limit.
 fn row_sides(kind: RowKind, decimals: u8, right_side: Number, range: Option<Number>) -> Sides
     requires decimals { decimals ≤ 9 }
     requires right_side { IsBelowLarge right_side }

@@ -1,3 +1,5 @@
+//! Lines of ROWS.
+
 ghost use Rattle.std.specs.Prelude.{◌≡◌, ◌∷◌, [], List, None, Some, OnOk, true, false, codes, map, bytes_eq, position, string_bytes};
 ghost use Rattle.std.specs.Option.{MatchOption};
 ghost use Rattle.mps_defs.specs.Lists.{is_among, last_of, where_true};

@@ -82,6 +82,9 @@ scaled_1 = refl
 pub scaled_2 : exact_units (Dec (pos 25) 1) 0 ≡ None
 scaled_2 = refl
 
+pub scaled_3 : exact_units (Dec (pos 10) 1) 0 ≡ Some (pos 1)
+scaled_3 = refl
+
 pub text_1 : decimal_text (negsuc 2499) 3 ≡ codes "-2.5"
 unfolding digits
 text_1 = refl

@@ -24,10 +24,10 @@ program columns' rows' = record { objective = codes "cost"; cost_decimals = 0; c
 -- least -5a - 4b - 3c under three rows
 abbrev three_rows : Parts
 three_rows = program
-    (column (codes "a") (negsuc 4) (pos 0) (pos 10) ∷ column (codes "b") (negsuc 3) (pos 0) (pos 10) ∷ column (codes "c") (negsuc 2)
-    (pos 0) (pos 10) ∷ [])
-    (row ((0, pos 2) ∷ (1, pos 3) ∷ (2, pos 1) ∷ []) None (Some (pos 5)) ∷ row ((0, pos 4) ∷ (1, pos 1) ∷ (2, pos 2) ∷ []) None
-    (Some (pos 11)) ∷ row ((0, pos 3) ∷ (1, pos 4) ∷ (2, pos 2) ∷ []) None (Some (pos 8)) ∷ [])
+    (column (codes "a") (negsuc 4) (pos 0) (pos 10) ∷ column (codes "b") (negsuc 3) (pos 0) (pos 10) ∷
+    column (codes "c") (negsuc 2) (pos 0) (pos 10) ∷ [])
+    (row ((0, pos 2) ∷ (1, pos 3) ∷ (2, pos 1) ∷ []) None (Some (pos 5)) ∷ row ((0, pos 4) ∷ (1, pos 1) ∷ (2, pos 2) ∷
+    []) None (Some (pos 11)) ∷ row ((0, pos 3) ∷ (1, pos 4) ∷ (2, pos 2) ∷ []) None (Some (pos 8)) ∷ [])
 
 abbrev best : List ℤ
 best = pos 2 ∷ pos 0 ∷ pos 1 ∷ []
@@ -58,12 +58,12 @@ within_limits = refl
 
 -- 2x - 2y = 1 has no point in whole numbers: each point of its box breaks the row
 abbrev odd : Parts
-odd = program (column (codes "x") (pos 0) (pos 0) (pos 1) ∷ column (codes "y") (pos 0) (pos 0) (pos 1) ∷ [])
-    (row ((0, pos 2) ∷ (1, negsuc 1) ∷ []) (Some (pos 1)) (Some (pos 1)) ∷ [])
+odd = program (column (codes "x") (pos 0) (pos 0) (pos 1) ∷ column (codes "y") (pos 0) (pos 0) (pos 1) ∷ []) (row ((0, pos 2) ∷
+    (1, negsuc 1) ∷ []) (Some (pos 1)) (Some (pos 1)) ∷ [])
 
-pub odd_breaks : (first_breach odd (pos 0 ∷ pos 0 ∷ []) ≡ Some (Broken.Row 0))
-    × (first_breach odd (pos 1 ∷ pos 0 ∷ []) ≡ Some (Broken.Row 0)) × (first_breach odd (pos 0 ∷ pos 1 ∷ []) ≡ Some (Broken.Row 0))
-    × (first_breach odd (pos 1 ∷ pos 1 ∷ []) ≡ Some (Broken.Row 0))
+pub odd_breaks : (first_breach odd (pos 0 ∷ pos 0 ∷ []) ≡ Some (Broken.Row 0)) × (first_breach odd (pos 1 ∷ pos 0 ∷ [])
+    ≡ Some (Broken.Row 0)) × (first_breach odd (pos 0 ∷ pos 1 ∷ []) ≡ Some (Broken.Row 0)) × (first_breach odd (pos 1 ∷ pos 1 ∷ [])
+    ≡ Some (Broken.Row 0))
 odd_breaks = (refl, refl, refl, refl)
 
 -- a ray that proves it where x and y are 0
@@ -75,8 +75,8 @@ pub odd_box : leaf_bound odd (box_of odd) (record { q = pos 0; y = (0, pos 1) �
 odd_box = refl
 
 -- a row with its low side above its high side is met by no point
-pub crossed_row : first_breach (program (column (codes "x") (pos 0) (pos 0) (pos 9) ∷ [])
-    (row ((0, pos 1) ∷ []) (Some (pos 3)) (Some (pos 2)) ∷ [])) (pos 3 ∷ []) ≡ Some (Broken.Row 0)
+pub crossed_row : first_breach (program (column (codes "x") (pos 0) (pos 0) (pos 9) ∷ []) (row ((0, pos 1) ∷
+    []) (Some (pos 3)) (Some (pos 2)) ∷ [])) (pos 3 ∷ []) ≡ Some (Broken.Row 0)
 crossed_row = refl
 
 -- a column with its lower side above its upper side: no point lies in the box, and any certificate says so
@@ -90,6 +90,6 @@ pub empty_bound : leaf_bound empty_column (box_of empty_column) (record { q = po
 empty_bound = refl
 
 -- a dual value over q is rounded up: -3/2 gives -1
-pub rounded_up : leaf_bound (program (column (codes "x") (negsuc 0) (pos 0) (pos 5) ∷ []) (row ((0, pos 2) ∷ []) None (Some (pos 3)) ∷ []))
-    ((pos 0, pos 5) ∷ []) (record { q = pos 2; y = (0, negsuc 0) ∷ [] }) ≡ At (negsuc 0)
+pub rounded_up : leaf_bound (program (column (codes "x") (negsuc 0) (pos 0) (pos 5) ∷ []) (row ((0, pos 2) ∷ []) None (Some (pos 3)) ∷
+    [])) ((pos 0, pos 5) ∷ []) (record { q = pos 2; y = (0, negsuc 0) ∷ [] }) ≡ At (negsuc 0)
 rounded_up = refl

@@ -1,4 +1,4 @@
--- Numbers of a draft that are Large or below 10^20 in size, as all numbers that are read.
+-- Numbers of a draft that are Large or of an absolute value below 10^20, as all numbers that are read.
 use Rattle.std.specs.Prelude.{◌≡◌, ◌<◌, ◌≤◌, ℕ, List, slice_get, Some}
 use Rattle.std.specs.Option.{ForSome}
 use Rattle.decimals.specs.Decimals.{IsBelowLarge}

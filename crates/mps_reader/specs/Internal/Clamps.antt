@@ -1,15 +1,15 @@
--- Programs with every number cut to one that passes the same limits, so that it fits 64 bits.
+-- Programs with every number cut to one that fits 64 bits and exceeds the same limits.
 use Rattle.std.specs.Prelude.{ℕ, ◌+◌, ◌^◌, List, map, Option, option_map, ℤ, pos, neg_ℤ}
 use Rattle.std.specs.Int.{int_min, int_max}
 use Rattle.ip_defs.specs.declared.programs.Column.{Column}
 use Rattle.ip_defs.specs.declared.programs.Row.{Row}
 use Rattle.ip_defs.specs.declared.programs.Parts.{Parts}
 
--- the least number that passes each limit
+-- the least number that exceeds each limit
 abbrev pub beyond : ℤ
 beyond = pos (2 ^ 62 + 1)
 
--- the number, or one of its sign that passes each limit too
+-- the number, or one of its sign that exceeds each limit too
 abbrev pub clamped : ℤ → ℤ
 clamped z = int_max (neg_ℤ beyond) (int_min z beyond)
 

@@ -1,4 +1,4 @@
--- What a draft that is whole ends with: a model, or the first fault.
+-- What a draft of all lines is answered by: its model, or the first fault.
 use Rattle.std.specs.Prelude.{◌≡◌, ℕ, List, [], ◌++◌, length, None, Some, Result, Ok, Err}
 use Rattle.ip_defs.specs.Lists.{first_of}
 use Rattle.ip_defs.specs.Limits.{limits_of}
@@ -18,7 +18,7 @@ pub record HasCounts (d : Draft) : Type 0 where
   pub rows : length d.rows.names.keys ≡ length d.rows.rows.items
   pub columns : length d.columns.names.keys ≡ length d.columns.columns.items
 
--- the model of parts, or the first limit that they pass
+-- the model of parts, or the first limit that they exceed
 abbrev pub IsMade : Parts → Result Parts MpsError → Type 0
 IsMade parts (Ok m) = (limits_of parts ≡ []) × (m ≡ parts)
 IsMade parts (Err e) = first_of (limit_faults parts) ≡ Some e

@@ -1,4 +1,4 @@
-use Rattle.std.proofs.Common.{arith, ◌≡◌, ◌≤◌, ◌*◌, ◌/◌, ◌^◌}
+use Rattle.std.proofs.Common.{arith, ◌/◌, ◌^◌}
 use Rattle.std.proofs.Math.Nat.{mul-div-le, mul-le-mul_right}
 use Rattle.decimals.proofs.NumberLaws.{tens_rise}
 use Rattle.decimals.proofs.scales.whole_quotient.Goals as goal

@@ -15,9 +15,9 @@ returns-then-units-lt0 c =
     let read : to_z w128 (of_z w128 units) ≡ units = omega (arith, ints) in
     let side : units <ℤ pos 0 = omega (arith, ints, c.if-units-lt0.true) in
     back
-    ∙ c.signed.ensures
+    ∙ c.signed.ensures.value
     ∙ ap (λ q. neg_ℤ (pos (q + 1)))
-    (c.whole_part.ensures.value ∙ ap (λ n. (n - 1) / 10 ^ c.in-Dec.decimals) (c.unsigned_abs-size.ensures.value ∙ ap unsigned_abs read))
+    (c.whole_part.ensures.value ∙ ap (λ n. (n - 1) / 10 ^ c.in-Dec.decimals) (c.unsigned_abs-absolute.ensures.value ∙ ap unsigned_abs read))
     ∙ down_below units (10 ^ c.in-Dec.decimals) (ten_positive c.in-Dec.decimals) side
     ∙ ap rounded_down (sym c.in-Dec.is)
 
@@ -28,8 +28,8 @@ returns-else-units-lt0 c =
     let read : to_z w128 (of_z w128 units) ≡ units = omega (arith, ints) in
     let side : pos 0 ≤ℤ units = omega (arith, ints, c.if-units-lt0.false) in
     back
-    ∙ c.signed-else-units-lt0.ensures
+    ∙ c.signed-else-units-lt0.ensures.value
     ∙ ap (λ q. pos q) (c.whole_part-else-units-lt0.ensures.value
-    ∙ ap (λ n. n / 10 ^ c.in-Dec.decimals) (c.unsigned_abs-size.ensures.value ∙ ap unsigned_abs read))
+    ∙ ap (λ n. n / 10 ^ c.in-Dec.decimals) (c.unsigned_abs-absolute.ensures.value ∙ ap unsigned_abs read))
     ∙ down_above units (10 ^ c.in-Dec.decimals) side
     ∙ ap rounded_down (sym c.in-Dec.is)

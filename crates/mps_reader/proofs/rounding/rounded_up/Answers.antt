@@ -15,9 +15,9 @@ returns-then-units-gt0 c =
     let read : to_z w128 (of_z w128 units) ≡ units = omega (arith, ints) in
     let side : pos 0 <ℤ units = omega (arith, ints, c.if-units-gt0.true) in
     back
-    ∙ c.signed.ensures
+    ∙ c.signed.ensures.value
     ∙ ap (λ q. pos (q + 1))
-    (c.whole_part.ensures.value ∙ ap (λ n. (n - 1) / 10 ^ c.in-Dec.decimals) (c.unsigned_abs-size.ensures.value ∙ ap unsigned_abs read))
+    (c.whole_part.ensures.value ∙ ap (λ n. (n - 1) / 10 ^ c.in-Dec.decimals) (c.unsigned_abs-absolute.ensures.value ∙ ap unsigned_abs read))
     ∙ up_above units (10 ^ c.in-Dec.decimals) (ten_positive c.in-Dec.decimals) side
     ∙ ap rounded_up (sym c.in-Dec.is)
 
@@ -28,9 +28,9 @@ returns-else-units-gt0 c =
     let read : to_z w128 (of_z w128 units) ≡ units = omega (arith, ints) in
     let side : units ≤ℤ pos 0 = omega (arith, ints, c.if-units-gt0.false) in
     back
-    ∙ c.signed-else-units-gt0.ensures
+    ∙ c.signed-else-units-gt0.ensures.value
     ∙ ap (λ q. neg_ℤ (pos q))
     (c.whole_part-else-units-gt0.ensures.value
-    ∙ ap (λ n. n / 10 ^ c.in-Dec.decimals) (c.unsigned_abs-size.ensures.value ∙ ap unsigned_abs read))
+    ∙ ap (λ n. n / 10 ^ c.in-Dec.decimals) (c.unsigned_abs-absolute.ensures.value ∙ ap unsigned_abs read))
     ∙ up_below units (10 ^ c.in-Dec.decimals) (ten_positive c.in-Dec.decimals) side
     ∙ ap rounded_up (sym c.in-Dec.is)

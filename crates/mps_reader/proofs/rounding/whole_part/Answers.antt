@@ -9,4 +9,4 @@ nonzero_div-result c = subst (λ n. 0 < n) (sym c.in-Some.ensures.1) (ten_positi
 
 pub returns-in-Some-clause-small : goal.returns-in-Some-clause-small
 returns-in-Some-clause-small c =
-    subst (λ n. c.args.size / n < 10 ^ 20) (sym c.in-Some.ensures.1) (whole_is_small c.args.size c.args.decimals c.requires)
+    subst (λ n. c.args.absolute / n < 10 ^ 20) (sym c.in-Some.ensures.1) (whole_is_small c.args.absolute c.args.decimals c.requires)

@@ -1,6 +1,6 @@
 use Rattle.std.proofs.Common.{◌≡◌, ◌++◌, ◌<◌, ℕ, [], length, get_or, take}
 use Rattle.mps_printer.specs.Internal.Entries.{listed_for}
-use Rattle.mps_printer.proofs.gather.push_row.Given as goal
+use Rattle.mps_printer.proofs.column_entries.push_row.Given as goal
 
 abbrev pub invariant-loop-column : goal.invariant-loop-column
 invariant-loop-column l = record {

@@ -1,3 +1,5 @@
+//! The coefficients of a model by column, gathered in one walk through its rows.
+
 ghost use Rattle.std.specs.Prelude.{◌≡◌, ◌++◌, ◌<◌, ◌≤◌, ◌^◌, ℕ, IfOk, OnOk, [], length, slice_index_or};
 ghost use Rattle.ip_defs.specs.Limits.{AreOrdered, IsWithinLimits};
 ghost use Rattle.mps_printer.specs.Internal.Entries.{column_entries, listed_for};
@@ -5,9 +7,9 @@ ghost use Rattle.mps_printer.specs.Internal.Entries.{column_entries, listed_for}
 use ip_defs::{Coefs, Memory, Parts};
 use std::alloc::Global;
 
-/// So many empty lists.
+/// That number of empty lists.
 fn empty_lists(alloc: Global, count: usize) -> Result<Vec<Coefs>, Memory>
-    ensures size { IfOk result (λ v. length v.items ≡ count) }
+    ensures length { IfOk result (λ v. length v.items ≡ count) }
     ensures empty { IfOk result (λ v. (j : ℕ) → j < count → slice_index_or v.items j [] ≡ []) }
 {
     let mut lists = Vec::new(alloc);
@@ -20,7 +22,7 @@ fn empty_lists(alloc: Global, count: usize) -> Result<Vec<Coefs>, Memory>
 /// Adds the coefficients of a row, each with the number of the row, to the lists of their columns.
 fn push_row(lists: &mut Vec<Coefs>, row: u32, coefs: &[(u32, i64)]) -> Result<(), Memory>
     requires { AreOrdered (length lists.old.items) coefs.now }
-    ensures size { length lists.new.items ≡ length lists.old.items }
+    ensures length { length lists.new.items ≡ length lists.old.items }
     ensures lists { OnOk result ((j : ℕ) → j < length lists.old.items
         → slice_index_or lists.new.items j [] ≡ slice_index_or lists.old.items j [] ++ listed_for j row coefs.now) }
 {
@@ -34,7 +36,7 @@ fn push_row(lists: &mut Vec<Coefs>, row: u32, coefs: &[(u32, i64)]) -> Result<()
 /// being out of memory.
 pub fn entries_by_column(alloc: Global, parts: &Parts) -> Result<Vec<Coefs>, Memory>
     requires { IsWithinLimits parts.now }
-    ensures size { IfOk result (λ v. length v.items ≡ length parts.now.columns) }
+    ensures length { IfOk result (λ v. length v.items ≡ length parts.now.columns) }
     ensures lists { IfOk result (λ v. (j : ℕ) → j < length parts.now.columns
         → slice_index_or v.items j [] ≡ column_entries j 0 parts.now.rows) }
 {

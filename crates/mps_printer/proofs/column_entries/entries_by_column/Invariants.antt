@@ -1,6 +1,6 @@
 use Rattle.std.proofs.Common.{◌≡◌, ◌<◌, ℕ, [], length, get_or, take}
 use Rattle.mps_printer.specs.Internal.Entries.{column_entries}
-use Rattle.mps_printer.proofs.gather.entries_by_column.Given as goal
+use Rattle.mps_printer.proofs.column_entries.entries_by_column.Given as goal
 
 abbrev pub invariant-loop-i : goal.invariant-loop-i
 invariant-loop-i l = record {

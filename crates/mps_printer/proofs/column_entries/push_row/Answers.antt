@@ -8,7 +8,7 @@ use Rattle.std.proofs.lemmas.Option.{get_or_from_slice_get, slice_get-get_or, sl
 use mir.Val.{SFits}
 use Rattle.mps_printer.specs.Internal.Entries.{listed_for}
 use Rattle.mps_printer.proofs.EntryLaws.{added, listed_more, pushed}
-use Rattle.mps_printer.proofs.gather.push_row.Goals as goal
+use Rattle.mps_printer.proofs.column_entries.push_row.Goals as goal
 
 pub loop-column-preserved : goal.loop-column-preserved
 loop-column-preserved c =

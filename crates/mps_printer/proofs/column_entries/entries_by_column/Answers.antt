@@ -4,7 +4,7 @@ use Rattle.std.proofs.lemmas.Option.{slice_get_read}
 use Rattle.ip_defs.specs.declared.programs.Row.{Row}
 use Rattle.mps_printer.specs.Internal.Entries.{column_entries, listed_for}
 use Rattle.mps_printer.proofs.EntryLaws.{entries_more}
-use Rattle.mps_printer.proofs.gather.entries_by_column.Goals as goal
+use Rattle.mps_printer.proofs.column_entries.entries_by_column.Goals as goal
 
 pub loop-i-preserved : goal.loop-i-preserved
 loop-i-preserved c =
@@ -19,7 +19,7 @@ loop-i-preserved c =
     let coefs = c.as_slice-in-loop-i.result.now in
     let first : 0 + i ≡ i = omega arith in
     record {
-      size = c.in_ok-push_row.ensures.size ∙ size;
+      size = c.in_ok-push_row.ensures.length ∙ size;
       lists = λ j l.
           let within : j < length c.loop-i.lists.items = omega arith in
           let before = column_entries j 0 (take i rows) in

@@ -1,5 +1,5 @@
 use Rattle.std.proofs.Common.{◌≡◌, ◌<◌, ℕ, [], length, get_or}
-use Rattle.mps_printer.proofs.gather.empty_lists.Given as goal
+use Rattle.mps_printer.proofs.column_entries.empty_lists.Given as goal
 
 abbrev pub invariant-loop : goal.invariant-loop
 invariant-loop l = record {

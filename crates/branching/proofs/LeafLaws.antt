@@ -1,6 +1,6 @@
 -- What closes a box: its sum, its one point, or a ray on a row that its one point breaks.
-use Rattle.std.specs.Prelude.{◌≡◌, ℕ, ◌<◌, Bool, true, false, if◌then◌else◌, List, [], ◌∷◌, length, slice_get, Option, Some, None,
-    option_map, ℤ, pos, negsuc, ◌+ℤ◌, ◌-ℤ◌, ◌*ℤ◌, ◌<ℤ◌}
+use Rattle.std.specs.Prelude.{◌≡◌, ℕ, ◌<◌, Bool, true, false, if◌then◌else◌, List, [], ◌∷◌, length, slice_get, Option, Some, None}
+use Rattle.std.specs.Prelude.{option_map, ℤ, pos, negsuc, ◌+ℤ◌, ◌-ℤ◌, ◌*ℤ◌, ◌<ℤ◌}
 use Rattle.std.specs.Int.{int_min}
 use Rattle.std.specs.Int.Signed.{lt_z}
 use Rattle.std.specs.List.{list_any}
@@ -16,8 +16,8 @@ use Rattle.ip_defs.specs.declared.certificates.Cert.{Cert}
 use Rattle.ip_defs.specs.declared.programs.Parts.{Parts}
 use Rattle.ip_defs.specs.declared.programs.Row.{Row}
 use Rattle.ip_defs.specs.Boxes.{IsOpen}
-use Rattle.ip_defs.specs.Certificates.{coefs_of, side_for, pay, coefficient_of, reduced, column_part, dual_value, box_sum, ceiling, is_empty_side,
-    bound_by, leaf_bound}
+use Rattle.ip_defs.specs.Certificates.{coefs_of, side_for, pay, coefficient_of, reduced, column_part, dual_value, box_sum, ceiling}
+use Rattle.ip_defs.specs.Certificates.{is_empty_side, bound_by, leaf_bound}
 use Rattle.ip_defs.specs.Limits.{IsCert, IsWithinLimits}
 use Rattle.ip_defs.specs.Program.{at, box_of, coefficient, costs_of, row_sum, low_at, high_at, IsIn, cost}
 use Rattle.ip_defs.specs.Sums.{sum_below}
@@ -26,8 +26,8 @@ use Rattle.ip_defs.proofs.BoxLaws.{box_within, open_from, open_sides}
 use Rattle.proof_tree.specs.Verdicts.{IsAtLeast}
 use Rattle.branching.specs.OpenTrees.{plain_cert}
 use Rattle.branching.specs.Outcomes.{IsClosedBy}
-use Rattle.branching.specs.Internal.Search.{Closes, Found, Improves, IsBelow, IsEnd, IsPartOf, IsSearchArea, IsSingle, IsSound, lowest,
-    point_of, ray_on}
+use Rattle.branching.specs.Internal.Search.{Closes, Found, Improves, IsBelow, IsEnd, IsPartOf, IsSearchArea, IsSingle, IsSound, lowest}
+use Rattle.branching.specs.Internal.Search.{point_of, ray_on}
 use Rattle.ip_defs.proofs.OrderLaws.{less_true}
 
 -- ---- boxes of a search

@@ -1,6 +1,6 @@
 -- Whole numbers among the rational ones, and the floor of a number between two of them.
-use Rattle.std.specs.Prelude.{◌≡◌, ℕ, zero, suc, ◌^◌, ℤ, pos, negsuc, ◌+ℤ◌, ◌-ℤ◌, ◌*ℤ◌, ◌≤ℤ◌, ◌<ℤ◌, unsigned_abs, ◌≤◌, ◌==◌, Bool, true,
-    false, MatchBool, List, length, ◌<◌, ◌+◌, Option, Some, None}
+use Rattle.std.specs.Prelude.{◌≡◌, ℕ, zero, suc, ◌^◌, ℤ, pos, negsuc, ◌+ℤ◌, ◌-ℤ◌, ◌*ℤ◌, ◌≤ℤ◌, ◌<ℤ◌, unsigned_abs, ◌≤◌, ◌==◌, Bool, true}
+use Rattle.std.specs.Prelude.{false, MatchBool, List, length, ◌<◌, ◌+◌, Option, Some, None}
 use Rattle.std.specs.Option.{is_some}
 use Rattle.std.proofs.Common.{arith, refl, ap, sym, ◌∙◌, subst, get_or, below_more}
 use Rattle.std.proofs.Math.Nat.{dvd-one}

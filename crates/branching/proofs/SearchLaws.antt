@@ -255,7 +255,7 @@ stop_is_right m l t after x Nodes g = record {
 -- a search of the box that ended, as a proof
 end_is_finished : (m : Parts) (l : Limits) (t : PlainOpen) (after : ℕ) (x : Found) (p : Proof) (whys : List Why) → IsWithinLimits m
     → l.nodes ≤ 1000000 → l.depth ≤ 800 → HasLength (length m.columns) p.claim → IsGrown m l 0 (box_of m) 1 after None x t None
-        → plain p.tree ≡ tree_of t → whys ≡ split_labels t
+    → plain p.tree ≡ tree_of t → whys ≡ split_labels t
     → AreProvedBy m p.claim (bound_over m (tree_of t) (box_of m)) → IsFinished m l p whys
 end_is_finished m l t after x p whys limits few shallow sized g tree_is whys_is proved' =
     let listed = places_counted 0 (box_of m) t in

@@ -9,8 +9,8 @@ ghost use Rattle.branching.specs.Outcomes.{HasOneStuck, IsRightOutcome, IsTrueOu
 ghost use Rattle.branching.specs.Internal.Search.{IsAnswerOf, IsGrown, MayVisit};
 ghost use Rattle.branching.specs.Sizes.{AreAmple, IsAnswer};
 
-use crate::leaves::best_point;
 use crate::finished_trees::finish;
+use crate::leaves::best_point;
 use crate::nodes::{Progress, Visit, visit_node};
 use crate::{BudgetWhat, Limits, OpenTree, Outcome, Why, Whys};
 use ip_defs::{Area, Memory, Point};

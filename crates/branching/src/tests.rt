@@ -14,9 +14,7 @@ use ip_defs::{Bound, Memory};
 use ip_model::{IntModel, allowance, crossed};
 use leaf_cert::scratch;
 use proof_tree::{fits_model, tree_bound, tree_limits};
-use sample_models::{
-    empty_column, half, negative_sum, no_rows, parity, three_rows, wide_columns,
-};
+use sample_models::{empty_column, half, negative_sum, no_rows, parity, three_rows, wide_columns};
 use std::alloc::Global;
 use std::marker::Brand;
 use std::sync::ledger::{Blank, Ledger};
@@ -80,12 +78,7 @@ fn proved_claim(alloc: Global, claim: &Claim, bound: Bound) -> Result<String, Me
 }
 
 /// A proof that was found, with the number of its reasons.
-fn found(
-    alloc: Global,
-    model: &IntModel,
-    proof: &Proof,
-    reasons: usize,
-) -> Result<String, Fail> {
+fn found(alloc: Global, model: &IntModel, proof: &Proof, reasons: usize) -> Result<String, Fail> {
     let bound = proved_bound(alloc, model, proof)?;
     let claim = proved_claim(alloc, &proof.claim, bound)?;
     Ok(format!(in alloc; "{claim}, {reasons} reasons")?)
@@ -151,8 +144,14 @@ fn solved(alloc: Global, model: &IntModel, pivots: u32) -> Result<String, Fail> 
 fn a_split_at_a_half(rt: HostRuntime) -> Result<(), Fail> {
     let alloc = rt.alloc();
     let model = half(alloc, 5)?;
-    assert_eq!(rt; solved(alloc, &model, 5_000)?.as_str(), "best 1 of cost -1, 1 reasons, 3 nodes, 0 skipped");
-    assert_eq!(rt; solved(alloc, &model, 0)?.as_str(), "best 1 of cost -1, 3 reasons, 7 nodes, 3 skipped");
+    assert_eq!(rt;
+        solved(alloc, &model, 5_000)?.as_str(),
+        "best 1 of cost -1, 1 reasons, 3 nodes, 0 skipped"
+    );
+    assert_eq!(rt;
+        solved(alloc, &model, 0)?.as_str(),
+        "best 1 of cost -1, 3 reasons, 7 nodes, 3 skipped"
+    );
     Ok(())
 }
 
@@ -160,8 +159,14 @@ fn a_split_at_a_half(rt: HostRuntime) -> Result<(), Fail> {
 fn a_model_without_rows(rt: HostRuntime) -> Result<(), Fail> {
     let alloc = rt.alloc();
     let model = no_rows(alloc)?;
-    assert_eq!(rt; solved(alloc, &model, 5_000)?.as_str(), "best 0 4 of cost -4, 0 reasons, 1 nodes, 0 skipped");
-    assert_eq!(rt; solved(alloc, &model, 0)?.as_str(), "best 0 4 of cost -4, 9 reasons, 19 nodes, 9 skipped");
+    assert_eq!(rt;
+        solved(alloc, &model, 5_000)?.as_str(),
+        "best 0 4 of cost -4, 0 reasons, 1 nodes, 0 skipped"
+    );
+    assert_eq!(rt;
+        solved(alloc, &model, 0)?.as_str(),
+        "best 0 4 of cost -4, 9 reasons, 19 nodes, 9 skipped"
+    );
     Ok(())
 }
 
@@ -169,7 +174,10 @@ fn a_model_without_rows(rt: HostRuntime) -> Result<(), Fail> {
 fn a_whole_relaxation(rt: HostRuntime) -> Result<(), Fail> {
     let alloc = rt.alloc();
     let model = three_rows(alloc)?;
-    assert_eq!(rt; solved(alloc, &model, 5_000)?.as_str(), "best 2 0 1 of cost -13, 0 reasons, 1 nodes, 0 skipped");
+    assert_eq!(rt;
+        solved(alloc, &model, 5_000)?.as_str(),
+        "best 2 0 1 of cost -13, 0 reasons, 1 nodes, 0 skipped"
+    );
     Ok(())
 }
 
@@ -177,8 +185,14 @@ fn a_whole_relaxation(rt: HostRuntime) -> Result<(), Fail> {
 fn no_whole_point(rt: HostRuntime) -> Result<(), Fail> {
     let alloc = rt.alloc();
     let model = parity(alloc, 1)?;
-    assert_eq!(rt; solved(alloc, &model, 5_000)?.as_str(), "empty, 2 reasons, 5 nodes, 0 skipped");
-    assert_eq!(rt; solved(alloc, &model, 0)?.as_str(), "empty, 2 reasons, 5 nodes, 2 skipped");
+    assert_eq!(rt;
+        solved(alloc, &model, 5_000)?.as_str(),
+        "empty, 2 reasons, 5 nodes, 0 skipped"
+    );
+    assert_eq!(rt;
+        solved(alloc, &model, 0)?.as_str(),
+        "empty, 2 reasons, 5 nodes, 2 skipped"
+    );
     Ok(())
 }
 
@@ -186,8 +200,14 @@ fn no_whole_point(rt: HostRuntime) -> Result<(), Fail> {
 fn no_point(rt: HostRuntime) -> Result<(), Fail> {
     let alloc = rt.alloc();
     let empty = "empty, 0 reasons, 1 nodes, 0 skipped";
-    assert_eq!(rt; solved(alloc, &empty_column(alloc)?, 5_000)?.as_str(), empty);
-    assert_eq!(rt; solved(alloc, &negative_sum(alloc)?, 5_000)?.as_str(), empty);
+    assert_eq!(rt;
+        solved(alloc, &empty_column(alloc)?, 5_000)?.as_str(),
+        empty
+    );
+    assert_eq!(rt;
+        solved(alloc, &negative_sum(alloc)?, 5_000)?.as_str(),
+        empty
+    );
     Ok(())
 }
 
@@ -195,10 +215,22 @@ fn no_point(rt: HostRuntime) -> Result<(), Fail> {
 fn stops_with_linear_programs(rt: HostRuntime) -> Result<(), Fail> {
     let alloc = rt.alloc();
     let model = parity(alloc, 1000)?;
-    assert_eq!(rt; searched(alloc, &model, 50, 800, 5_000)?.as_str(), "nodes, best none, 49 nodes, 0 skipped");
-    assert_eq!(rt; searched(alloc, &model, 1, 800, 5_000)?.as_str(), "nodes, best none, 1 nodes, 0 skipped");
-    assert_eq!(rt; searched(alloc, &model, 50, 0, 5_000)?.as_str(), "depth, best none, 1 nodes, 0 skipped");
-    assert_eq!(rt; searched(alloc, &model, 1, 0, 5_000)?.as_str(), "depth, best none, 1 nodes, 0 skipped");
+    assert_eq!(rt;
+        searched(alloc, &model, 50, 800, 5_000)?.as_str(),
+        "nodes, best none, 49 nodes, 0 skipped"
+    );
+    assert_eq!(rt;
+        searched(alloc, &model, 1, 800, 5_000)?.as_str(),
+        "nodes, best none, 1 nodes, 0 skipped"
+    );
+    assert_eq!(rt;
+        searched(alloc, &model, 50, 0, 5_000)?.as_str(),
+        "depth, best none, 1 nodes, 0 skipped"
+    );
+    assert_eq!(rt;
+        searched(alloc, &model, 1, 0, 5_000)?.as_str(),
+        "depth, best none, 1 nodes, 0 skipped"
+    );
     Ok(())
 }
 
@@ -206,8 +238,14 @@ fn stops_with_linear_programs(rt: HostRuntime) -> Result<(), Fail> {
 fn stops_without_linear_programs(rt: HostRuntime) -> Result<(), Fail> {
     let alloc = rt.alloc();
     let model = parity(alloc, 1000)?;
-    assert_eq!(rt; searched(alloc, &model, 50, 800, 0)?.as_str(), "nodes, best none, 49 nodes, 24 skipped");
-    assert_eq!(rt; searched(alloc, &model, 50, 3, 0)?.as_str(), "depth, best none, 7 nodes, 3 skipped");
+    assert_eq!(rt;
+        searched(alloc, &model, 50, 800, 0)?.as_str(),
+        "nodes, best none, 49 nodes, 24 skipped"
+    );
+    assert_eq!(rt;
+        searched(alloc, &model, 50, 3, 0)?.as_str(),
+        "depth, best none, 7 nodes, 3 skipped"
+    );
     Ok(())
 }
 
@@ -216,7 +254,10 @@ fn stops_without_linear_programs(rt: HostRuntime) -> Result<(), Fail> {
 fn best_of_a_stop(rt: HostRuntime) -> Result<(), Fail> {
     let alloc = rt.alloc();
     let model = three_rows(alloc)?;
-    assert_eq!(rt; searched(alloc, &model, 30, 800, 0)?.as_str(), "nodes, best 0 1 1, 29 nodes, 14 skipped");
+    assert_eq!(rt;
+        searched(alloc, &model, 30, 800, 0)?.as_str(),
+        "nodes, best 0 1 1, 29 nodes, 14 skipped"
+    );
     Ok(())
 }
 
@@ -224,8 +265,12 @@ fn best_of_a_stop(rt: HostRuntime) -> Result<(), Fail> {
 #[test]
 fn deep_searches(rt: HostRuntime) -> Result<(), Fail> {
     let alloc = rt.alloc();
-    let found = "best 0 0 0 0 0 0 0 0 0 0 0 0 0 0 0 0 0 0 0 0 0 0 0 0 0 0 0 0 0 0 1 of cost -1, 751 reasons, 1503 nodes, 751 skipped";
-    assert_eq!(rt; solved(alloc, &wide_columns(alloc, 30)?, 0)?.as_str(), found);
+    let found =
+        "best 0 0 0 0 0 0 0 0 0 0 0 0 0 0 0 0 0 0 0 0 0 0 0 0 0 0 0 0 0 0 1 of cost -1, 751 reasons, 1503 nodes, 751 skipped";
+    assert_eq!(rt;
+        solved(alloc, &wide_columns(alloc, 30)?, 0)?.as_str(),
+        found
+    );
     let stop = "depth, best none, 1601 nodes, 800 skipped";
     assert_eq!(rt; solved(alloc, &wide_columns(alloc, 40)?, 0)?.as_str(), stop);
     Ok(())

@@ -31,7 +31,7 @@ whole_point-requires-clause-whole c = rw (c.as_slice-in-None.ensures, sym c.as_s
 pub whole_point-requires-clause-small : goal.whole_point-requires-clause-small
 whole_point-requires-clause-small c =
     rw c.as_slice-in-None.ensures
-        (number_small c.args.model.now c.args.area.now c.args.point c.args.cert c.requires.bounds c.requires.area)
+    (number_small c.args.model.now c.args.area.now c.args.point c.args.cert c.requires.bounds c.requires.area)
 
 pub returns-in-Some-clause-relaxed : goal.returns-in-Some-clause-relaxed
 returns-in-Some-clause-relaxed c = λ pivots.

@@ -53,16 +53,21 @@ grow-requires g t c κs within =
     let falls : c.args.limits.depth - (c.args.depth + 1) < t = omega (arith, v.1) in
     let area = below_search m c.args.limits.pivots b c.in-Open.col c.in-Open.at c.in-Open.why v.0 c.requires.node.area in
     let sound = c.in_ok-cert.ensures.search.sound in
-    let room = c.in_ok-cert.ensures.search.room ∙ c.requires.node.room in
-    (falls, (within, record {
-      limits = c.requires.node.limits;
-      uncrossed = c.requires.node.uncrossed;
-      area = rw cut area;
-      depth = omega (arith, v.1);
-      nodes = omega (arith, v.2);
-      sound = sound;
-      room = room;
-    }))
+    let room = c.in_ok-cert.ensures.search.room ∙ c.requires.node.room in (
+      falls,
+      (
+        within,
+        record {
+          limits = c.requires.node.limits;
+          uncrossed = c.requires.node.uncrossed;
+          area = rw cut area;
+          depth = omega (arith, v.1);
+          nodes = omega (arith, v.2);
+          sound = sound;
+          room = room;
+        },
+      ),
+    )
 
 pub grow-requires-in-Open : goal.grow-requires-in-Open
 grow-requires-in-Open g t c κs within =
@@ -75,16 +80,21 @@ grow-requires-in-Open g t c κs within =
     let area = above_search m c.args.limits.pivots b c.in-Open.col c.in-Open.at c.in-Open.why v.0 c.requires.node.area in
     let first = c.in_ok-left-in-Open.ensures.grown in
     let nodes = first.places.room in
-    let room = c.in_ok-left-in-Open.ensures.room in
-    (falls, (within, record {
-      limits = c.requires.node.limits;
-      uncrossed = c.requires.node.uncrossed;
-      area = rw cut area;
-      depth = omega (arith, v.1);
-      nodes = nodes;
-      sound = first.sound;
-      room = room;
-    }))
+    let room = c.in_ok-left-in-Open.ensures.room in (
+      falls,
+      (
+        within,
+        record {
+          limits = c.requires.node.limits;
+          uncrossed = c.requires.node.uncrossed;
+          area = rw cut area;
+          depth = omega (arith, v.1);
+          nodes = nodes;
+          sound = first.sound;
+          room = room;
+        },
+      ),
+    )
 
 pub returns-then-is_some-clause-grown : goal.returns-then-is_some-clause-grown
 returns-then-is_some-clause-grown g t c =

@@ -119,7 +119,7 @@ pub kept_here : (basic_rows new : List (Option ℕ)) (b row v : ℕ) → new ≡
     slice_index_or new v None ≡ option_or (slice_index_or basic_rows v None) (Some row)
 kept_here basic_rows new b row v is some e =
     ap (λ xs. slice_index_or xs v None) is ∙ ap (λ w. slice_index_or basic_rows w None) (sym e)
-        ∙ some_else (slice_index_or basic_rows b None) some
+    ∙ some_else (slice_index_or basic_rows b None) some
     ∙ ap (λ w. option_or (slice_index_or basic_rows w None) (Some row)) e
   where
     some_else : (o : Option ℕ) → is_some o ≡ true → o ≡ option_or o (Some row)

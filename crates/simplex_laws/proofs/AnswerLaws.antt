@@ -76,7 +76,7 @@ entering_is T go e = by (first_is (λ v. option_map (λ up. (v, up)) (direction 
   where
     at : (w : ℕ) → w < length T.variables → (o : Option Bool) → direction T (price_number T w) w ≡ o →
         option_map {U = ℕ × Bool} (λ up. (w, up)) o ≡ Some go → (go.0 < length T.variables) × (direction T (price_number T go.0) go.0
-            ≡ Some go.1)
+        ≡ Some go.1)
     at w k None g h = absurd cc
     at w k (Some up) g h =
         let same : paired w up ≡ go = cc in
@@ -125,8 +125,12 @@ final_row_is T table i up e = by (first (infeasible T) (length T.variables)) ref
     by (Some x) f h =
         let r = restored x i up (row_entering T x.0 x.1) h in
         let s = first_infeasible_is T table x f in
-        subst (λ (z : ℕ × Bool). IsBroken T z.0 z.1) r.1 (record { row = s.0; outside = s.1; directions =
-            row_entering_none T x.0 x.1 r.0 })
+        subst (λ (z : ℕ × Bool). IsBroken T z.0 z.1) r.1 (record {
+          row = s.0;
+          outside = s.1;
+          directions =
+              row_entering_none T x.0 x.1 r.0;
+        })
 
 -- ---- a final point
 no_row_entering : (i : ℕ) (up : Bool) (o : Option ℕ) → restore i up o ≢ FinalPoint

@@ -97,11 +97,11 @@ module _ (m : Parts) (b : List (ℤ × ℤ)) (T : Table) (table : IsTable T) (st
           let x = variable_at T.variables v in
           subst (λ (p : Rational). IsBetween x.low x.high p) (sym (nonbasic_is x (position_at T.positions v)))
           (nonbasic_between x.low x.high (position_at T.positions v) (λ low high p q. in_order m b T stands ok v low high l p q)
-              (no_position v l e))
+          (no_position v l e))
       by (Some i) e h =
           let x = variable_at T.variables v in
           outside_none (value_number T i) x.low x.high (unmapped {B = ℕ × Bool} (λ up. (i, up))
-              (outside (value_number T i) x.low x.high) h)
+          (outside (value_number T i) x.low x.high) h)
 
   -- a number of a variable whose sign fits its position, and that is 0 where the variable is basic, pays what it gives at the point
   pub pays_at : (p : Rational) (v : ℕ) → v < length m.columns + length m.rows →

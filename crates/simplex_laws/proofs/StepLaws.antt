@@ -175,7 +175,7 @@ module _ (T : Table) (table : IsTable T) where
   module _ (positions : (v : ℕ) → v < length T.variables → IsWellPlaced T v (position_at T.positions v)) where
     restores : (i : ℕ) (up : Bool) (o : Option ℕ) → i < length T.rows →
         CanRest (variable_at T.variables (basic_at T.basics i)) (side_towards (not up)) → row_entering T i up ≡ o
-            → CanStep T (restore i up o)
+        → CanStep T (restore i up o)
     restores i up None l leaves e = l
     restores i up (Some v) l leaves e = by
         (first_is (λ v. option_map (λ go. v) (direction T (if up then number T i v else neg (number T i v)) v))

@@ -161,7 +161,7 @@ module _ (T : Table) (r v : ℕ) (leaving : Rest) (table : IsTable T) (inside : 
             let same = eqb-true w v e in
             let c = same_count in
             subst (λ z. IsWellPlaced U z (position_at U.positions z)) (sym same) (subst (IsWellPlaced U v) (sym position_own)
-                (r, omega arith, own_basic))
+            (r, omega arith, own_basic))
         well_placed false true w e f l =
             let same = eqb-true w (basic_at T.basics r) f in
             let n = eqb-false w v e in

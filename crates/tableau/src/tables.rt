@@ -35,11 +35,21 @@ impl Model for Tableau {
 
     ghost Value = { Table };
 
-    ghost view = { λ t. record { rows = t.rows.items; basics = t.basics.items; positions = t.positions.items; variables =
-        t.variables.items } };
+    ghost view = { λ t. record {
+      rows = t.rows.items;
+      basics = t.basics.items;
+      positions = t.positions.items;
+      variables =
+          t.variables.items;
+    } };
 
-    ghost invariant = { λ t. IsTable (record { rows = t.rows.items; basics = t.basics.items; positions = t.positions.items; variables =
-        t.variables.items }) × AreSpareLines (length t.rows.items) (length t.variables.items) t.spare.items t.quotients };
+    ghost invariant = { λ t. IsTable (record {
+      rows = t.rows.items;
+      basics = t.basics.items;
+      positions = t.positions.items;
+      variables =
+          t.variables.items;
+    }) × AreSpareLines (length t.rows.items) (length t.variables.items) t.spare.items t.quotients };
 }
 
 impl Tableau {
@@ -52,8 +62,12 @@ impl Tableau {
         positions: Vec<Rest>,
         variables: Vec<Variable>,
     ) -> Tableau
-        requires table { IsTable (record { rows = rows.items; basics = basics.items; positions = positions.items; variables =
-            variables.items }) }
+        requires table { IsTable (record {
+          rows = rows.items;
+          basics = basics.items;
+          positions = positions.items;
+          variables = variables.items;
+        }) }
         requires spare { AreSpareLines (length rows.items) (length variables.items) spare.items quotients }
         ensures { result ≡ record { rows = rows.items; basics = basics.items; positions = positions.items; variables = variables.items } }
     {

@@ -59,7 +59,8 @@ middle_inside lo hi h = by (lo +ℤ hi) refl
     by (negsuc n) e = (omega (arith, ints), omega (arith, ints))
 
 -- the middle of the widest column splits a box, where that column has more than one number, for a reason that is true of the box
-pub middle_splits : (m : Parts) (pivots : ℕ) (b : List (ℤ × ℤ)) (col : ℕ) (why : Why) → IsArea (length b) b → length b ≡ length m.columns → IsOpen b
+pub middle_splits : (m : Parts) (pivots : ℕ) (b : List (ℤ × ℤ)) (col : ℕ) (why : Why) → IsArea (length b) b → length b ≡ length m.columns
+    → IsOpen b
     → IsWidest b col → low_at b col <ℤ high_at b col → IsUnanswered m pivots b why
     → IsSplit m pivots b col (middle (low_at b col) (high_at b col)) why
 middle_splits m pivots b col why area size open' widest wide is =

@@ -1,6 +1,6 @@
 -- What closes a box: its sum, its one point, or a ray on a row that its one point breaks.
-use Rattle.std.specs.Prelude.{◌≡◌, ℕ, ◌<◌, Bool, true, false, if◌then◌else◌, List, [], ◌∷◌, length, slice_get, Option, Some, None,
-    option_map, ℤ, pos, negsuc, ◌+ℤ◌, ◌-ℤ◌, ◌*ℤ◌, ◌<ℤ◌}
+use Rattle.std.specs.Prelude.{◌≡◌, ℕ, ◌<◌, Bool, true, false, if◌then◌else◌, List, [], ◌∷◌, length, slice_get, Option, Some, None}
+use Rattle.std.specs.Prelude.{option_map, ℤ, pos, negsuc, ◌+ℤ◌, ◌-ℤ◌, ◌*ℤ◌, ◌<ℤ◌}
 use Rattle.std.specs.Int.{int_min}
 use Rattle.std.specs.Int.Signed.{lt_z}
 use Rattle.std.specs.List.{list_any}
@@ -16,8 +16,8 @@ use Rattle.ip_defs.specs.declared.certificates.Cert.{Cert}
 use Rattle.ip_defs.specs.declared.programs.Parts.{Parts}
 use Rattle.ip_defs.specs.declared.programs.Row.{Row}
 use Rattle.ip_defs.specs.Boxes.{IsOpen}
-use Rattle.ip_defs.specs.Certificates.{coefs_of, side_for, pay, coefficient_of, reduced, column_part, dual_value, box_sum, ceiling, is_empty_side,
-    bound_by, leaf_bound}
+use Rattle.ip_defs.specs.Certificates.{coefs_of, side_for, pay, coefficient_of, reduced, column_part, dual_value, box_sum, ceiling}
+use Rattle.ip_defs.specs.Certificates.{is_empty_side, bound_by, leaf_bound}
 use Rattle.ip_defs.specs.Limits.{IsCert, IsWithinLimits}
 use Rattle.ip_defs.specs.Program.{at, box_of, coefficient, costs_of, row_sum, low_at, high_at, IsIn, cost}
 use Rattle.ip_defs.specs.Sums.{sum_below}
@@ -26,8 +26,8 @@ use Rattle.ip_defs.proofs.BoxLaws.{box_within, open_from, open_sides}
 use Rattle.proof_tree.specs.Verdicts.{IsAtLeast}
 use Rattle.branching.specs.OpenTrees.{plain_cert}
 use Rattle.branching.specs.Outcomes.{IsClosedBy}
-use Rattle.branching.specs.Internal.Search.{Closes, Found, Improves, IsBelow, IsEnd, IsPartOf, IsSearchArea, IsSingle, IsSound, lowest,
-    point_of, ray_on}
+use Rattle.branching.specs.Internal.Search.{Closes, Found, Improves, IsBelow, IsEnd, IsPartOf, IsSearchArea, IsSingle, IsSound, lowest}
+use Rattle.branching.specs.Internal.Search.{point_of, ray_on}
 use Rattle.ip_defs.proofs.OrderLaws.{less_true}
 
 -- ---- boxes of a search
@@ -92,10 +92,10 @@ module _ (b : List (ℤ × ℤ)) (single : IsSingle b) (open' : IsOpen b) where
   pub point_sum : (m : Parts) → box_sum m b ≡ cost m (lowest b)
   point_sum m =
       let each : (j : ℕ) → j < length b → int_min (reduced m (pos 1) [] j *ℤ low_at b j) (reduced m (pos 1) [] j *ℤ high_at b j)
-              ≡ at (costs_of m) j *ℤ at (lowest b) j = λ j l.
+      ≡ at (costs_of m) j *ℤ at (lowest b) j = λ j l.
       ends_meet (reduced m (pos 1) [] j) j l ∙ ring2' (at (costs_of m) j) (at (lowest b) j) in
       let same = sum_same (λ j. int_min (reduced m (pos 1) [] j *ℤ low_at b j) (reduced m (pos 1) [] j *ℤ high_at b j))
-              (λ j. at (costs_of m) j *ℤ at (lowest b) j) (length b) each in
+      (λ j. at (costs_of m) j *ℤ at (lowest b) j) (length b) each in
       let sized = ap (sum_below (λ j. at (costs_of m) j *ℤ at (lowest b) j)) point_size in
       omega (arith, ints)
     where
@@ -108,11 +108,11 @@ module _ (b : List (ℤ × ℤ)) (single : IsSingle b) (open' : IsOpen b) where
   ray_part m i r k is =
       let y : List (ℕ × ℤ) = (i, k) ∷ [] in
       let each : (j : ℕ) → j < length b → int_min (reduced m (pos 0) y j *ℤ low_at b j) (reduced m (pos 0) y j *ℤ high_at b j)
-              ≡ (pos 0 -ℤ k) *ℤ (coefficient r.coefs j *ℤ at (lowest b) j) = λ j l.
+      ≡ (pos 0 -ℤ k) *ℤ (coefficient r.coefs j *ℤ at (lowest b) j) = λ j l.
       ends_meet (reduced m (pos 0) y j) j l ∙ turned (at (costs_of m) j) (coefficient_of m.rows i j) (at (lowest b) j)
-          ∙ ap (λ (o : Option Row). (pos 0 -ℤ k) *ℤ (coefficient (coefs_of o) j *ℤ at (lowest b) j)) is in
+      ∙ ap (λ (o : Option Row). (pos 0 -ℤ k) *ℤ (coefficient (coefs_of o) j *ℤ at (lowest b) j)) is in
       let same = sum_same (λ j. int_min (reduced m (pos 0) y j *ℤ low_at b j) (reduced m (pos 0) y j *ℤ high_at b j))
-              (λ j. (pos 0 -ℤ k) *ℤ (coefficient r.coefs j *ℤ at (lowest b) j)) (length b) each in
+      (λ j. (pos 0 -ℤ k) *ℤ (coefficient r.coefs j *ℤ at (lowest b) j)) (length b) each in
       let scaled = sum_scale (pos 0 -ℤ k) (λ j. coefficient r.coefs j *ℤ at (lowest b) j) (length b) in
       let sized = ap (λ n. (pos 0 -ℤ k) *ℤ sum_below (λ j. coefficient r.coefs j *ℤ at (lowest b) j) n) point_size in
       same ∙ scaled ∙ sym sized
@@ -128,7 +128,7 @@ module _ (b : List (ℤ × ℤ)) (single : IsSingle b) (open' : IsOpen b) where
       let y : List (ℕ × ℤ) = (i, k) ∷ [] in
       let part = ray_part m i r k is in
       let turned = ring3 whole (λ k v z. (num (pos 0) ⊖ k) ⊗ v) (λ k v z. num (pos 0) ⊖ k ⊗ v) refl k (row_sum r.coefs (lowest b))
-              (pos 0) in
+      (pos 0) in
       let g = (k *ℤ side +ℤ pos 0) +ℤ (pos 0 *ℤ m.constant) +ℤ column_part m b (pos 0) y in
       let positive : lt_z (pos 0) g ≡ true = less_true (pos 0) g (omega (arith, ints)) in
       let paid : pay m.rows y ≡ Some (k *ℤ side +ℤ pos 0) = rw (is, side_is) refl in
@@ -141,8 +141,11 @@ plain_cert_ok : (rows : ℕ) → IsCert rows plain_cert
 plain_cert_ok rows = record {
   not_negative = omega (arith, ints);
   divisor = omega (arith, ints);
-  ordered = record { rising = λ i k p q. absurd (omega arith); within = λ i p. absurd (omega arith);
-      present = λ i p. absurd (omega arith) };
+  ordered = record {
+    rising = λ i k p q. absurd (omega arith);
+    within = λ i p. absurd (omega arith);
+    present = λ i p. absurd (omega arith);
+  };
   multipliers = λ i p. absurd (omega arith);
 }
 
@@ -151,8 +154,11 @@ pub cert_within : (m : Parts) (c : Cert) → IsWithinLimits m → IsCert (length
 cert_within m c limits ok = record {
   not_negative = ok.not_negative;
   divisor = ok.divisor;
-  ordered = record { rising = ok.ordered.rising; within = λ i p. let row = ok.ordered.within i p in omega (arith, row, limits.row_count);
-      present = ok.ordered.present };
+  ordered = record {
+    rising = ok.ordered.rising;
+    within = λ i p. let row = ok.ordered.within i p in omega (arith, row, limits.row_count);
+    present = ok.ordered.present;
+  };
   multipliers = ok.multipliers;
 }
 

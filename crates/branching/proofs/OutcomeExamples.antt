@@ -7,8 +7,8 @@ use Rattle.ip_defs.specs.declared.programs.Parts.{Parts}
 use Rattle.ip_defs.specs.Certificates.{leaf_bound}
 use Rattle.ip_defs.specs.Program.{box_of}
 use Rattle.ip_model.specs.Sizes.{width_sum}
-use Rattle.proof_tree.specs.LabelledTrees.{leaf, split, leaf_node, split_node, place, node_count, depth, split_at, splits_over,
-    split_labels}
+use Rattle.proof_tree.specs.LabelledTrees.{leaf, split, leaf_node, split_node, place, node_count, depth, split_at, splits_over}
+use Rattle.proof_tree.specs.LabelledTrees.{split_labels}
 use Rattle.proof_tree.specs.Trees.{tree_bound, tree_limit}
 use Rattle.branching.specs.declared.budgets.Limits.{Limits}
 use Rattle.branching.specs.declared.budgets.BudgetWhat.{BudgetWhat}
@@ -93,7 +93,8 @@ first_of_equals = record { within = omega arith; widest = wide; first = before }
     before (suc j) l = absurd (omega arith)
 
 -- a stop with one pending root is never right, whatever the limits
-pub pending_root : (m : Parts) (l : Limits) (what : BudgetWhat) (best : Option (List ℤ)) → IsRightOutcome m l (Budget what Pending best) → ⊥
+pub pending_root : (m : Parts) (l : Limits) (what : BudgetWhat) (best : Option (List ℤ)) → IsRightOutcome m l (Budget what Pending best)
+    → ⊥
 pending_root m l what best right = none right.stuck
   where
     none : ⊥ ⊎ ⊥ → ⊥

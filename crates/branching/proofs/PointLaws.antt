@@ -28,13 +28,13 @@ module _ (m : Parts) (p : ℕ → Rational) (x : List ℤ) (size : length x ≡ 
         low None is = tt
         low (Some side) is = from_at_most side (row_sum r.coefs x)
             (subst (AtMost (of side)) (row_whole m p x size same k r e) ((relaxed.rows k l).low side (ap (option_and_then (λ r. r.low)) e
-                ∙ is)))
+            ∙ is)))
 
         high : (o : Option ℤ) → r.high ≡ o → IfSome o (λ side. row_sum r.coefs x ≤ℤ side)
         high None is = tt
         high (Some side) is = from_at_most (row_sum r.coefs x) side
             (subst (λ w. AtMost w (of side)) (row_whole m p x size same k r e) ((relaxed.rows k l).high side
-                (ap (option_and_then (λ r. r.high)) e ∙ is)))
+            (ap (option_and_then (λ r. r.high)) e ∙ is)))
 
     -- it is feasible, where the box is part of the program's
     pub whole_feasible : IsSearchArea m b → IsFeasible m x

@@ -1,6 +1,6 @@
 -- Halves of a search make the whole, and the whole is a right outcome.
-use Rattle.std.specs.Prelude.{◌≡◌, ℕ, suc, ◌+◌, ◌*◌, ◌≤◌, ◌<◌, ◌==◌, Bool, true, false, ℤ, pos, ◌+ℤ◌, ◌≤ℤ◌, List, [], ◌∷◌, length, Option,
-    Some, None, IfSome, IsSome}
+use Rattle.std.specs.Prelude.{◌≡◌, ℕ, suc, ◌+◌, ◌*◌, ◌≤◌, ◌<◌, ◌==◌, Bool, true, false, ℤ, pos, ◌+ℤ◌, ◌≤ℤ◌, List, [], ◌∷◌, length, Option}
+use Rattle.std.specs.Prelude.{Some, None, IfSome, IsSome}
 use Rattle.std.proofs.Math.Nat.{add-mul}
 use Rattle.std.specs.Int.{int_min, int_max}
 use Rattle.std.specs.Option.{is_some}
@@ -31,10 +31,10 @@ use Rattle.branching.specs.declared.outcomes.Outcome.{Outcome}
 use Rattle.branching.specs.declared.outcomes.Outcome.TheVariants.{Best, Empty, Budget}
 use Rattle.branching.specs.declared.reasons.Why.{Why}
 use Rattle.branching.specs.OpenTrees.{PlainOpen, pending, stuck, ended, OpenPlace, places, cert_of, IsDone, tree_of}
-use Rattle.branching.specs.Outcomes.{HasOneStuck, SomeOf, Pairwise, ClaimsPoint, IsFinished, IsRightOutcome, IsStopped, IsStuckNode,
-    IsStuckAt}
-use Rattle.branching.specs.Internal.Search.{Found, point_of, IsSound, Improves, IsAnswerOf, IsPartOf, IsSearchArea, IsSplit, ArePlacesOf,
-    EndsBy, IsGrown}
+use Rattle.branching.specs.Outcomes.{HasOneStuck, SomeOf, Pairwise, ClaimsPoint, IsFinished, IsRightOutcome, IsStopped, IsStuckNode}
+use Rattle.branching.specs.Outcomes.{IsStuckAt}
+use Rattle.branching.specs.Internal.Search.{Found, point_of, IsSound, Improves, IsAnswerOf, IsPartOf, IsSearchArea, IsSplit, ArePlacesOf}
+use Rattle.branching.specs.Internal.Search.{EndsBy, IsGrown}
 use Rattle.branching.specs.Counts.{IsCounted}
 use Rattle.branching.specs.Reasons.{IsReasoned}
 use Rattle.branching.proofs.BoxSizeLaws.{cut_low, cut_high}
@@ -254,7 +254,8 @@ stop_is_right m l t after x Nodes g = record {
 
 -- a search of the box that ended, as a proof
 end_is_finished : (m : Parts) (l : Limits) (t : PlainOpen) (after : ℕ) (x : Found) (p : Proof) (whys : List Why) → IsWithinLimits m
-    → l.nodes ≤ 1000000 → l.depth ≤ 800 → HasLength (length m.columns) p.claim → IsGrown m l 0 (box_of m) 1 after None x t None → plain p.tree ≡ tree_of t → whys ≡ split_labels t
+    → l.nodes ≤ 1000000 → l.depth ≤ 800 → HasLength (length m.columns) p.claim → IsGrown m l 0 (box_of m) 1 after None x t None
+    → plain p.tree ≡ tree_of t → whys ≡ split_labels t
     → AreProvedBy m p.claim (bound_over m (tree_of t) (box_of m)) → IsFinished m l p whys
 end_is_finished m l t after x p whys limits few shallow sized g tree_is whys_is proved' =
     let listed = places_counted 0 (box_of m) t in
@@ -279,9 +280,10 @@ end_is_finished m l t after x p whys limits few shallow sized g tree_is whys_is 
 pub end_is_right : (m : Parts) (l : Limits) (t : PlainOpen) (after : ℕ) (x : Found) (o : Outcome) → IsWithinLimits m → l.nodes ≤ 1000000
     → l.depth ≤ 800 → IsGrown m l 0 (box_of m) 1 after None x t None → IsAnswerOf t (point_of x) o → IsRightOutcome m l o
 end_is_right m l t after None (Empty p whys) limits few shallow g made =
-    let closed = done_closed m None 0 (box_of m) t g.ends g.places.closed in (
+    let closed = done_closed m None 0 (box_of m) t g.ends g.places.closed in
+    let sized = subst (HasLength (length m.columns)) (sym made.claim_is) tt in (
       made.claim_is,
-      end_is_finished m l t after None p whys limits few shallow (subst (HasLength (length m.columns)) (sym made.claim_is) tt) g made.tree_is made.reasons_are
+      end_is_finished m l t after None p whys limits few shallow sized g made.tree_is made.reasons_are
           (subst (λ (c : Claim). AreProvedBy m c (bound_over m (tree_of t) (box_of m))) (sym made.claim_is) closed),
     )
 end_is_right m l t after (Some y) (Best p whys) limits few shallow g made =

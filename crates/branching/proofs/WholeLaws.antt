@@ -1,6 +1,6 @@
 -- Whole numbers among the rational ones, and the floor of a number between two of them.
-use Rattle.std.specs.Prelude.{◌≡◌, ℕ, zero, suc, ◌^◌, ℤ, pos, negsuc, ◌+ℤ◌, ◌-ℤ◌, ◌*ℤ◌, ◌≤ℤ◌, ◌<ℤ◌, unsigned_abs, ◌≤◌, ◌==◌, Bool, true,
-    false, MatchBool, List, length, ◌<◌, ◌+◌, Option, Some, None}
+use Rattle.std.specs.Prelude.{◌≡◌, ℕ, zero, suc, ◌^◌, ℤ, pos, negsuc, ◌+ℤ◌, ◌-ℤ◌, ◌*ℤ◌, ◌≤ℤ◌, ◌<ℤ◌, unsigned_abs, ◌≤◌, ◌==◌, Bool, true}
+use Rattle.std.specs.Prelude.{false, MatchBool, List, length, ◌<◌, ◌+◌, Option, Some, None}
 use Rattle.std.specs.Option.{is_some}
 use Rattle.std.proofs.Common.{arith, refl, ap, sym, ◌∙◌, subst, get_or, below_more}
 use Rattle.std.proofs.Math.Nat.{dvd-one}
@@ -75,7 +75,7 @@ whole_is x f whole = whole_value x (whole_den x f whole)
 floor_at_most : (x : Fraction) (z : ℤ) → IsFraction x.num x.den → (z *ℤ x.den) ≤ℤ x.num → AtMost (of z) (value_of x)
 floor_at_most x z f le =
     let left : (of z).numerator *ℤ denominator (value_of x) ≡ z *ℤ x.den = ap (λ w. (of z).numerator *ℤ w) (value_parts x f).1
-            ∙ top_times z x.den in
+    ∙ top_times z x.den in
     let right : (value_of x).numerator *ℤ denominator (of z) ≡ x.num = times_bottom (value_of x).numerator z ∙ (value_parts x f).0 in
     cross_at_most (of z) (value_of x) (omega (arith, ints))
 

@@ -27,7 +27,8 @@ pub record IsFractional (m : Parts) (s : Split) (x : List Fraction) (c : Cert) :
   pub more_than_cut : IsBelow (of s.cut) (numbers_of x s.col)
   pub less_than_next : IsBelow (numbers_of x s.col) (of (s.cut +ℤ pos 1))
 
--- within a number of steps the linear program of a box leaves the range of fractions, or ends with prices or a ray that no certificate holds
+-- within a number of steps the linear program of a box leaves the range of fractions, or ends with prices or a ray that no certificate
+-- holds
 pub data IsWideAt (m : Parts) (b : List (ℤ × ℤ)) (pivots : ℕ) : Type 0 where
   wide_run : (n : ℕ) → n ≤ pivots → IsWideAfter m b n → IsWideAt m b pivots
   long_prices : (n : ℕ) (x y : List Fraction) → n ≤ pivots → IsBest m b n x y → certificate_of_prices y ≡ None → IsWideAt m b pivots

@@ -6,7 +6,8 @@ ghost use Rattle.ip_defs.specs.Limits.{IsArea, IsCert, IsWithinLimits};
 ghost use Rattle.ip_defs.specs.Program.{box_of, IsFeasible, IsIn};
 ghost use Rattle.leaf_cert.specs.Room.{FitsScratch, room_of};
 ghost use Rattle.branching.specs.OpenTrees.{plain_cert as plain_cert_of};
-ghost use Rattle.branching.specs.Internal.Search.{BreaksRow, Closes, Improves, IsBelow, IsEnd, IsSearchArea, IsSingle, IsSound, lowest, point_of, ray_on};
+ghost use Rattle.branching.specs.Internal.Search.{BreaksRow, Closes, Improves, IsBelow, IsEnd, IsSearchArea, IsSingle, IsSound, lowest};
+ghost use Rattle.branching.specs.Internal.Search.{point_of, ray_on};
 
 use crate::boxes::lowest_point;
 use ip_defs::{Area, Bound, Breach, Cert, Memory, Multipliers, Point};

@@ -4,9 +4,9 @@
 mod boxes;
 mod budgets;
 mod counts;
-mod leaves;
 mod finished_trees;
 mod laws;
+mod leaves;
 mod nodes;
 mod open_trees;
 mod outcomes;

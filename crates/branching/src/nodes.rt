@@ -1,14 +1,11 @@
 //! What a search does with a node: it closes the box, or splits it, or finds that a limit forbids the split.
 ghost use Rattle.std.specs.Prelude.{◌≡◌, ◌+◌, ◌*◌, ◌<◌, ◌≤◌, List, ℤ, None, IfNone, IfOk, IfSome};
 ghost use Rattle.ip_defs.specs.Boxes.{IsOpen};
-ghost use Rattle.ip_defs.specs.Limits.{IsWithinLimits};
 ghost use Rattle.ip_defs.specs.Program.{high_at, low_at};
 ghost use Rattle.std.specs.Prelude.{◌<ℤ◌};
-ghost use Rattle.leaf_cert.specs.Room.{FitsScratch, room_of};
 ghost use Rattle.ip_defs.specs.declared.programs.Parts.{Parts};
-ghost use Rattle.ip_model.specs.Sizes.{first_crossed};
 ghost use Rattle.branching.specs.Counts.{stops};
-ghost use Rattle.branching.specs.Internal.Search.{Found as FoundPoint, Improves, IsSearchArea, IsSound, IsSplit, IsVisited, MayNotSplit, stops_at};
+ghost use Rattle.branching.specs.Internal.Search.{Found as FoundPoint, HasVisited, IsSplit, IsVisited, MayNotSplit, MayVisit, stops_at};
 ghost use Rattle.branching.specs.Splits.{IsWidest};
 
 use crate::boxes::{middle, widest_column};
@@ -87,24 +84,15 @@ fn relax_or_split<L: Ledger>(
     search: &mut Progress,
     steps: &mut Steps<L>,
 ) -> Result<Visit, Memory>
-    requires limits { IsWithinLimits model.now }
-    requires uncrossed { first_crossed model.now ≡ None }
-    requires area { IsSearchArea model.now area.now }
+    requires node { MayVisit model.now limits depth area.now search.old }
     requires open { IsOpen area.now }
-    requires depth { depth ≤ limits.depth }
-    requires nodes { search.old.nodes ≤ limits.nodes }
     requires widest { IsWidest area.now widest }
     requires wide { low_at area.now widest <ℤ high_at area.now widest }
-    requires sound { IsSound model.now search.old.found }
-    requires room { FitsScratch model.now search.old.scratch }
     ensures visited { IfOk result (IsVisited model.now limits depth area.now search.old.nodes search.new.found) }
     ensures least { IfOk result (λ v. steps.old + stops_at v * limits.pivots ≤ steps.new) }
     ensures rises { steps.old ≤ steps.new }
     ensures most { steps.new ≤ steps.old + limits.pivots }
-    ensures sound { IsSound model.now search.new.found }
-    ensures improves { Improves search.old.found search.new.found }
-    ensures nodes { search.new.nodes ≡ search.old.nodes }
-    ensures room { room_of search.new.scratch ≡ room_of search.old.scratch }
+    ensures search { HasVisited model.now search.old search.new }
 {
     let nodes = search.nodes;
     match relax(alloc, model, limits.pivots, area, search, steps)? {
@@ -128,21 +116,12 @@ pub fn visit_node<L: Ledger>(
     search: &mut Progress,
     steps: &mut Steps<L>,
 ) -> Result<Visit, Memory>
-    requires limits { IsWithinLimits model.now }
-    requires uncrossed { first_crossed model.now ≡ None }
-    requires area { IsSearchArea model.now area.now }
-    requires depth { depth ≤ limits.depth }
-    requires nodes { search.old.nodes ≤ limits.nodes }
-    requires sound { IsSound model.now search.old.found }
-    requires room { FitsScratch model.now search.old.scratch }
+    requires node { MayVisit model.now limits depth area.now search.old }
     ensures visited { IfOk result (IsVisited model.now limits depth area.now search.old.nodes search.new.found) }
     ensures least { IfOk result (λ v. steps.old + stops_at v * limits.pivots ≤ steps.new) }
     ensures rises { steps.old ≤ steps.new }
     ensures most { steps.new ≤ steps.old + limits.pivots }
-    ensures sound { IsSound model.now search.new.found }
-    ensures improves { Improves search.old.found search.new.found }
-    ensures nodes { search.new.nodes ≡ search.old.nodes }
-    ensures room { room_of search.new.scratch ≡ room_of search.old.scratch }
+    ensures search { HasVisited model.now search.old search.new }
 {
     let plain = plain_cert(alloc);
     let bound = leaf_bound(model, &plain, area, &mut search.scratch);

@@ -6,10 +6,10 @@ ghost use Rattle.ip_defs.specs.Boxes.{IsOpen};
 ghost use Rattle.ip_defs.specs.Limits.{IsWithinLimits};
 ghost use Rattle.ip_defs.specs.Program.{at as number_at};
 ghost use Rattle.ip_model.specs.Sizes.{first_crossed};
-ghost use Rattle.leaf_cert.specs.Room.{FitsScratch, room_of};
+ghost use Rattle.leaf_cert.specs.Room.{FitsScratch};
 ghost use Rattle.lp_duality.specs.Relaxations.{numbers_of};
 ghost use Rattle.branching.specs.Internal.Relaxed.{IsBounded, IsRelaxedNode, IsSmallNumber, IsWholeNumber, stops_by};
-ghost use Rattle.branching.specs.Internal.Search.{Improves, IsSearchArea, IsSound};
+ghost use Rattle.branching.specs.Internal.Search.{HasVisited, IsSearchArea, IsSound};
 
 use crate::Why;
 use crate::leaves::is_closed;
@@ -123,10 +123,7 @@ fn bounded(
     requires room { FitsScratch model.now search.old.scratch }
     ensures relaxed { IfOk result (λ r. (pivots : ℕ) → IsRelaxedNode model.now pivots area.now search.new.found r) }
     ensures answered { IfOk result (λ r. stops_by r ≡ 0) }
-    ensures sound { IsSound model.now search.new.found }
-    ensures improves { Improves search.old.found search.new.found }
-    ensures nodes { search.new.nodes ≡ search.old.nodes }
-    ensures room { room_of search.new.scratch ≡ room_of search.old.scratch }
+    ensures search { HasVisited model.now search.old search.new }
 {
     let bound = leaf_bound(model, &cert, area, &mut search.scratch);
     if is_closed(&search.found, bound) {
@@ -166,10 +163,7 @@ pub fn relax<L: Ledger>(
     ensures least { IfOk result (λ r. steps.old + stops_by r * pivots ≤ steps.new) }
     ensures rises { steps.old ≤ steps.new }
     ensures most { steps.new ≤ steps.old + pivots }
-    ensures sound { IsSound model.now search.new.found }
-    ensures improves { Improves search.old.found search.new.found }
-    ensures nodes { search.new.nodes ≡ search.old.nodes }
-    ensures room { room_of search.new.scratch ≡ room_of search.old.scratch }
+    ensures search { HasVisited model.now search.old search.new }
 {
     // The parts of a model are within the limits, and so are its rows' prices.
     let _parts = model.parts();

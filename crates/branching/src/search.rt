@@ -1,17 +1,16 @@
 //! The search: depth first, left side first, until no node is open or a limit stops it.
 ghost use Rattle.std.specs.Prelude.{◌≡◌, ◌≤◌, None, IfOk, OnOk};
-ghost use Rattle.ip_defs.specs.Limits.{IsWithinLimits};
 ghost use Rattle.ip_model.specs.Sizes.{allowance, first_crossed};
 ghost use Rattle.leaf_cert.specs.Room.{FitsScratch};
 ghost use Rattle.branching.specs.Counts.{AreCountsWithin, IsCounted, nodes_of, stopped_in, stopped_of};
 ghost use Rattle.proof_tree.specs.LabelledTrees.{node_count, split as split_of};
 ghost use Rattle.branching.specs.OpenTrees.{IsDone, plain_open};
 ghost use Rattle.branching.specs.Outcomes.{HasOneStuck, IsRightOutcome, IsTrueOutcome};
-ghost use Rattle.branching.specs.Internal.Search.{IsAnswerOf, IsGrown, IsSearchArea, IsSound};
+ghost use Rattle.branching.specs.Internal.Search.{IsAnswerOf, IsGrown, MayVisit};
 ghost use Rattle.branching.specs.Sizes.{AreAmple, IsAnswer};
 
-use crate::leaves::best_point;
 use crate::finished_trees::finish;
+use crate::leaves::best_point;
 use crate::nodes::{Progress, Visit, visit_node};
 use crate::{BudgetWhat, Limits, OpenTree, Outcome, Why, Whys};
 use ip_defs::{Area, Memory, Point};
@@ -59,13 +58,7 @@ fn grow<L: Ledger>(
     search: &mut Progress,
     steps: &mut Steps<L>,
 ) -> Result<Grown, Memory>
-    requires limits { IsWithinLimits model.now }
-    requires uncrossed { first_crossed model.now ≡ None }
-    requires area { IsSearchArea model.now area.old }
-    requires depth { depth ≤ limits.depth }
-    requires nodes { search.old.nodes ≤ limits.nodes }
-    requires sound { IsSound model.now search.old.found }
-    requires room { FitsScratch model.now search.old.scratch }
+    requires node { MayVisit model.now limits depth area.old search.old }
     ensures grown { IfOk result (λ g. IsGrown model.now limits depth area.old search.old.nodes search.new.nodes
         search.old.found search.new.found (plain_open g.tree) g.stop) }
     ensures counted { IfOk result (λ g. IsCounted limits (stopped_in (plain_open g.tree)) (node_count (plain_open g.tree))
@@ -178,7 +171,8 @@ fn search_box<L: Ledger>(
 ///
 /// The search stops with `Budget` at the first node that must be split and may not be; the depth is tested first. That node is `Stuck`,
 /// and every other open node is `Pending`. It never stops where the limits are as large as the box asks. The counter of steps rises by
-/// `limits.pivots` at least for each node whose linear program was stopped. It never falls, whatever the answer. Out of memory is the one error.
+/// `limits.pivots` at least for each node whose linear program was stopped. It never falls, whatever the answer. Out of memory is the one
+/// error.
 pub fn solve<L: Ledger>(
     alloc: Global,
     model: &IntModel,

@@ -56,7 +56,8 @@ module _ (m : Parts) (b : List (ℤ × ℤ)) (n : ℕ) (T : Table) (limits : IsW
       }
 
   -- what is read off a final tableau is an answer
-  pub read_is : (s : Next) (answer : LpAnswer) → s ≡ next T → IsRead T (length m.columns) (length m.rows) s answer → IsLpAnswer m b n answer
+  pub read_is : (s : Next) (answer : LpAnswer) → s ≡ next T → IsRead T (length m.columns) (length m.rows) s answer
+      → IsLpAnswer m b n answer
   read_is (Pivot r v leaving) answer e h = absurd h
   read_is (Flip v) answer e h = absurd h
   read_is (FinalRow i up) (Best x y) e h = absurd h

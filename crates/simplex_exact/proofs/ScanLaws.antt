@@ -1,37 +1,6 @@
 -- What the loops of a step find.
-use Rattle.std.specs.Prelude.{
-  ◌≡◌,
-  ◌≢◌,
-  ℕ,
-  suc,
-  ◌+◌,
-  ◌<◌,
-  ◌==◌,
-  Bool,
-  true,
-  false,
-  if◌then◌else◌,
-  List,
-  [],
-  ◌∷◌,
-  ◌++◌,
-  Option,
-  Some,
-  None,
-  option_map,
-  length,
-  slice_index_or,
-  slice_set,
-  nat_lt,
-  cond,
-  not,
-  Result,
-  Ok,
-  Err,
-  OnErr,
-  ℤ,
-  pos,
-}
+use Rattle.std.specs.Prelude.{◌≡◌, ◌≢◌, ℕ, suc, ◌+◌, ◌<◌, ◌==◌, Bool, true, false, if◌then◌else◌, List, [], ◌∷◌, ◌++◌, Option, Some, None}
+use Rattle.std.specs.Prelude.{option_map, length, slice_index_or, slice_set, nat_lt, cond, not, Result, Ok, Err, OnErr, ℤ, pos}
 use Rattle.std.specs.List.{position, prefix_len}
 use Rattle.std.specs.Option.{is_some, option_or}
 use Rattle.std.specs.Int.Signed.{lt_z}
@@ -141,13 +110,16 @@ placed_here basic_rows new b row v is l none e =
 
 pub placed_there : (basic_rows new : List (Option ℕ)) (b row v : ℕ) → new ≡ slice_set basic_rows b (Some row) → b ≢ v →
     slice_index_or new v None ≡ slice_index_or basic_rows v None
-placed_there basic_rows new b row v is n = ap (λ xs. slice_index_or xs v None) is ∙ get_or-set_other basic_rows b v (Some row) None (λ e. n (sym e))
+placed_there basic_rows new b row v is n = ap (λ xs. slice_index_or xs v None) is ∙ get_or-set_other basic_rows b v (Some row) None
+    (λ e. n (sym e))
 
 -- one that stands there is kept
-pub kept_here : (basic_rows new : List (Option ℕ)) (b row v : ℕ) → new ≡ basic_rows → is_some (slice_index_or basic_rows b None) ≡ true → b ≡ v →
+pub kept_here : (basic_rows new : List (Option ℕ)) (b row v : ℕ) → new ≡ basic_rows → is_some (slice_index_or basic_rows b None) ≡ true
+    → b ≡ v →
     slice_index_or new v None ≡ option_or (slice_index_or basic_rows v None) (Some row)
 kept_here basic_rows new b row v is some e =
-    ap (λ xs. slice_index_or xs v None) is ∙ ap (λ w. slice_index_or basic_rows w None) (sym e) ∙ some_else (slice_index_or basic_rows b None) some
+    ap (λ xs. slice_index_or xs v None) is ∙ ap (λ w. slice_index_or basic_rows w None) (sym e)
+    ∙ some_else (slice_index_or basic_rows b None) some
     ∙ ap (λ w. option_or (slice_index_or basic_rows w None) (Some row)) e
   where
     some_else : (o : Option ℕ) → is_some o ≡ true → o ≡ option_or o (Some row)

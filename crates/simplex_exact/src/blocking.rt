@@ -9,9 +9,10 @@ ghost use Rattle.tableau.specs.Numbers.{and_then, range as range_of, side_at, va
 ghost use Rattle.tableau.specs.Nodes.{number};
 ghost use Rattle.tableau.specs.Meanings.{ratio_number, value_number};
 ghost use Rattle.simplex_laws.specs.declared.next.Next.TheVariants.{Flip};
-ghost use Rattle.simplex_laws.specs.Steps.{side_met as side_met_by, block_at as block_in, block as block_by, nearer as nearer_of, nearest as nearest_of};
+ghost use Rattle.simplex_laws.specs.Steps.{side_met as side_met_by, block_at as block_in, block as block_by, nearer as nearer_of};
+ghost use Rattle.simplex_laws.specs.Steps.{nearest as nearest_of};
 ghost use Rattle.simplex_laws.specs.Wides.{HasWideNumber};
-ghost use Rattle.simplex_exact.specs.Internal.Numbers.{row_of, AreBasicRows, IsNumber, AreNumbersBelow, block_value};
+ghost use Rattle.simplex_exact.specs.Internal.Numbers.{row_of, AreFound, IsNumber, MayBlock, block_value};
 
 use crate::sides::side_towards;
 use crate::signs::is_below;
@@ -53,11 +54,7 @@ fn distance(
     side: Rest,
     there: i64,
 ) -> Result<Frac, Wide>
-    requires row { row < length tableau.now.rows }
-    requires variable { var < length tableau.now.variables }
-    requires value { value_in tableau.now row ≡ Ok value }
-    requires number { value_of value ≡ value_number tableau.now row }
-    requires free { position_at tableau.now.positions var ≢ Basic }
+    requires row { MayBlock tableau.now row var value }
     requires pivot { (entry_at tableau.now.rows row var).num ≢ pos 0 }
     requires side { side_at (variable_at tableau.now.variables (basic_at tableau.now.basics row)) side ≡ Some there }
     ensures distance { IfOk result (λ x. value_of x ≡ absolute_number (ratio_number tableau.now row var side)) }
@@ -77,11 +74,7 @@ fn block_at(
     var: u32,
     side: Rest,
 ) -> Result<Option<(Frac, Next)>, Wide>
-    requires row { row < length tableau.now.rows }
-    requires variable { var < length tableau.now.variables }
-    requires value { value_in tableau.now row ≡ Ok value }
-    requires number { value_of value ≡ value_number tableau.now row }
-    requires free { position_at tableau.now.positions var ≢ Basic }
+    requires row { MayBlock tableau.now row var value }
     requires pivot { (entry_at tableau.now.rows row var).num ≢ pos 0 }
     ensures block { IfOk result (λ s. block_value s ≡ block_in tableau.now var row side) }
     ensures wide { OnErr result (HasWideNumber tableau.now) }
@@ -121,12 +114,9 @@ fn row_block(
     var: u32,
     up: bool,
 ) -> Result<Option<(Frac, Next)>, Wide>
-    requires row { row < length tableau.now.rows }
-    requires variable { var < length tableau.now.variables }
-    requires value { value_in tableau.now row ≡ Ok value }
-    requires number { value_of value ≡ value_number tableau.now row }
-    requires free { position_at tableau.now.positions var ≢ Basic }
-    ensures block { IfOk result (λ s. block_value s ≡ option_and_then (block_in tableau.now var row) (side_met_by up (number tableau.now row var))) }
+    requires row { MayBlock tableau.now row var value }
+    ensures block { IfOk result (λ s. block_value s ≡ option_and_then (block_in tableau.now var row)
+        (side_met_by up (number tableau.now row var))) }
     ensures wide { OnErr result (HasWideNumber tableau.now) }
 {
     match side_met(up, tableau.entry(row, var).num()) {
@@ -183,11 +173,7 @@ pub fn nearest(
     requires table { IsTable tableau.now }
     requires variable { var < length tableau.now.variables }
     requires free { position_at tableau.now.positions var ≢ Basic }
-    requires small { length basic_rows.now < 8192 }
-    requires count { length basic_rows.now ≡ length tableau.now.variables }
-    requires basic_rows { AreBasicRows tableau.now basic_rows.now }
-    requires size { length values.now ≡ length tableau.now.variables }
-    requires values { AreNumbersBelow tableau.now values.now (length tableau.now.variables) }
+    requires found { AreFound tableau.now basic_rows.now values.now }
     ensures block { IfOk result (λ s. block_value s ≡ nearest_of (block_by tableau.now var up) (length tableau.now.variables)) }
     ensures wide { OnErr result (HasWideNumber tableau.now) }
 {

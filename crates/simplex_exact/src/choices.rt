@@ -3,9 +3,10 @@ ghost use Rattle.std.specs.Prelude.{◌≡◌, ◌≢◌, ◌<◌, IfOk, OnErr, 
 ghost use Rattle.tableau.specs.declared.positions.Rest.TheVariants.{Basic};
 ghost use Rattle.tableau.specs.Tables.{IsTable, position_at};
 ghost use Rattle.simplex_laws.specs.declared.next.Next.TheVariants.{FinalPoint};
-ghost use Rattle.simplex_laws.specs.Steps.{entering as entering_at, improve as improve_by, restore as restore_by, row_entering as row_entering_at, move as move_of, next as next_of};
+ghost use Rattle.simplex_laws.specs.Steps.{entering as entering_at, improve as improve_by, restore as restore_by};
+ghost use Rattle.simplex_laws.specs.Steps.{row_entering as row_entering_at, move as move_of, next as next_of};
 ghost use Rattle.simplex_laws.specs.Wides.{HasWideNumber};
-ghost use Rattle.simplex_exact.specs.Internal.Numbers.{AreBasicRows, AreNumbersBelow};
+ghost use Rattle.simplex_exact.specs.Internal.Numbers.{AreFound, AreNumbersBelow};
 
 use crate::blocking::nearest;
 use crate::directions::{entering, row_entering};
@@ -42,11 +43,7 @@ fn advance(
     requires table { IsTable tableau.now }
     requires variable { var < length tableau.now.variables }
     requires free { position_at tableau.now.positions var ≢ Basic }
-    requires small { length basic_rows.now < 8192 }
-    requires count { length basic_rows.now ≡ length tableau.now.variables }
-    requires basic_rows { AreBasicRows tableau.now basic_rows.now }
-    requires size { length values.now ≡ length tableau.now.variables }
-    requires values { AreNumbersBelow tableau.now values.now (length tableau.now.variables) }
+    requires found { AreFound tableau.now basic_rows.now values.now }
     ensures next { IfOk result (λ n. n ≡ move_of tableau.now (var, up)) }
     ensures wide { OnErr result (HasWideNumber tableau.now) }
 {
@@ -60,11 +57,7 @@ fn advance(
 /// What is next where each basic variable is within its sides.
 fn improve(tableau: &Tableau, basic_rows: &[Option<u32>], values: &[Frac]) -> Result<Next, Wide>
     requires table { IsTable tableau.now }
-    requires small { length basic_rows.now < 8192 }
-    requires count { length basic_rows.now ≡ length tableau.now.variables }
-    requires basic_rows { AreBasicRows tableau.now basic_rows.now }
-    requires size { length values.now ≡ length tableau.now.variables }
-    requires values { AreNumbersBelow tableau.now values.now (length tableau.now.variables) }
+    requires found { AreFound tableau.now basic_rows.now values.now }
     ensures next { IfOk result (λ n. n ≡ improve_by tableau.now (entering_at tableau.now)) }
     ensures wide { OnErr result (HasWideNumber tableau.now) }
 {

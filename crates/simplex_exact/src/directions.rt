@@ -4,7 +4,8 @@ ghost use Rattle.frac128.specs.Rationals.{Rational};
 ghost use Rattle.frac128.specs.Values.{value_of};
 ghost use Rattle.tableau.specs.Nodes.{number};
 ghost use Rattle.tableau.specs.Meanings.{price_number};
-ghost use Rattle.simplex_laws.specs.Steps.{can_move as can_move_at, direction as direction_at, row_entering as row_entering_at, entering as entering_at};
+ghost use Rattle.simplex_laws.specs.Steps.{can_move as can_move_at, direction as direction_at, row_entering as row_entering_at};
+ghost use Rattle.simplex_laws.specs.Steps.{entering as entering_at};
 ghost use Rattle.simplex_laws.specs.Wides.{HasWideNumber};
 ghost use Rattle.simplex_exact.specs.Internal.Numbers.{turned as turned_number};
 

@@ -10,7 +10,7 @@ ghost use Rattle.simplex_laws.specs.Wides.{HasWideNumber};
 ghost use Rattle.simplex_laws.specs.Finals.{point_of};
 ghost use Rattle.simplex_exact.specs.Answers.{AreNumbers};
 ghost use Rattle.simplex_exact.specs.Internal.Numbers.{AreNumbersBelow, turned as turned_number};
-ghost use Rattle.simplex_exact.specs.Internal.Reads.{IsPointRead, IsRayRead, IsRead};
+ghost use Rattle.simplex_exact.specs.Internal.Reads.{HasColumnsAndRows, IsPointRead, IsRead};
 
 use crate::LpAnswer;
 use crate::signs::turned;
@@ -39,9 +39,9 @@ fn prices(
     columns: u32,
     rows: u32,
 ) -> Result<Option<Fracs>, Memory>
-    requires small { columns + rows < 8192 }
-    requires count { columns + rows ≡ length tableau.now.variables }
-    ensures { IfOk result (λ o. MatchOption o (HasWideNumber tableau.now) (AreNumbers rows (λ k. price_number tableau.now (columns + k)))) }
+    requires sizes { HasColumnsAndRows tableau.now columns rows }
+    ensures { IfOk result (λ o. MatchOption o (HasWideNumber tableau.now)
+        (AreNumbers rows (λ k. price_number tableau.now (columns + k)))) }
 {
     let mut prices = Vec::with_capacity(alloc, rows as usize)?;
     for k in 0..rows {
@@ -62,8 +62,7 @@ fn ray(
     columns: u32,
     rows: u32,
 ) -> Result<Fracs, Memory>
-    requires small { columns + rows < 8192 }
-    requires count { columns + rows ≡ length tableau.now.variables }
+    requires sizes { HasColumnsAndRows tableau.now columns rows }
     requires row { row < length tableau.now.rows }
     ensures { IfOk result (AreNumbers rows (λ k. turned_number up (number tableau.now row (columns + k)))) }
 {
@@ -82,8 +81,7 @@ fn best(
     columns: u32,
     rows: u32,
 ) -> Result<LpAnswer, Memory>
-    requires small { columns + rows < 8192 }
-    requires count { columns + rows ≡ length tableau.now.variables }
+    requires sizes { HasColumnsAndRows tableau.now columns rows }
     requires size { length values.now ≡ length tableau.now.variables }
     requires values { AreNumbersBelow tableau.now values.now (length tableau.now.variables) }
     ensures { IfOk result (IsPointRead tableau.now columns rows) }
@@ -95,24 +93,6 @@ fn best(
     }
 }
 
-/// The answer of a tableau that is final by a row.
-fn empty(
-    alloc: Global,
-    tableau: &Tableau,
-    row: u32,
-    up: bool,
-    columns: u32,
-    rows: u32,
-) -> Result<LpAnswer, Memory>
-    requires small { columns + rows < 8192 }
-    requires count { columns + rows ≡ length tableau.now.variables }
-    requires row { row < length tableau.now.rows }
-    ensures { IfOk result (IsRayRead tableau.now row up columns rows) }
-{
-    let ray = ray(alloc, tableau, row, up, columns, rows)?;
-    Ok(LpAnswer::Empty { ray })
-}
-
 /// The answer of a final tableau.
 pub fn read(
     alloc: Global,
@@ -122,8 +102,7 @@ pub fn read(
     columns: u32,
     rows: u32,
 ) -> Result<LpAnswer, Memory>
-    requires small { columns + rows < 8192 }
-    requires count { columns + rows ≡ length tableau.now.variables }
+    requires sizes { HasColumnsAndRows tableau.now columns rows }
     requires size { length values.now ≡ length tableau.now.variables }
     requires ended { is_final next ≡ true }
     requires step { CanStep tableau.now next }
@@ -132,7 +111,10 @@ pub fn read(
 {
     match next {
         Next::FinalPoint => best(alloc, tableau, values, columns, rows),
-        Next::FinalRow { row, up } => empty(alloc, tableau, row, up, columns, rows),
+        Next::FinalRow { row, up } => {
+            let ray = ray(alloc, tableau, row, up, columns, rows)?;
+            Ok(LpAnswer::Empty { ray })
+        }
         Next::Pivot {
             row: _,
             var: _,

@@ -1,7 +1,8 @@
 //! The sides of a basic variable: whether its number is outside them, and the direction in which a variable can move.
 ghost use Rattle.std.specs.Prelude.{◌≡◌};
 ghost use Rattle.frac128.specs.Values.{value_of};
-ghost use Rattle.simplex_laws.specs.Steps.{over_high as over_high_of, outside as outside_number, allows as allows_direction, side_towards as side_for};
+ghost use Rattle.simplex_laws.specs.Steps.{over_high as over_high_of, outside as outside_number, allows as allows_direction};
+ghost use Rattle.simplex_laws.specs.Steps.{side_towards as side_for};
 
 use crate::signs::is_below;
 use tableau::{Frac, Rest};

@@ -1,24 +1,6 @@
 -- What a final answer of `next` says of the searches before it.
-use Rattle.std.specs.Prelude.{
-  ◌≡◌,
-  ◌≢◌,
-  ℕ,
-  ◌<◌,
-  ◌==◌,
-  Bool,
-  true,
-  false,
-  cond,
-  if◌then◌else◌,
-  List,
-  length,
-  Option,
-  Some,
-  None,
-  option_map,
-  option_and_then,
-  ℤ,
-}
+use Rattle.std.specs.Prelude.{◌≡◌, ◌≢◌, ℕ, ◌<◌, ◌==◌, Bool, true, false, cond, if◌then◌else◌, List, length, Option, Some, None, option_map}
+use Rattle.std.specs.Prelude.{option_and_then, ℤ}
 use Rattle.std.specs.List.{position}
 use Rattle.std.proofs.Common.{refl, ap, sym, ◌∙◌, subst}
 use Rattle.frac128.specs.Rationals.{Rational, neg, absolute}
@@ -30,24 +12,8 @@ use Rattle.tableau.specs.Nodes.{number, StandsFor, HasItsPoints}
 use Rattle.tableau.specs.Meanings.{value_number, price_number, ratio_number}
 use Rattle.simplex_laws.specs.declared.next.Next.{Next}
 use Rattle.simplex_laws.specs.declared.next.Next.TheVariants.{Pivot, Flip, FinalRow, FinalPoint}
-use Rattle.simplex_laws.specs.Steps.{
-  direction,
-  infeasible,
-  outside,
-  row_entering,
-  restore,
-  side_met,
-  block_at,
-  block,
-  nearest,
-  move_by,
-  move,
-  entering,
-  improve,
-  by_infeasible,
-  next,
-  is_final,
-}
+use Rattle.simplex_laws.specs.Steps.{direction, infeasible, outside, row_entering, restore, side_met, block_at, block, nearest, move_by}
+use Rattle.simplex_laws.specs.Steps.{move, entering, improve, by_infeasible, next, is_final}
 use Rattle.ip_defs.proofs.FirstLaws.{first-none}
 use Rattle.simplex_laws.proofs.ChoiceLaws.{paired, first_is, nearest_is}
 use Rattle.simplex_laws.proofs.StepLaws.{direction_is, first_infeasible_is}
@@ -91,7 +57,8 @@ module _ (T : Table) (v : ℕ) (up : Bool) where
       by false far (Some i) h = block_in_steps i x h
 
   -- a move is final only where nothing blocks the variable, and then with a point
-  pub move_is : (n : Next) → is_final n ≡ true → move T (v, up) ≡ n → (nearest (block T v up) (length T.variables) ≡ None) × (n ≡ FinalPoint)
+  pub move_is : (n : Next) → is_final n ≡ true → move T (v, up) ≡ n → (nearest (block T v up) (length T.variables) ≡ None)
+      × (n ≡ FinalPoint)
   move_is n f e = by (nearest (block T v up) (length T.variables)) refl e
     where
       by : (o : Option (Rational × Next)) → nearest (block T v up) (length T.variables) ≡ o → move_by o ≡ n → (o ≡ None) × (n ≡ FinalPoint)
@@ -108,7 +75,8 @@ pub entering_is : (T : Table) (go : ℕ × Bool) → entering T ≡ Some go → 
 entering_is T go e = by (first_is (λ v. option_map (λ up. (v, up)) (direction T (price_number T v) v)) (length T.variables) go e)
   where
     at : (w : ℕ) → w < length T.variables → (o : Option Bool) → direction T (price_number T w) w ≡ o →
-        option_map {U = ℕ × Bool} (λ up. (w, up)) o ≡ Some go → (go.0 < length T.variables) × (direction T (price_number T go.0) go.0 ≡ Some go.1)
+        option_map {U = ℕ × Bool} (λ up. (w, up)) o ≡ Some go → (go.0 < length T.variables) × (direction T (price_number T go.0) go.0
+        ≡ Some go.1)
     at w k None g h = absurd cc
     at w k (Some up) g h =
         let same : paired w up ≡ go = cc in
@@ -132,7 +100,8 @@ pub record IsBroken (T : Table) (i : ℕ) (up : Bool) : Type 0 where
   pub directions : (v : ℕ) → v < length T.variables → direction T (ray T i up v) v ≡ None
 
 -- where none can enter, no entry of the row gives a direction
-pub row_entering_none : (T : Table) (i : ℕ) (up : Bool) → row_entering T i up ≡ None → (v : ℕ) → v < length T.variables → direction T (ray T i up v) v ≡ None
+pub row_entering_none : (T : Table) (i : ℕ) (up : Bool) → row_entering T i up ≡ None → (v : ℕ) → v < length T.variables
+    → direction T (ray T i up v) v ≡ None
 row_entering_none T i up e v l = unmapped {B = ℕ} (λ go. v) (direction T (ray T i up v) v) (first-none
     (λ v. option_map {U = ℕ} (λ go. v) (direction T (ray T i up v) v)) (length T.variables) e v l)
 
@@ -156,7 +125,12 @@ final_row_is T table i up e = by (first (infeasible T) (length T.variables)) ref
     by (Some x) f h =
         let r = restored x i up (row_entering T x.0 x.1) h in
         let s = first_infeasible_is T table x f in
-        subst (λ (z : ℕ × Bool). IsBroken T z.0 z.1) r.1 (record { row = s.0; outside = s.1; directions = row_entering_none T x.0 x.1 r.0 })
+        subst (λ (z : ℕ × Bool). IsBroken T z.0 z.1) r.1 (record {
+          row = s.0;
+          outside = s.1;
+          directions =
+              row_entering_none T x.0 x.1 r.0;
+        })
 
 -- ---- a final point
 no_row_entering : (i : ℕ) (up : Bool) (o : Option ℕ) → restore i up o ≢ FinalPoint

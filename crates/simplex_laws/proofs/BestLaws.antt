@@ -47,7 +47,8 @@ module _ (m : Parts) (b : List (ℤ × ℤ)) (T : Table) (table : IsTable T) (st
   P = price rationals (length m.rows) (number T) (basic_at T.basics) (cost_number T)
 
   price_is : (v : ℕ) → price_number T v ≡ P v
-  price_is v = ap (λ n. sub (cost_number T v) (sum rationals (λ i. mul (number T i v) (cost_number T (basic_at T.basics i))) n)) stands.rows
+  price_is v = ap (λ n. sub (cost_number T v)
+      (sum rationals (λ i. mul (number T i v) (cost_number T (basic_at T.basics i))) n)) stands.rows
 
   -- the price of a column is what is left of its cost after the slacks' prices
   price_left : (j : ℕ) → j < length m.columns → left_of m (of (pos 1)) (slack_prices m T) j ≡ price_number T j

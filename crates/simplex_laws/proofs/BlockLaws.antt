@@ -1,29 +1,7 @@
 -- Something always blocks a nonbasic variable: a column at its other side, and a slack by a column of the rows, for else the
 -- slack would move where no column does.
-use Rattle.std.specs.Prelude.{
-  ◌≡◌,
-  ◌≢◌,
-  ℕ,
-  ◌+◌,
-  ◌<◌,
-  ◌==◌,
-  not,
-  Bool,
-  true,
-  false,
-  cond,
-  if◌then◌else◌,
-  List,
-  [],
-  length,
-  Option,
-  Some,
-  None,
-  option_map,
-  option_and_then,
-  ℤ,
-  pos,
-}
+use Rattle.std.specs.Prelude.{◌≡◌, ◌≢◌, ℕ, ◌+◌, ◌<◌, ◌==◌, not, Bool, true, false, cond, if◌then◌else◌, List, [], length, Option, Some}
+use Rattle.std.specs.Prelude.{None, option_map, option_and_then, ℤ, pos}
 use Rattle.std.specs.List.{position}
 use Rattle.std.specs.Int.Signed.{lt_z}
 use Rattle.std.proofs.Common.{arith, refl, ap, sym, ◌∙◌, subst, ◌⊎◌, inl, inr}
@@ -128,7 +106,8 @@ module _ (m : Parts) (b : List (ℤ × ℤ)) (T : Table) (table : IsTable T) (st
   x_basic : (i : ℕ) → i < length m.rows → x (basic_at T.basics i) ≡ neg (number T i v)
   x_basic i l = by (position (λ w. w == basic_at T.basics i) T.basics) refl
     where
-      by : (o : Option ℕ) → position (λ w. w == basic_at T.basics i) T.basics ≡ o → by_position o (basic_at T.basics i) ≡ neg (number T i v)
+      by : (o : Option ℕ) → position (λ w. w == basic_at T.basics i) T.basics ≡ o → by_position o (basic_at T.basics i)
+          ≡ neg (number T i v)
       by None e = absurd (has_position m b T table stands i (basic_at T.basics i) l refl e)
       by (Some k) e = ap (λ z. neg (number T z v)) (own_place m b T table stands i k l e)
 

@@ -9,20 +9,8 @@ use Rattle.frac128.proofs.Rationals.{rationals}
 use Rattle.frac128.proofs.Order.{zero_top}
 use Rattle.lp_duality.specs.Duals.{is_below, paid}
 use Rattle.lp_duality.specs.Relaxations.{IsBetween}
-use Rattle.lp_duality.proofs.SignLaws.{
-  top_zero,
-  Sign,
-  up,
-  down,
-  none,
-  sign_of,
-  below_false,
-  of_at_most,
-  at_most_self,
-  paid_up,
-  paid_down,
-  paid_zero,
-}
+use Rattle.lp_duality.proofs.SignLaws.{top_zero, Sign, up, down, none, sign_of, below_false, of_at_most, at_most_self, paid_up, paid_down}
+use Rattle.lp_duality.proofs.SignLaws.{paid_zero}
 use Rattle.tableau.specs.declared.positions.Rest.{Rest}
 use Rattle.tableau.specs.declared.positions.Rest.TheVariants.{Basic, Low, High, Zero}
 use Rattle.tableau.specs.declared.variables.Variable.{Variable}

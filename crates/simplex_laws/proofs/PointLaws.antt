@@ -1,4 +1,5 @@
--- The point of a tableau: its basic variables have the values of their rows, the others their nonbasic values, and each row of the tableau is 0 there.
+-- The point of a tableau: its basic variables have the values of their rows, the others their nonbasic values, and each row of the tableau
+-- is 0 there.
 use Rattle.std.specs.Prelude.{◌≡◌, ◌≢◌, ℕ, ◌+◌, ◌<◌, ◌==◌, Bool, List, length, Option, Some, None, option_map, option_and_then, ℤ, pos}
 use Rattle.std.specs.List.{position}
 use Rattle.std.proofs.Common.{arith, refl, ap, sym, ◌∙◌, subst, ◌⊎◌, inl, inr}
@@ -95,10 +96,12 @@ module _ (m : Parts) (b : List (ℤ × ℤ)) (T : Table) (table : IsTable T) (st
       by None e h =
           let x = variable_at T.variables v in
           subst (λ (p : Rational). IsBetween x.low x.high p) (sym (nonbasic_is x (position_at T.positions v)))
-          (nonbasic_between x.low x.high (position_at T.positions v) (λ low high p q. in_order m b T stands ok v low high l p q) (no_position v l e))
+          (nonbasic_between x.low x.high (position_at T.positions v) (λ low high p q. in_order m b T stands ok v low high l p q)
+          (no_position v l e))
       by (Some i) e h =
           let x = variable_at T.variables v in
-          outside_none (value_number T i) x.low x.high (unmapped {B = ℕ × Bool} (λ up. (i, up)) (outside (value_number T i) x.low x.high) h)
+          outside_none (value_number T i) x.low x.high (unmapped {B = ℕ × Bool} (λ up. (i, up))
+          (outside (value_number T i) x.low x.high) h)
 
   -- a number of a variable whose sign fits its position, and that is 0 where the variable is basic, pays what it gives at the point
   pub pays_at : (p : Rational) (v : ℕ) → v < length m.columns + length m.rows →

@@ -109,6 +109,7 @@ module _ (R : Ring) (rows columns : ℕ) (coefficient : ℕ → ℕ → ℤ) (en
     where
       others : (v : ℕ) → v ≢ basic i → ((k : ℕ) × (k < rows) × (basic k ≡ v)) ⊎ (x v ≡ q v) → entry i v *r (x v -r q v) ≡ of (pos 0)
       others v n (inl (k, m, p)) =
-          ap (λ z. z *r (x v -r q v)) (ap (entry i) (sym p) ∙ s.zeros i k l m (λ e. n (sym p ∙ ap basic (sym e)))) ∙ zero_mul R (x v -r q v)
+          ap (λ z. z *r (x v -r q v)) (ap (entry i) (sym p) ∙ s.zeros i k l m (λ e. n (sym p ∙ ap basic (sym e))))
+          ∙ zero_mul R (x v -r q v)
       others v n (inr p) = combine R (entry i v ∷ x v ∷ q v ∷ []) ((var 0, var 1, var 2) ∷ []) (var 0 ⊗ (var 1 ⊖ var 2)) (num (pos 0)) refl
           (p, tt)

@@ -1,5 +1,5 @@
--- Numbers that are those of a final tableau have its laws: for a point whose columns are the tableau's, and multipliers that are its prices
--- or its ray.
+-- Numbers that are those of a final tableau have its laws: for a point whose columns are the tableau's, and multipliers that are its
+-- prices or its ray.
 use Rattle.std.specs.Prelude.{◌≡◌, ℕ, ◌<◌, Bool, List, length, Some, ℤ, pos, ◌<ℤ◌}
 use Rattle.std.proofs.Common.{ap, sym, ◌∙◌, subst}
 use Rattle.ring_laws.proofs.Sums.{sum_same}

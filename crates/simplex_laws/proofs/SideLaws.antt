@@ -1,32 +1,6 @@
 -- The variables of a node by number: each column with the sides of its box and its cost, and each slack with the sides of its row.
-use Rattle.std.specs.Prelude.{
-  ◌≡◌,
-  ℕ,
-  zero,
-  suc,
-  ◌+◌,
-  ◌-◌,
-  ◌<◌,
-  ◌≤◌,
-  Bool,
-  true,
-  false,
-  List,
-  [],
-  ◌∷◌,
-  ◌++◌,
-  length,
-  map,
-  Some,
-  None,
-  option_and_then,
-  nat_lt,
-  slice_get,
-  slice_index_or,
-  ℤ,
-  pos,
-  ◌≤ℤ◌,
-}
+use Rattle.std.specs.Prelude.{◌≡◌, ℕ, zero, suc, ◌+◌, ◌-◌, ◌<◌, ◌≤◌, Bool, true, false, List, [], ◌∷◌, ◌++◌, length, map, Some, None}
+use Rattle.std.specs.Prelude.{option_and_then, nat_lt, slice_get, slice_index_or, ℤ, pos, ◌≤ℤ◌}
 use Rattle.std.specs.List.{zip}
 use Rattle.std.proofs.Common.{arith, refl, ap, sym, ◌∙◌, ◌⊎◌, inl, inr}
 use Rattle.std.proofs.lemmas.Int.{ints}

@@ -1,29 +1,6 @@
 -- The next step of a tableau can be made.
-use Rattle.std.specs.Prelude.{
-  ◌≡◌,
-  ◌≢◌,
-  ℕ,
-  ◌-◌,
-  ◌<◌,
-  ◌==◌,
-  ◌&&◌,
-  not,
-  Bool,
-  true,
-  false,
-  cond,
-  if◌then◌else◌,
-  List,
-  length,
-  Option,
-  Some,
-  None,
-  option_map,
-  option_and_then,
-  ℤ,
-  pos,
-  unsigned_abs,
-}
+use Rattle.std.specs.Prelude.{◌≡◌, ◌≢◌, ℕ, ◌-◌, ◌<◌, ◌==◌, ◌&&◌, not, Bool, true, false, cond, if◌then◌else◌, List, length, Option, Some}
+use Rattle.std.specs.Prelude.{None, option_map, option_and_then, ℤ, pos, unsigned_abs}
 use Rattle.std.specs.List.{position}
 use Rattle.std.specs.Int.Signed.{lt_z}
 use Rattle.std.proofs.Common.{arith, refl, ap, sym, ◌∙◌, subst}
@@ -48,27 +25,8 @@ use Rattle.tableau.specs.Nodes.{number, IsWellPlaced, StandsFor}
 use Rattle.tableau.specs.Meanings.{value_number, price_number, ratio_number}
 use Rattle.simplex_laws.specs.declared.next.Next.{Next}
 use Rattle.simplex_laws.specs.declared.next.Next.TheVariants.{Pivot, Flip, FinalRow}
-use Rattle.simplex_laws.specs.Steps.{
-  allows,
-  can_move,
-  direction,
-  over_high,
-  outside,
-  infeasible,
-  side_towards,
-  row_entering,
-  restore,
-  side_met,
-  block_at,
-  block,
-  nearest,
-  move_by,
-  move,
-  entering,
-  improve,
-  by_infeasible,
-  next,
-}
+use Rattle.simplex_laws.specs.Steps.{allows, can_move, direction, over_high, outside, infeasible, side_towards, row_entering, restore}
+use Rattle.simplex_laws.specs.Steps.{side_met, block_at, block, nearest, move_by, move, entering, improve, by_infeasible, next}
 use Rattle.simplex_laws.specs.Laws.{CanPivot, CanFlip, CanStep, StepsCanBeMade}
 use Rattle.simplex_laws.proofs.ChoiceLaws.{paired, first_is, nearest_is}
 use Rattle.ip_defs.proofs.BoolLaws.{both_true}
@@ -102,7 +60,8 @@ can_rest T v High n h = h
 can_rest T v Zero n h = h
 
 -- what can move in its direction is not basic, and its number is not 0
-pub direction_is : (T : Table) (p : Rational) (v : ℕ) (up : Bool) → direction T p v ≡ Some up → (p.numerator ≢ pos 0) × (position_at T.positions v ≢ Basic)
+pub direction_is : (T : Table) (p : Rational) (v : ℕ) (up : Bool) → direction T p v ≡ Some up → (p.numerator ≢ pos 0)
+    × (position_at T.positions v ≢ Basic)
 direction_is T p v up e = by (lt_z p.numerator (pos 0) && can_move T true v) (lt_z (pos 0) p.numerator && can_move T false v) refl refl e
   where
     by : (s t : Bool) → (lt_z p.numerator (pos 0) && can_move T true v) ≡ s → (lt_z (pos 0) p.numerator && can_move T false v) ≡ t →
@@ -215,9 +174,11 @@ module _ (T : Table) (table : IsTable T) where
 
   module _ (positions : (v : ℕ) → v < length T.variables → IsWellPlaced T v (position_at T.positions v)) where
     restores : (i : ℕ) (up : Bool) (o : Option ℕ) → i < length T.rows →
-        CanRest (variable_at T.variables (basic_at T.basics i)) (side_towards (not up)) → row_entering T i up ≡ o → CanStep T (restore i up o)
+        CanRest (variable_at T.variables (basic_at T.basics i)) (side_towards (not up)) → row_entering T i up ≡ o
+        → CanStep T (restore i up o)
     restores i up None l leaves e = l
-    restores i up (Some v) l leaves e = by (first_is (λ v. option_map (λ go. v) (direction T (if up then number T i v else neg (number T i v)) v))
+    restores i up (Some v) l leaves e = by
+        (first_is (λ v. option_map (λ go. v) (direction T (if up then number T i v else neg (number T i v)) v))
         (length T.variables) v e)
       where
         pivot_of : (up : Bool) (w : ℕ) → (if up then number T i w else neg (number T i w)).numerator ≢ pos 0 →
@@ -262,7 +223,8 @@ module _ (T : Table) (table : IsTable T) where
                 leaves = named_side (variable_at T.variables (basic_at T.basics i)) side z f;
               })
 
-      blocks_in : (i : ℕ) (x : Rational × Next) → i < length T.rows → option_and_then (block_at T v i) (side_met up (number T i v)) ≡ Some x
+      blocks_in : (i : ℕ) (x : Rational × Next) → i < length T.rows → option_and_then (block_at T v i) (side_met up (number T i v))
+          ≡ Some x
           → CanStep T x.1
       blocks_in i x l e = by (side_met up (number T i v)) refl e
         where
@@ -297,7 +259,8 @@ module _ (T : Table) (table : IsTable T) where
     improves None e = tt
     improves (Some go) e = by (first_is (λ v. option_map (λ up. (v, up)) (direction T (price_number T v) v)) (length T.variables) go e)
       where
-        at : (w : ℕ) → w < length T.variables → (o : Option Bool) → direction T (price_number T w) w ≡ o → option_map (λ up. (w, up)) o ≡ Some go
+        at : (w : ℕ) → w < length T.variables → (o : Option Bool) → direction T (price_number T w) w ≡ o → option_map (λ up. (w, up)) o
+            ≡ Some go
             → CanStep T (move T go)
         at w k None g h = absurd cc
         at w k (Some up) g h =

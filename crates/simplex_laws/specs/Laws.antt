@@ -16,7 +16,8 @@ use Rattle.simplex_laws.specs.Runs.{after}
 use Rattle.simplex_laws.specs.Finals.{point_of, slack_prices, slack_ray}
 
 -- ---- steps can be made
--- a variable that is not basic can enter in a row where its entry is not 0, and the row's basic variable can have the position to which it leaves
+-- a variable that is not basic can enter in a row where its entry is not 0, and the row's basic variable can have the position to which it
+-- leaves
 pub record CanPivot (T : Table) (r v : ℕ) (leaving : Rest) : Type 0 where
   pub row : r < length T.rows
   pub variable : v < length T.variables

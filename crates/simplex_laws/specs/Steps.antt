@@ -1,25 +1,7 @@
 -- One step of the simplex for variables with sides, by the least-number rule: first a basic variable outside its sides is brought back,
 -- then the cost is lowered. Each choice is the first one by number.
-use Rattle.std.specs.Prelude.{
-  ℕ,
-  zero,
-  suc,
-  ◌==◌,
-  ◌&&◌,
-  not,
-  Bool,
-  true,
-  false,
-  if◌then◌else◌,
-  length,
-  Option,
-  Some,
-  None,
-  option_map,
-  option_and_then,
-  ℤ,
-  pos,
-}
+use Rattle.std.specs.Prelude.{ℕ, zero, suc, ◌==◌, ◌&&◌, not, Bool, true, false, if◌then◌else◌, length, Option, Some, None, option_map}
+use Rattle.std.specs.Prelude.{option_and_then, ℤ, pos}
 use Rattle.std.specs.List.{position}
 use Rattle.ip_defs.specs.Lists.{first}
 use Rattle.std.specs.Int.Signed.{lt_z}
@@ -74,7 +56,8 @@ side_towards false = Low
 
 -- the variable that enters to let the basic variable of a row rise or fall
 abbrev pub row_entering : Table → ℕ → Bool → Option ℕ
-row_entering T i up = first (λ v. option_map (λ up. v) (direction T (if up then number T i v else neg (number T i v)) v)) (length T.variables)
+row_entering T i up = first (λ v. option_map (λ up. v) (direction T (if up then number T i v else neg (number T i v)) v))
+    (length T.variables)
 
 -- the row's basic variable leaves at the side that it broke
 abbrev pub restore : ℕ → Bool → Option ℕ → Next

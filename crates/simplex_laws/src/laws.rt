@@ -1,5 +1,6 @@
 //! The laws of the simplex, each as the contract of a call.
-ghost use Rattle.simplex_laws.specs.Laws.{StepsCanBeMade, BestIsRight, BestIsLeast, EmptyIsRight, EmptyHasNoPoint, RunsStand, FinalsStay, RunsHaveBegun};
+ghost use Rattle.simplex_laws.specs.Laws.{StepsCanBeMade, BestIsRight, BestIsLeast, EmptyIsRight, EmptyHasNoPoint, RunsStand, FinalsStay};
+ghost use Rattle.simplex_laws.specs.Laws.{RunsHaveBegun};
 
 /// The next step of a tableau that stands for a node can be made: its pivot is not 0, the variable that enters is not basic, the one that
 /// leaves has the side to which it moves, and a variable that flips has both sides.
@@ -18,8 +19,8 @@ pub fn best_is_least()
     ensures { BestIsLeast }
 {}
 
-/// Where the next step of a tableau says that it is final by a row, the row's slack entries, or their negations, have a positive dual value
-/// without a cost.
+/// Where the next step of a tableau says that it is final by a row, the row's slack entries, or their negations, have a positive dual
+/// value without a cost.
 pub fn empty_is_right()
     ensures { EmptyIsRight }
 {}

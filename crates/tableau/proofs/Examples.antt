@@ -31,7 +31,12 @@ variables = record { low = Some (pos 0); high = Some (pos 4); cost = negsuc 0 } 
 } ∷ []
 
 abbrev pub before : Table
-before = record { rows = (whole (negsuc 1) ∷ whole (pos 1) ∷ []) ∷ []; basics = 1 ∷ []; positions = Low ∷ Basic ∷ []; variables = variables }
+before = record {
+  rows = (whole (negsuc 1) ∷ whole (pos 1) ∷ []) ∷ [];
+  basics = 1 ∷ [];
+  positions = Low ∷ Basic ∷ [];
+  variables = variables;
+}
 
 abbrev pub after : Table
 after = record {

@@ -2,38 +2,13 @@
 use Rattle.std.specs.Prelude.{◌≡◌, ◌≢◌, true, Option, Some, None, Result, Ok, Err, IfOk, ℤ, pos, neg_ℤ, ◌*ℤ◌, ◌<ℤ◌, int_div}
 use Rattle.std.proofs.Common.{arith, refl, ap, sym, ◌∙◌, subst}
 use Rattle.frac128.specs.declared.fraction.Wide.{Wide}
-use Rattle.frac128.specs.Fractions.{
-  Fraction,
-  within,
-  shared,
-  lowest_of,
-  sum_where,
-  sum_of,
-  fraction_where,
-  product_of,
-  negative_of,
-  difference_of,
-  reciprocal_of,
-  quotient_of,
-  whole,
-}
+use Rattle.frac128.specs.Fractions.{Fraction, within, shared, lowest_of, sum_where, sum_of, fraction_where, product_of, negative_of}
+use Rattle.frac128.specs.Fractions.{difference_of, reciprocal_of, quotient_of, whole}
 use Rattle.frac128.specs.Rationals.{of, sub, mul, inverse}
 use Rattle.frac128.specs.Values.{value_of, IsDifference, IsProduct, IsQuotient}
-use Rattle.frac128.proofs.FractionLaws.{
-  IsProper,
-  reciprocal-proper,
-  within-some,
-  IsFraction-product,
-  IsFraction-lowest,
-  IsFraction-negative,
-  sum_num,
-  sum_den,
-  sum-positive,
-  product-exact,
-  sum-exact,
-  IfOk-difference,
-  IfOk-quotient,
-}
+use Rattle.frac128.proofs.FractionLaws.{IsProper, reciprocal-proper, within-some, IsFraction-product, IsFraction-lowest}
+use Rattle.frac128.proofs.FractionLaws.{IsFraction-negative, sum_num, sum_den, sum-positive, product-exact, sum-exact, IfOk-difference}
+use Rattle.frac128.proofs.FractionLaws.{IfOk-quotient}
 use Rattle.frac128.proofs.Fractions.{lowest-is}
 use Rattle.frac128.proofs.Order.{nonzero}
 use Rattle.frac128.proofs.WholeLaws.{IsFraction-whole, zero-product_left, zero-product_right, zero-sum_right}

@@ -1,41 +1,7 @@
 -- The tableau at the start: its rows from the coefficients of the model, that it is a tableau, and that it stands for its node.
-use Rattle.std.specs.Prelude.{
-  ◌≡◌,
-  ◌≢◌,
-  ℕ,
-  zero,
-  suc,
-  ◌+◌,
-  ◌-◌,
-  ◌<◌,
-  ◌≤◌,
-  ◌==◌,
-  ◌^◌,
-  Bool,
-  true,
-  false,
-  cond,
-  if◌then◌else◌,
-  nat_lt,
-  List,
-  [],
-  ◌∷◌,
-  ◌++◌,
-  length,
-  map,
-  take,
-  Option,
-  Some,
-  None,
-  slice_get,
-  slice_index_or,
-  slice_set,
-  ℤ,
-  pos,
-  neg_ℤ,
-  ◌+ℤ◌,
-  unsigned_abs,
-}
+use Rattle.std.specs.Prelude.{◌≡◌, ◌≢◌, ℕ, zero, suc, ◌+◌, ◌-◌, ◌<◌, ◌≤◌, ◌==◌, ◌^◌, Bool, true, false, cond, if◌then◌else◌, nat_lt, List}
+use Rattle.std.specs.Prelude.{[], ◌∷◌, ◌++◌, length, map, take, Option, Some, None, slice_get, slice_index_or, slice_set, ℤ, pos, neg_ℤ}
+use Rattle.std.specs.Prelude.{◌+ℤ◌, unsigned_abs}
 use Rattle.std.specs.List.{zip}
 use Rattle.std.proofs.Common.{arith, refl, ap, sym, ◌∙◌, subst, length-set, get_or}
 use Rattle.std.proofs.lemmas.Bool.{eqb-true, eqb-false}
@@ -59,18 +25,8 @@ use Rattle.ip_model.proofs.RowLaws.{coefficient_none, fresh, coefficient_more, c
 use Rattle.tableau.specs.declared.positions.Rest.TheVariants.{Basic, Low}
 use Rattle.tableau.specs.declared.variables.Variable.{Variable}
 use Rattle.tableau.specs.Tables.{at, entry, basic_at, position_at, IsTable}
-use Rattle.tableau.specs.Nodes.{
-  column_variable,
-  slack_variable,
-  variables_of,
-  listed,
-  start_entry,
-  start_of,
-  number,
-  IsWellPlaced,
-  StandsFor,
-  HasItsPoints,
-}
+use Rattle.tableau.specs.Nodes.{column_variable, slack_variable, variables_of, listed, start_entry, start_of, number, IsWellPlaced}
+use Rattle.tableau.specs.Nodes.{StandsFor, HasItsPoints}
 use Rattle.frac128.proofs.FractionLaws.{IsProper}
 use Rattle.frac128.proofs.SignLaws.{whole-value}
 use Rattle.tableau.proofs.ListLaws.{listed-at, length-listed, listed_is}
@@ -294,7 +250,8 @@ module _ (m : Parts) (b : List (ℤ × ℤ)) (limits : IsWithinLimits m) (size :
         combination = s.combination;
         basic = λ i l. ap (position_at (start_of m b).positions) (basic_is i l) ∙ position_is (length m.columns + i) (omega arith)
             ∙ ap (λ t. cond t Low Basic) (lt_false (length m.columns + i) (length m.columns) (omega arith));
-        positions = λ v l. subst (IsWellPlaced (start_of m b) v) (sym (position_is v l)) (well_placed v (nat_lt v (length m.columns)) refl l);
+        positions = λ v l. subst (IsWellPlaced (start_of m b) v) (sym (position_is v l))
+            (well_placed v (nat_lt v (length m.columns)) refl l);
       }
 
   pub start-points : HasItsPoints m (start_of m b)

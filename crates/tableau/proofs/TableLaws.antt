@@ -1,27 +1,6 @@
 -- A pivot and a flip keep what a tableau is, and what it stands for.
-use Rattle.std.specs.Prelude.{
-  ◌≡◌,
-  ◌≢◌,
-  ℕ,
-  ◌+◌,
-  ◌<◌,
-  ◌==◌,
-  Bool,
-  true,
-  false,
-  cond,
-  List,
-  length,
-  Result,
-  Ok,
-  Err,
-  OnOk,
-  OnErr,
-  None,
-  pos,
-  ℤ,
-  slice_set,
-}
+use Rattle.std.specs.Prelude.{◌≡◌, ◌≢◌, ℕ, ◌+◌, ◌<◌, ◌==◌, Bool, true, false, cond, List, length, Result, Ok, Err, OnOk, OnErr, None, pos}
+use Rattle.std.specs.Prelude.{ℤ, slice_set}
 use Rattle.std.proofs.Common.{arith, refl, ap, sym, ◌∙◌, subst, length-set}
 use Rattle.std.proofs.lemmas.Bool.{eqb-true, eqb-false}
 use Rattle.std.proofs.lemmas.List.{get_or-set_same, get_or-set_other}
@@ -88,7 +67,8 @@ module _ (T : Table) (r v : ℕ) (leaving : Rest) (table : IsTable T) (inside : 
         record {
           rows = new_are (length T.variables) T.rows r v table.rows inside enters pivot new made;
           basics = length-set T.basics r v ∙ table.basics ∙ sym e;
-          positions = length-set (slice_set T.positions (basic_at T.basics r) leaving) v Basic ∙ length-set T.positions (basic_at T.basics r) leaving
+          positions = length-set (slice_set T.positions (basic_at T.basics r) leaving) v Basic ∙ length-set T.positions
+              (basic_at T.basics r) leaving
               ∙ table.positions;
           within = λ i l. within (i == r) i refl (omega arith);
         }
@@ -158,7 +138,8 @@ module _ (T : Table) (r v : ℕ) (leaving : Rest) (table : IsTable T) (inside : 
             ∙ s.basic i l
 
         -- the position of the variable that leaves
-        right_left : (rest : Rest) → CanRest (variable_at T.variables (basic_at T.basics r)) rest → IsWellPlaced U (basic_at T.basics r) rest
+        right_left : (rest : Rest) → CanRest (variable_at T.variables (basic_at T.basics r)) rest → IsWellPlaced U
+            (basic_at T.basics r) rest
         right_left Basic h = absurd h
         right_left Low h = h
         right_left High h = h
@@ -179,7 +160,8 @@ module _ (T : Table) (r v : ℕ) (leaving : Rest) (table : IsTable T) (inside : 
         well_placed true u w e f l =
             let same = eqb-true w v e in
             let c = same_count in
-            subst (λ z. IsWellPlaced U z (position_at U.positions z)) (sym same) (subst (IsWellPlaced U v) (sym position_own) (r, omega arith, own_basic))
+            subst (λ z. IsWellPlaced U z (position_at U.positions z)) (sym same) (subst (IsWellPlaced U v) (sym position_own)
+            (r, omega arith, own_basic))
         well_placed false true w e f l =
             let same = eqb-true w (basic_at T.basics r) f in
             let n = eqb-false w v e in
@@ -266,12 +248,14 @@ module _ (T : Table) (v : ℕ) (positions : CanRest (variable_at T.variables v) 
     one = s.one;
     zeros = s.zeros;
     combination = s.combination;
-    basic = λ i l. position_kept (basic_at T.basics i) (not_basic T v (basic_at T.basics i) (not_basic_here (position_at T.positions v) positions)
+    basic = λ i l. position_kept (basic_at T.basics i) (not_basic T v (basic_at T.basics i)
+        (not_basic_here (position_at T.positions v) positions)
         (s.basic i l)) ∙ s.basic i l;
     positions = λ w l. right (w == v) w refl (s.positions w l);
   }
     where
-      right : (t : Bool) (w : ℕ) → (w == v) ≡ t → IsWellPlaced T w (position_at T.positions w) → IsWellPlaced F w (position_at F.positions w)
+      right : (t : Bool) (w : ℕ) → (w == v) ≡ t → IsWellPlaced T w (position_at T.positions w) → IsWellPlaced F w
+          (position_at F.positions w)
       right true w e h =
           let same = eqb-true w v e in
           subst (λ z. IsWellPlaced F z (position_at F.positions z)) (sym same)

@@ -1,27 +1,7 @@
 -- The linear system of a node, and what it means that a tableau stands for it. A node has one variable for each column, with the
 -- sides of its area, and one slack for each row, with the row's sides; its equations say that each slack is its row's sum.
-use Rattle.std.specs.Prelude.{
-  ◌≡◌,
-  ◌≢◌,
-  ℕ,
-  zero,
-  suc,
-  ◌+◌,
-  ◌<◌,
-  ◌==◌,
-  if◌then◌else◌,
-  nat_lt,
-  List,
-  [],
-  ◌∷◌,
-  ◌++◌,
-  length,
-  map,
-  Some,
-  ℤ,
-  pos,
-  neg_ℤ,
-}
+use Rattle.std.specs.Prelude.{◌≡◌, ◌≢◌, ℕ, zero, suc, ◌+◌, ◌<◌, ◌==◌, if◌then◌else◌, nat_lt, List, [], ◌∷◌, ◌++◌, length, map, Some, ℤ}
+use Rattle.std.specs.Prelude.{pos, neg_ℤ}
 use Rattle.std.specs.List.{zip}
 use Rattle.frac128.specs.Fractions.{Fraction, whole}
 use Rattle.frac128.specs.Rationals.{Rational, of, mul, neg, sum}

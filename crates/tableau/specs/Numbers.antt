@@ -43,14 +43,16 @@ less_nonbasic_value x t (Some z) = less_product x t (whole z)
 
 -- the value of a row's basic variable: 0 less each entry times the value of its nonbasic variable, over the variables by number
 abbrev pub value : Table → ℕ → Result Fraction Wide
-value T i = after_steps (λ v x. less_nonbasic_value x (entry T.rows i v) (nonbasic_value (variable_at T.variables v) (position_at T.positions v)))
+value T i = after_steps (λ v x. less_nonbasic_value x (entry T.rows i v) (nonbasic_value (variable_at T.variables v)
+    (position_at T.positions v)))
     (whole (pos 0)) (length T.variables)
 
 -- the cost of a variable
 abbrev pub cost_at : Table → ℕ → Fraction
 cost_at T v = whole (variable_at T.variables v).cost
 
--- the reduced cost of a variable (that of a slack is the dual price of its row): its cost less each entry times the cost of the row's basic variable, over the rows by number
+-- the reduced cost of a variable (that of a slack is the dual price of its row): its cost less each entry times the cost of the row's
+-- basic variable, over the rows by number
 abbrev pub price : Table → ℕ → Result Fraction Wide
 price T v = after_steps (λ i x. less_product x (entry T.rows i v) (cost_at T (basic_at T.basics i))) (cost_at T v) (length T.rows)
 

@@ -27,8 +27,11 @@ fn less_nonbasic(x: Frac, entry: Frac, nonbasic_value: Option<i64>) -> Result<Fr
 pub fn row_value(line: &[Frac], positions: &[Rest], variables: &[Variable]) -> Result<Frac, Wide>
     requires positions { length positions.now ≡ length line.now }
     requires variables { length variables.now ≡ length line.now }
-    ensures exact { result ≡ after_steps (λ v x. less_nonbasic_value x (at line.now v) (nonbasic_value (variable_at variables.now v) (position_at positions.now v))) (whole_of (pos 0)) (length line.now) }
-    ensures number { IfOk result (λ x. value_of x ≡ neg (sum (λ v. times (value_of (at line.now v)) (of (side_or_zero (nonbasic_value (variable_at variables.now v) (position_at positions.now v))))) (length line.now))) }
+    ensures exact { result ≡ after_steps (λ v x. less_nonbasic_value x (at line.now v) (nonbasic_value (variable_at variables.now v)
+        (position_at positions.now v))) (whole_of (pos 0)) (length line.now) }
+    ensures number { IfOk result (λ x. value_of x
+        ≡ neg (sum (λ v. times (value_of (at line.now v))
+        (of (side_or_zero (nonbasic_value (variable_at variables.now v) (position_at positions.now v))))) (length line.now))) }
 {
     let mut value = Frac::from_whole(0);
     for v in 0..line.len() {
@@ -51,8 +54,12 @@ pub fn column_price(
     requires within { (i : ℕ) → i < length rows.now → basic_at basics.now i < length variables.now }
     requires sizes { (i : ℕ) → i < length rows.now → var < length (line rows.now i) }
     requires variable { var < length variables.now }
-    ensures exact { result ≡ after_steps (λ i x. less_product x (entry rows.now i var) (whole_of (variable_at variables.now (basic_at basics.now i)).cost)) (whole_of (variable_at variables.now var).cost) (length rows.now) }
-    ensures number { IfOk result (λ x. value_of x ≡ less (of (variable_at variables.now var).cost) (sum (λ i. times (value_of (entry rows.now i var)) (of (variable_at variables.now (basic_at basics.now i)).cost)) (length rows.now))) }
+    ensures exact { result ≡ after_steps (λ i x. less_product x (entry rows.now i var)
+        (whole_of (variable_at variables.now (basic_at basics.now i)).cost)) (whole_of (variable_at variables.now var).cost)
+        (length rows.now) }
+    ensures number { IfOk result (λ x. value_of x ≡ less (of (variable_at variables.now var).cost)
+        (sum (λ i. times (value_of (entry rows.now i var)) (of (variable_at variables.now (basic_at basics.now i)).cost))
+        (length rows.now))) }
 {
     let mut price = Frac::from_whole(variables[var].cost);
     for i in 0..rows.len() {

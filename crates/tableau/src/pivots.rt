@@ -89,8 +89,10 @@ fn exchange_rows(rows: &mut [Line], row: usize, var: usize, spare: &mut [Line])
     requires sizes { (i : ℕ) → i < length rows.old → var < length (line_of rows.old i) }
     ensures count { length rows.new ≡ length rows.old }
     ensures lines { length spare.new ≡ length rows.old }
-    ensures rows { (i : ℕ) → i < length rows.old → line_of rows.new i ≡ (if is_changed rows.old row var i then line_of spare.old i else line_of rows.old i) }
-    ensures spare { (i : ℕ) → i < length rows.old → line_of spare.new i ≡ (if is_changed rows.old row var i then line_of rows.old i else line_of spare.old i) }
+    ensures rows { (i : ℕ) → i < length rows.old → line_of rows.new i
+        ≡ (if is_changed rows.old row var i then line_of spare.old i else line_of rows.old i) }
+    ensures spare { (i : ℕ) → i < length rows.old → line_of spare.new i
+        ≡ (if is_changed rows.old row var i then line_of rows.old i else line_of spare.old i) }
 {
     for i in 0..rows.len() {
         if changes(&rows[i], i, row, var) {

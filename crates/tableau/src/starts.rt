@@ -94,7 +94,8 @@ fn start_line(alloc: Global, parts: &Parts, k: usize) -> Result<Line, Memory>
 /// The rows at the start.
 fn start_rows(alloc: Global, parts: &Parts) -> Result<Vec<Line>, Memory>
     requires limits { IsWithinLimits parts.now }
-    ensures { IfOk result (λ ls. ls.items ≡ listed (length parts.now.rows) (λ k. listed (length parts.now.columns + length parts.now.rows) (start_entry parts.now k))) }
+    ensures { IfOk result (λ ls. ls.items ≡ listed (length parts.now.rows) (λ k. listed (length parts.now.columns + length parts.now.rows)
+        (start_entry parts.now k))) }
 {
     let count = parts.rows.as_slice().len();
     let mut lines = Vec::with_capacity(alloc, count)?;
@@ -154,8 +155,8 @@ fn start_at(alloc: Global, parts: &Parts, area: &[(i64, i64)]) -> Result<Tableau
     Ok(Tableau::new(rows, spare, quotients, basics, positions, variables))
 }
 
-/// The tableau of a node at the start: all slacks are basic, and each column is nonbasic at its low side. An area has one pair of sides for
-/// each column of the model, and no column of it is empty. The tableau stands for the node, and only points that meet the node's
+/// The tableau of a node at the start: all slacks are basic, and each column is nonbasic at its low side. An area has one pair of sides
+/// for each column of the model, and no column of it is empty. The tableau stands for the node, and only points that meet the node's
 /// equations make its rows 0.
 pub fn start(alloc: Global, model: &IntModel, area: &Area) -> Result<Tableau, Memory>
     requires { length area.now ≡ length model.now.columns }

@@ -35,9 +35,21 @@ impl Model for Tableau {
 
     ghost Value = { Table };
 
-    ghost view = { λ t. record { rows = t.rows.items; basics = t.basics.items; positions = t.positions.items; variables = t.variables.items } };
+    ghost view = { λ t. record {
+      rows = t.rows.items;
+      basics = t.basics.items;
+      positions = t.positions.items;
+      variables =
+          t.variables.items;
+    } };
 
-    ghost invariant = { λ t. IsTable (record { rows = t.rows.items; basics = t.basics.items; positions = t.positions.items; variables = t.variables.items }) × AreSpareLines (length t.rows.items) (length t.variables.items) t.spare.items t.quotients };
+    ghost invariant = { λ t. IsTable (record {
+      rows = t.rows.items;
+      basics = t.basics.items;
+      positions = t.positions.items;
+      variables =
+          t.variables.items;
+    }) × AreSpareLines (length t.rows.items) (length t.variables.items) t.spare.items t.quotients };
 }
 
 impl Tableau {
@@ -50,7 +62,12 @@ impl Tableau {
         positions: Vec<Rest>,
         variables: Vec<Variable>,
     ) -> Tableau
-        requires table { IsTable (record { rows = rows.items; basics = basics.items; positions = positions.items; variables = variables.items }) }
+        requires table { IsTable (record {
+          rows = rows.items;
+          basics = basics.items;
+          positions = positions.items;
+          variables = variables.items;
+        }) }
         requires spare { AreSpareLines (length rows.items) (length variables.items) spare.items quotients }
         ensures { result ≡ record { rows = rows.items; basics = basics.items; positions = positions.items; variables = variables.items } }
     {
@@ -217,8 +234,8 @@ impl Tableau {
         )
     }
 
-    /// The reduced cost of a variable, also of a slack, whose reduced cost is the dual price of its row: its cost less each entry times the cost of the row's basic variable, over the rows by number.
-    /// `Wide` comes exactly where one of these steps is wide.
+    /// The reduced cost of a variable, also of a slack, whose reduced cost is the dual price of its row: its cost less each entry times
+    /// the cost of the row's basic variable, over the rows by number. `Wide` comes exactly where one of these steps is wide.
     pub fn price(&self, var: u32) -> Result<Frac, Wide>
         requires { var < length self.now.variables }
         ensures exact { result ≡ price_of self.now var }

@@ -1,6 +1,6 @@
 -- What a depth-first search says of a node that it visits, and of the subtree that it has grown over one box.
-use Rattle.std.specs.Prelude.{◌≡◌, ℕ, ◌+◌, ◌^◌, ◌<◌, ◌≤◌, List, [], ◌∷◌, length, map, slice_get, Option, Some, None, option_map, ℤ, pos,
-    ◌≤ℤ◌, ◌<ℤ◌}
+use Rattle.std.specs.Prelude.{◌≡◌, ℕ, ◌+◌, ◌^◌, ◌<◌, ◌≤◌, List, [], ◌∷◌, length, map, slice_get, Option, Some, None, option_map, ℤ, pos}
+use Rattle.std.specs.Prelude.{◌≤ℤ◌, ◌<ℤ◌}
 use Rattle.std.specs.Int.RustNames.{unsigned_abs}
 use Rattle.ip_defs.specs.declared.certificates.Bound.{Bound}
 use Rattle.ip_defs.specs.declared.certificates.Bound.TheVariants.{At, Infinite}
@@ -9,8 +9,10 @@ use Rattle.ip_defs.specs.declared.programs.Breach.TheVariants as Broken
 use Rattle.ip_defs.specs.declared.programs.Parts.{Parts}
 use Rattle.ip_defs.specs.Breaches.{row_breach}
 use Rattle.ip_defs.specs.Certificates.{leaf_bound}
-use Rattle.ip_defs.specs.Limits.{IsArea, IsCert}
+use Rattle.ip_defs.specs.Limits.{IsArea, IsCert, IsWithinLimits}
 use Rattle.ip_defs.specs.Program.{box_of, cost, high_at, low_at, IsFeasible}
+use Rattle.ip_model.specs.Sizes.{first_crossed}
+use Rattle.leaf_cert.specs.Room.{FitsScratch, room_of}
 use Rattle.proof_tree.specs.LabelledTrees.{places_from, split_at, split_labels}
 use Rattle.proof_tree.specs.Trees.{plain}
 use Rattle.proof_tree.specs.Verdicts.{IsAtLeast}
@@ -23,6 +25,7 @@ use Rattle.branching.specs.declared.budgets.BudgetWhat.TheVariants.{Nodes, Depth
 use Rattle.branching.specs.declared.outcomes.Outcome.{Outcome}
 use Rattle.branching.specs.declared.outcomes.Outcome.TheVariants.{Best, Empty}
 use Rattle.branching.specs.declared.reasons.Why.{Why}
+use Rattle.branching.specs.declared.nodes.Progress.{Progress}
 use Rattle.branching.specs.declared.nodes.Visit.{Visit}
 use Rattle.branching.specs.declared.nodes.Visit.TheVariants.{Closed, Blocked, Open}
 use Rattle.branching.specs.OpenTrees.{PlainOpen, OpenPlace, IsDone, tree_of, stuck_count}
@@ -90,6 +93,23 @@ abbrev pub ray_on : ℕ → ℤ → Cert
 ray_on row multiplier = record { q = pos 0; y = (row, multiplier) ∷ [] }
 
 -- ---- nodes
+
+-- a node may be visited: its box and its depth, with what the search has so far
+pub record MayVisit (m : Parts) (l : Limits) (d : ℕ) (b : List (ℤ × ℤ)) (s : Progress) : Type 0 where
+  pub limits : IsWithinLimits m
+  pub uncrossed : first_crossed m ≡ None
+  pub area : IsSearchArea m b
+  pub depth : d ≤ l.depth
+  pub nodes : s.nodes ≤ l.nodes
+  pub sound : IsSound m s.found
+  pub room : FitsScratch m s.scratch
+
+-- a node was visited: the best point so far may be a better one, and the rest is as it was
+pub record HasVisited (m : Parts) (before after : Progress) : Type 0 where
+  pub sound : IsSound m after.found
+  pub improves : Improves before.found after.found
+  pub nodes : after.nodes ≡ before.nodes
+  pub room : room_of after.scratch ≡ room_of before.scratch
 
 -- a certificate for the rows of the program closes a box
 pub record IsEnd (m : Parts) (b : List (ℤ × ℤ)) (found : Found) (c : Cert) : Type 0 where

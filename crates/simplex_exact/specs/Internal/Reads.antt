@@ -1,5 +1,5 @@
 -- What is read off a final tableau, before anything is said of a node.
-use Rattle.std.specs.Prelude.{ℕ, ◌+◌, Bool}
+use Rattle.std.specs.Prelude.{◌≡◌, ℕ, ◌+◌, ◌<◌, Bool, length}
 use Rattle.tableau.specs.Tables.{Table}
 use Rattle.tableau.specs.Nodes.{number}
 use Rattle.tableau.specs.Meanings.{price_number}
@@ -11,6 +11,11 @@ use Rattle.simplex_exact.specs.declared.answers.LpAnswer.{LpAnswer}
 use Rattle.simplex_exact.specs.declared.answers.LpAnswer.TheVariants.{Best, Empty, Stopped, Wide}
 use Rattle.simplex_exact.specs.Answers.{AreNumbers}
 use Rattle.simplex_exact.specs.Internal.Numbers.{turned}
+
+-- a tableau has a variable for each column and each row
+pub record HasColumnsAndRows (T : Table) (columns rows : ℕ) : Type 0 where
+  pub small : columns + rows < 8192
+  pub count : columns + rows ≡ length T.variables
 
 -- the numbers of the columns and the dual prices of the rows (the reduced costs of their slacks), or a number is wide
 abbrev pub IsPointRead : Table → ℕ → ℕ → LpAnswer → Type 0

@@ -9,12 +9,14 @@ use Rattle.branching.proofs.leaves.ray_of.Goals as goal
 pub returns-in-Infinite-clause-ray : goal.returns-in-Infinite-clause-ray
 returns-in-Infinite-clause-ray c =
     let within = broken_within c.args.model.now (lowest c.args.area.now) c.args.row c.requires.broken in
-    rw c.in_ok-ray.ensures (ray_cert (length c.args.model.now.rows) c.args.row (pos 1) within (λ e. omega (arith, ints)) (omega (arith, ints)))
+    rw c.in_ok-ray.ensures (ray_cert (length c.args.model.now.rows) c.args.row (pos 1) within (λ e. omega (arith, ints))
+    (omega (arith, ints)))
 
 pub returns-in-At-clause-ray : goal.returns-in-At-clause-ray
 returns-in-At-clause-ray c =
     let within = broken_within c.args.model.now (lowest c.args.area.now) c.args.row c.requires.broken in
-    rw (c.set.ensures, c.in_ok-ray.ensures) (ray_cert (length c.args.model.now.rows) c.args.row (negsuc 0) within (λ e. omega (arith, ints)) (omega (arith, ints)))
+    rw (c.set.ensures, c.in_ok-ray.ensures) (ray_cert (length c.args.model.now.rows) c.args.row (negsuc 0) within
+    (λ e. omega (arith, ints)) (omega (arith, ints)))
 
 pub returns-in-At-clause-infinite : goal.returns-in-At-clause-infinite
 returns-in-At-clause-infinite c =

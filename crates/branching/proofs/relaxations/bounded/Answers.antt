@@ -1,4 +1,4 @@
-use Rattle.std.proofs.Common.{arith, ◌≡◌, ◌∙◌, sym, subst, to_z, of_z}
+use Rattle.std.proofs.Common.{arith, rules, ◌≡◌, ◌∙◌, sym, subst, to_z, of_z}
 use Rattle.std.specs.Prelude.{◌+ℤ◌, ℤ, pos}
 use Rattle.std.specs.Int.{w64, w128}
 use Rattle.std.proofs.lemmas.Int.{ints}
@@ -30,7 +30,8 @@ whole_point-requires-clause-whole c = rw (c.as_slice-in-None.ensures, sym c.as_s
 
 pub whole_point-requires-clause-small : goal.whole_point-requires-clause-small
 whole_point-requires-clause-small c =
-    rw c.as_slice-in-None.ensures (number_small c.args.model.now c.args.area.now c.args.point c.args.cert c.requires.bounds c.requires.area)
+    rw c.as_slice-in-None.ensures
+    (number_small c.args.model.now c.args.area.now c.args.point c.args.cert c.requires.bounds c.requires.area)
 
 pub returns-in-Some-clause-relaxed : goal.returns-in-Some-clause-relaxed
 returns-in-Some-clause-relaxed c = λ pivots.
@@ -56,21 +57,20 @@ returns-in_ok-point-in-None-clause-relaxed c = λ pivots.
     point_closes c.args.model.now c.args.area.now c.args.point c.args.cert c.requires.bounds c.requires.area c.in_ok-point-in-None.point
     size same (to_z w128 (of_z w128 c.cost-cost.result)) c.requires.open
 
-pub returns-in_ok-point-in-None-clause-sound : goal.returns-in_ok-point-in-None-clause-sound
-returns-in_ok-point-in-None-clause-sound c =
-    let size = rw c.as_slice-in-None.ensures at c.in_ok-point-in-None.ensures.size in
-    let same = rw c.as_slice-in-None.ensures at c.in_ok-point-in-None.ensures.same in
-    let back : to_z w128 (of_z w128 c.cost-cost.result) ≡ c.cost-cost.result = omega (arith, ints) in (
-      point_feasible c.args.model.now c.args.area.now c.args.point c.args.cert c.requires.bounds c.requires.area c.in_ok-point-in-None.point
-          size same,
-      sym c.cost-cost.ensures ∙ sym back,
-    )
-
-pub returns-in_ok-point-in-None-clause-improves : goal.returns-in_ok-point-in-None-clause-improves
-returns-in_ok-point-in-None-clause-improves c =
+pub returns-in_ok-point-in-None-clause-search : goal.returns-in_ok-point-in-None-clause-search
+returns-in_ok-point-in-None-clause-search c =
+    let m = c.args.model.now in
+    let b = c.args.area.now in
+    let x = c.in_ok-point-in-None.point in
     let size = rw c.as_slice-in-None.ensures at c.in_ok-point-in-None.ensures.size in
     let same = rw c.as_slice-in-None.ensures at c.in_ok-point-in-None.ensures.same in
     let back : to_z w128 (of_z w128 c.cost-cost.result) ≡ c.cost-cost.result = omega (arith, ints) in
-    point_better c.args.model.now c.args.area.now c.args.point c.args.cert c.requires.bounds c.requires.area c.in_ok-point-in-None.point
-    size same c.args.search.now.found c.leaf_bound-bound.result (to_z w128 (of_z w128 c.cost-cost.result)) c.requires.open
-    c.leaf_bound-bound.ensures.bound c.if-is_closed.ensures (sym c.cost-cost.ensures ∙ sym back)
+    let price = sym c.cost-cost.ensures ∙ sym back in
+    record {
+      sound = (point_feasible m b c.args.point c.args.cert c.requires.bounds c.requires.area x size same, price);
+      improves = point_better m b c.args.point c.args.cert c.requires.bounds c.requires.area x size same c.args.search.now.found
+          c.leaf_bound-bound.result (to_z w128 (of_z w128 c.cost-cost.result)) c.requires.open c.leaf_bound-bound.ensures.bound
+          c.if-is_closed.ensures price;
+      nodes = search rules;
+      room = search rules;
+    }

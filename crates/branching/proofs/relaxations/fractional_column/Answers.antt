@@ -3,8 +3,8 @@ use Rattle.std.specs.Prelude.{Option}
 use Rattle.frac128.specs.Values.{value_of}
 use Rattle.branching.proofs.WholeLaws.{IsBrokenAt, broken_before, broken_here, number_read, whole_more}
 use Rattle.branching.proofs.relaxations.fractional_column.Goals as goal
-use Rattle.branching.proofs.relaxations.fractional_column.Goals.{then-not-is_whole+then-is_none,
-    then-not-is_whole+else-is_none+else-distance-least, else-not-is_whole}
+use Rattle.branching.proofs.relaxations.fractional_column.Goals.{then-not-is_whole+then-is_none}
+use Rattle.branching.proofs.relaxations.fractional_column.Goals.{then-not-is_whole+else-is_none+else-distance-least, else-not-is_whole}
 
 pub loop-j-preserved : goal.loop-j-preserved
 loop-j-preserved c =

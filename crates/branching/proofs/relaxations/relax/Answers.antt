@@ -12,17 +12,20 @@ pub bounded-requires-clause-bounds : goal.bounded-requires-clause-bounds
 bounded-requires-clause-bounds g c =
     let best = rw c.in-Best.is at c.in_ok-point.ensures.answer in
     let meaning = rw c.in-Some.is at c.in_ok-cert-in-Best.ensures.meaning in
-    prices_bound c.args.model.now c.args.area.now (c.solve_lp.new.steps - c.args.steps.now) c.in-Best.point c.in-Best.prices c.in-Some.cert c.requires.area best meaning
+    let n = c.solve_lp.new.steps - c.args.steps.now in
+    prices_bound c.args.model.now c.args.area.now n c.in-Best.point c.in-Best.prices c.in-Some.cert c.requires.area best meaning
 
 pub returns-in-Best-clause-relaxed : goal.returns-in-Best-clause-relaxed
 returns-in-Best-clause-relaxed g c =
     let best = rw c.in-Best.is at c.in_ok-point.ensures.answer in
-    long_prices (c.solve_lp.new.steps - c.args.steps.now) c.in-Best.point c.in-Best.prices (omega arith) best (sym c.in_ok-cert-in-Best.ensures.exact ∙ c.in-None.is)
+    let n = c.solve_lp.new.steps - c.args.steps.now in
+    long_prices n c.in-Best.point c.in-Best.prices (omega arith) best (sym c.in_ok-cert-in-Best.ensures.exact ∙ c.in-None.is)
 
 pub returns-in-Empty-clause-relaxed : goal.returns-in-Empty-clause-relaxed
 returns-in-Empty-clause-relaxed g c =
     let empty = rw c.in-Empty.is at c.in_ok-point.ensures.answer in
-    long_ray (c.solve_lp.new.steps - c.args.steps.now) c.in-Empty.ray (omega arith) empty (sym c.in_ok-cert-in-Empty.ensures.exact ∙ c.in-None-2.is)
+    let n = c.solve_lp.new.steps - c.args.steps.now in
+    long_ray n c.in-Empty.ray (omega arith) empty (sym c.in_ok-cert-in-Empty.ensures.exact ∙ c.in-None-2.is)
 
 pub returns-clause-relaxed : goal.returns-clause-relaxed
 returns-clause-relaxed g c =

@@ -7,8 +7,8 @@ use Rattle.branching.specs.declared.nodes.Visit.TheVariants.{Open}
 use Rattle.branching.specs.Internal.Search.{IsVisited}
 use Rattle.branching.specs.Counts.{stopped_in, stops}
 use Rattle.branching.specs.OpenTrees.{plain_open}
-use Rattle.branching.proofs.SearchLaws.{below_search, above_search, grown_from, halves_grown, halves_counted, first_grown,
-    first_half_counted, no_stop}
+use Rattle.branching.proofs.SearchLaws.{below_search, above_search, grown_from, halves_grown, halves_counted, first_grown}
+use Rattle.branching.proofs.SearchLaws.{first_half_counted, no_stop}
 use Rattle.branching.proofs.search.+grow.Given.{Over}
 use Rattle.branching.proofs.search.+grow.Goals as goal
 use Rattle.branching.proofs.search.+grow.Goals.{In-Open, After-cut_below, After-set, After-cut_above}
@@ -49,12 +49,25 @@ grow-requires g t c κs within =
     let v = visited g t (goal.at.grow-requires g t c).In-Open in
     let cut = is_below g t (goal.at.grow-requires g t c).After-cut_below in
     let deep = c.decreases in
-    let count = c.in_ok-cert.ensures.nodes in
+    let count = c.in_ok-cert.ensures.search.nodes in
     let falls : c.args.limits.depth - (c.args.depth + 1) < t = omega (arith, v.1) in
-    let area = below_search m c.args.limits.pivots b c.in-Open.col c.in-Open.at c.in-Open.why v.0 c.requires.area in
-    let sound = c.in_ok-cert.ensures.sound in
-    let room = c.in_ok-cert.ensures.room ∙ c.requires.room in
-    (falls, (within, (c.requires.limits, (c.requires.uncrossed, (rw cut area, (omega (arith, v.1), (omega (arith, v.2), (sound, room))))))))
+    let area = below_search m c.args.limits.pivots b c.in-Open.col c.in-Open.at c.in-Open.why v.0 c.requires.node.area in
+    let sound = c.in_ok-cert.ensures.search.sound in
+    let room = c.in_ok-cert.ensures.search.room ∙ c.requires.node.room in (
+      falls,
+      (
+        within,
+        record {
+          limits = c.requires.node.limits;
+          uncrossed = c.requires.node.uncrossed;
+          area = rw cut area;
+          depth = omega (arith, v.1);
+          nodes = omega (arith, v.2);
+          sound = sound;
+          room = room;
+        },
+      ),
+    )
 
 pub grow-requires-in-Open : goal.grow-requires-in-Open
 grow-requires-in-Open g t c κs within =
@@ -64,11 +77,24 @@ grow-requires-in-Open g t c κs within =
     let cut = is_above g t (goal.at.grow-requires-in-Open g t c).After-cut_above in
     let deep = c.decreases in
     let falls : c.args.limits.depth - (c.args.depth + 1) < t = omega (arith, v.1) in
-    let area = above_search m c.args.limits.pivots b c.in-Open.col c.in-Open.at c.in-Open.why v.0 c.requires.area in
+    let area = above_search m c.args.limits.pivots b c.in-Open.col c.in-Open.at c.in-Open.why v.0 c.requires.node.area in
     let first = c.in_ok-left-in-Open.ensures.grown in
     let nodes = first.places.room in
-    let room = c.in_ok-left-in-Open.ensures.room in
-    (falls, (within, (c.requires.limits, (c.requires.uncrossed, (rw cut area, (omega (arith, v.1), (nodes, (first.sound, room))))))))
+    let room = c.in_ok-left-in-Open.ensures.room in (
+      falls,
+      (
+        within,
+        record {
+          limits = c.requires.node.limits;
+          uncrossed = c.requires.node.uncrossed;
+          area = rw cut area;
+          depth = omega (arith, v.1);
+          nodes = nodes;
+          sound = first.sound;
+          room = room;
+        },
+      ),
+    )
 
 pub returns-then-is_some-clause-grown : goal.returns-then-is_some-clause-grown
 returns-then-is_some-clause-grown g t c =
@@ -84,11 +110,11 @@ returns-then-is_some-clause-grown g t c =
     let v = visited g t (goal.at.returns-then-is_some-clause-grown g t c).In-Open in
     let back = same_number g t (goal.at.returns-then-is_some-clause-grown g t c).In-Open in
     let cut = is_below g t (goal.at.returns-then-is_some-clause-grown g t c).After-cut_below in
-    let first = rw (cut, c.in_ok-cert.ensures.nodes) at c.in_ok-left-in-Open.ensures.grown in
+    let first = rw (cut, c.in_ok-cert.ensures.search.nodes) at c.in_ok-left-in-Open.ensures.grown in
     let whole = first_grown m l d b c.in-Open.col c.in-Open.at c.in-Open.why before after x y (plain_open left.tree) left.stop v.1
     (sym c.if-is_some.ensures) v.0 first in
     rw (c.in_ok-tree-in-Open.ensures, back)
-    (grown_from m l d b before after c.args.search.now.found x y _ left.stop c.in_ok-cert.ensures.improves whole)
+    (grown_from m l d b before after c.args.search.now.found x y _ left.stop c.in_ok-cert.ensures.search.improves whole)
 
 pub returns-in_ok-tree-in-Open-2-clause-grown : goal.returns-in_ok-tree-in-Open-2-clause-grown
 returns-in_ok-tree-in-Open-2-clause-grown g t c =
@@ -110,12 +136,12 @@ returns-in_ok-tree-in-Open-2-clause-grown g t c =
     let cut = is_below g t (goal.at.returns-in_ok-tree-in-Open-2-clause-grown g t c).After-cut_below in
     let other_cut = is_above g t (goal.at.returns-in_ok-tree-in-Open-2-clause-grown g t c).After-cut_above in
     let none = no_stop c.in_ok-left-in-Open.left.stop c.if-is_some.ensures in
-    let first = rw (cut, c.in_ok-cert.ensures.nodes, none) at c.in_ok-left-in-Open.ensures.grown in
+    let first = rw (cut, c.in_ok-cert.ensures.search.nodes, none) at c.in_ok-left-in-Open.ensures.grown in
     let second = rw other_cut at c.in_ok-right-in-Open.ensures.grown in
-    let whole = halves_grown m l d b c.in-Open.col c.in-Open.at c.in-Open.why before mid after x y z left right stop c.requires.depth v.0
+    let whole = halves_grown m l d b c.in-Open.col c.in-Open.at c.in-Open.why before mid after x y z left right stop c.requires.node.depth v.0
     first second in
     rw (c.in_ok-tree-in-Open-2.ensures, back)
-    (grown_from m l d b before after c.args.search.now.found x z _ stop c.in_ok-cert.ensures.improves whole)
+    (grown_from m l d b before after c.args.search.now.found x z _ stop c.in_ok-cert.ensures.search.improves whole)
 
 pub returns-then-is_some-clause-restored : goal.returns-then-is_some-clause-restored
 returns-then-is_some-clause-restored g t c = is_put_back g t (goal.at.returns-then-is_some-clause-restored g t c).After-set

@@ -1,3 +1,4 @@
+use Rattle.std.proofs.Common.{arith, rules}
 use Rattle.std.proofs.lemmas.Result.{IfOk-weaker}
 use Rattle.branching.specs.Outcomes.{HasOneStuck, IsRightOutcome}
 use Rattle.branching.specs.Counts.{nodes_of, stopped_of, IsCounted}
@@ -8,8 +9,19 @@ use Rattle.branching.proofs.SearchLaws.{answer_has_none, end_is_right, stop_is_r
 use Rattle.branching.proofs.LeafLaws.{whole_area}
 use Rattle.branching.proofs.search.search_box.Goals as goal
 
-pub grow-requires-clause-area : goal.grow-requires-clause-area
-grow-requires-clause-area g c = rw c.in_ok-area.ensures.sides (whole_area c.args.model.now c.in_ok-area.ensures.limits)
+pub grow-requires : goal.grow-requires
+grow-requires g c =
+    record {
+      node = record {
+        limits = c.in_ok-area.ensures.limits;
+        uncrossed = c.requires.uncrossed;
+        area = rw c.in_ok-area.ensures.sides (whole_area c.args.model.now c.in_ok-area.ensures.limits);
+        depth = omega arith;
+        nodes = omega arith;
+        sound = tt;
+        room = search rules;
+      };
+    }
 
 pub returns-in-None-clause-right : goal.returns-in-None-clause-right
 returns-in-None-clause-right g c =

@@ -18,7 +18,8 @@ pub returns-in-Ok-None-clause-next : goal.returns-in-Ok-None-clause-next
 unfolding next
 returns-in-Ok-None-clause-next c =
     let T = c.args.tableau.now in
-    subst (λ (z : Next). IfOk c.improve.result (λ n. n ≡ z)) (ap (by_infeasible T) (sym c.in-Ok-None.field-0-is ∙ c.in-Ok-None.ensures.infeasible))
+    subst (λ (z : Next). IfOk c.improve.result (λ n. n ≡ z)) (ap (by_infeasible T) (sym c.in-Ok-None.field-0-is
+    ∙ c.in-Ok-None.ensures.infeasible))
     c.improve.ensures.next
 
 pub returns-in-Err-clause-wide : goal.returns-in-Err-clause-wide

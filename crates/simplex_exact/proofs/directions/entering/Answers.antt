@@ -9,7 +9,8 @@ returns-in-Ok-Some-clause-first c =
     let v = c.loop-var.var in
     let advance : Bool → ℕ × Bool = λ up. (v, up) in
     let inside : v < length T.variables = omega arith in
-    let found : lowering T v ≡ Some (advance c.in-Ok-Some.up) = ap (option_map advance) (sym c.in-Ok-Some.ensures.direction ∙ c.in-Ok-Some.field-0-is) in
+    let found : lowering T v ≡ Some (advance c.in-Ok-Some.up) = ap (option_map advance) (sym c.in-Ok-Some.ensures.direction
+    ∙ c.in-Ok-Some.field-0-is) in
     sym (first_here (lowering T) (length T.variables) v (advance c.in-Ok-Some.up) c.loop-var.invariant found inside)
 
 pub returns-in-Err-clause-wide : goal.returns-in-Err-clause-wide

@@ -58,14 +58,16 @@ returns-in-Err-clause-answer g c =
     subst (IsWideAfter c.args.model.now c.args.area.now) rose
     (wide_number c.loop-next.tableau c.loop-next.invariant.reached c.in-Err.ensures.wide)
 
-pub read-requires-clause-count : goal.read-requires-clause-count
-read-requires-clause-count g c =
+pub read-requires-clause-sizes : goal.read-requires-clause-sizes
+read-requires-clause-sizes g c =
     let size = c.loop-next.invariant.node.stands.size in
+    let few_columns = c.parts-parts.ensures.limits.column_count in
+    let few_rows = c.parts-parts.ensures.limits.row_count in
     let rows = ap (λ (xs : List Row). length xs) c.as_slice-2.ensures in
     let columns = ap (λ (xs : List Column). length xs) c.as_slice.ensures in
     let own_rows = ap (λ (m : Parts). length m.rows) c.parts-parts.ensures.parts in
     let own_columns = ap (λ (m : Parts). length m.columns) c.parts-parts.ensures.parts in
-    omega arith
+    record { small = omega arith; count = omega arith }
 
 pub read-requires-clause-step : goal.read-requires-clause-step
 read-requires-clause-step g c =
@@ -120,7 +122,8 @@ loop-next-preserved g c =
       steps = omega (arith, c.in-Ok-take.ensures.steps);
       reached = reached;
       node = node;
-      basic_rows = ap length (written_back c.loop-next.basic_rows.len c.choose.new.basic_rows c.loop-next.basic_rows.items (omega arith)) ∙ omega arith;
+      basic_rows = ap length (written_back c.loop-next.basic_rows.len c.choose.new.basic_rows c.loop-next.basic_rows.items (omega arith))
+          ∙ omega arith;
       values = ap length (written_back c.loop-next.values.len c.choose.new.values c.loop-next.values.items (omega arith)) ∙ omega arith;
     }
 

@@ -19,7 +19,8 @@ new-requires-clause-table c =
     let positions = c.in_ok-positions.ensures
     ∙ ap (λ n. listed (n + length c.as_slice-count.result.now) (λ v. if nat_lt v n then Low else Basic)) columns
     ∙ ap (λ n. listed (length m.columns + n) (λ v. if nat_lt v (length m.columns) then Low else Basic)) rows in
-    rw (c.in_ok-rows.ensures, basics, positions, c.in_ok-variables.ensures) (start-table m c.args.area.now c.requires.limits c.requires.size)
+    rw (c.in_ok-rows.ensures, basics, positions, c.in_ok-variables.ensures)
+    (start-table m c.args.area.now c.requires.limits c.requires.size)
 
 pub new-requires-clause-spare : goal.new-requires-clause-spare
 new-requires-clause-spare c =

@@ -115,7 +115,8 @@ row_within i r h =
     (option_map_or (exceeds (2 ^ 62)) r.low false || option_map_or (exceeds (2 ^ 62)) r.high false) Whats.Side i) (le-ltb 255
     (length r.name) h.name)
     ∙ ap (λ t. limit_at t Whats.Coef i ++ limit_at
-    (option_map_or (exceeds (2 ^ 62)) r.low false || option_map_or (exceeds (2 ^ 62)) r.high false) Whats.Side i) (all_small r.coefs h.coefs)
+    (option_map_or (exceeds (2 ^ 62)) r.low false
+    || option_map_or (exceeds (2 ^ 62)) r.high false) Whats.Side i) (all_small r.coefs h.coefs)
     ∙ ap (λ t. limit_at (t || option_map_or (exceeds (2 ^ 62)) r.high false) Whats.Side i) (side_small r.low h.low)
     ∙ ap (λ t. limit_at t Whats.Side i) (side_small r.high h.high)
 

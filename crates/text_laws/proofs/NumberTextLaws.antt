@@ -15,7 +15,8 @@ use Rattle.std.proofs.Math.Nat.{div-le_self, mul-le-mul_left}
 use Rattle.std.proofs.lemmas.Int.{ints}
 use Rattle.decimals.proofs.DecimalLaws.{least_units, units-none}
 use Rattle.decimals.proofs.NumberLaws.{value_from-append, none_after, tens_rise}
-use Rattle.text_laws.proofs.NumeralLaws.{digit_range, decimal_digits, decimal_value, decimal_some, places_digits, places_short, places_none}
+use Rattle.text_laws.proofs.NumeralLaws.{digit_range, decimal_digits, decimal_value, decimal_some, places_digits, places_short}
+use Rattle.text_laws.proofs.NumeralLaws.{places_none}
 use Rattle.text_laws.proofs.NumeralLaws.{none_among, no_point, no_mark, no_sign, all_before, before_it, after_it}
 use Rattle.text_laws.proofs.ScaleLaws.{places_value, zeros_dropped, units_back}
 use Rattle.mps_defs.specs.Numbers.{is_digit, is_point, is_exponent_mark, is_numeral, is_number, is_infinity, is_minus, without_sign}
@@ -266,7 +267,8 @@ signed_size negative text n k h most without minus short =
     let read = read_body negative text (unsigned_text n k) without minus short plain.finite numeral in (
       read.0,
       read.1
-          ∙ ap Some (fraction_is negative (decimal (n / 10 ^ k)) (places k (n % 10 ^ k)) (unsigned_text n k) b ∙ size_number negative n k h),
+          ∙ ap Some (fraction_is negative (decimal (n / 10 ^ k)) (places k (n % 10 ^ k)) (unsigned_text n k) b
+          ∙ size_number negative n k h),
     )
 
 abbrev pub is_below_zero : ℤ → Bool

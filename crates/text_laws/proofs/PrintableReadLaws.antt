@@ -18,7 +18,8 @@ use Rattle.ip_defs.proofs.BoolLaws.{left_false, right_false, left_true}
 use Rattle.ip_defs.proofs.ListLaws.{each_weaker, each_numbered, none_append, none_when}
 use Rattle.ip_defs.proofs.TextLaws.{text_turned}
 use Rattle.mps_defs.specs.Lists.{is_among, with_earlier, through_first}
-use Rattle.mps_defs.specs.Records.{Line, is_line_end, is_blank, without_return, fields_of, is_read, numbered, is_end_line, line_of, lines_of}
+use Rattle.mps_defs.specs.Records.{Line, is_line_end, is_blank, without_return, fields_of, is_read, numbered, is_end_line, line_of}
+use Rattle.mps_defs.specs.Records.{lines_of}
 use Rattle.mps_defs.specs.Records.{field, items_of, words_of, row_kind, row_name, row_lines, row_names, is_free, objective, column_name}
 use Rattle.mps_defs.specs.Records.{column_names, first_lines, is_new_column}
 use Rattle.mps_defs.specs.CanonicalText.{is_separator, is_printable_name, is_printable}

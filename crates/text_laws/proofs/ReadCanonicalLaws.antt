@@ -127,7 +127,8 @@ text_names text how h = record {
       (each_of_map (λ (x : Column). is_utf8 x.name ≡ true) (read_column how ls) (column_names ls) names) at;
   rows = λ i r at. each_get (λ (x : Row). is_utf8 x.name ≡ true) (map (read_row how ls) (bound_lines ls)) i r
       (each_of_map (λ (x : Row). is_utf8 x.name ≡ true) (read_row how ls) (bound_lines ls)
-      (each_weaker IsTextLine (λ l. is_utf8 (row_name l) ≡ true) (bound_lines ls) (λ l f. is_utf8-from_IsUtf8 (row_name l) (field_utf8 l 1 f))
+      (each_weaker IsTextLine (λ l. is_utf8 (row_name l)
+      ≡ true) (bound_lines ls) (λ l f. is_utf8-from_IsUtf8 (row_name l) (field_utf8 l 1 f))
       (each_filter IsTextLine (λ l. not (is_free l)) (row_lines ls) rows))) at;
 }
   where
@@ -153,10 +154,12 @@ models_canonical text how digits none printable = record {
   printable = printable;
   limits = limits;
   texts = text_names text how h;
-  columns = subst AreDistinct (sym (names_back (λ (c : Column). c.name) (read_column how ls) (λ n. refl) (column_names ls))) (columns_distinct ls);
+  columns = subst AreDistinct (sym (names_back (λ (c : Column). c.name) (read_column how ls) (λ n. refl) (column_names ls)))
+      (columns_distinct ls);
   rows = subst AreDistinct
       (ap (λ o. row_name l ∷ o) (sym (rows_back how ls (bound_lines ls)))
-      ∙ ap (λ o. unwrap_or (option_map row_name o) [] ∷ map (λ (r : Row). r.name) (map (read_row how ls) (bound_lines ls))) (sym at)) (row_names_distinct ls l
+      ∙ ap (λ o. unwrap_or (option_map row_name o) [] ∷ map (λ (r : Row). r.name) (map (read_row how ls) (bound_lines ls))) (sym at))
+      (row_names_distinct ls l
       (sound_read text h.lines) at);
   digits = digits;
   decimals = record {

@@ -15,7 +15,7 @@ use Rattle.mps_defs.specs.Faults.{line_faults, row_faults}
 use Rattle.mps_defs.specs.declared.reading.MpsError.TheVariants.{SectionOrder, FieldCount, RowKind, TwiceRow, Marker}
 use Rattle.text_laws.proofs.ListLaws.{each_both, each_flat}
 use Rattle.text_laws.proofs.SectionLaws.{new_names, names_of, names_are}
-use Rattle.text_laws.proofs.EachLaws.{each_filter, each_passes}
+use Rattle.text_laws.proofs.EachLaws.{each_filter, each_kept}
 use Rattle.text_laws.proofs.SoundLaws.{IsSound, sound_line, sound_next}
 use Rattle.text_laws.proofs.KeptReadLaws.{by_parts}
 use Rattle.ip_defs.proofs.BoolLaws.{both_true, left_false, right_false, either_true}
@@ -235,7 +235,7 @@ entries_owned ls =
     let own = each_both (λ l. (l.is_item && bytes_eq l.section (codes "COLUMNS")) ≡ true)
     (λ l. is_marker l ≡ false → is_among (column_name l) (columns_among items) ≡ true)
     (λ l. Each (λ e. is_among e.owner names ≡ true) (entries_of l)) items
-    (each_passes (λ l. l.is_item && bytes_eq l.section (codes "COLUMNS")) ls) (lines_among items)
+    (each_kept (λ l. l.is_item && bytes_eq l.section (codes "COLUMNS")) ls) (lines_among items)
     (λ l item h. line_owned names l item (λ e. names_among (column_name l) ls ∙ h e)) in
     each_filter (λ e. is_among e.owner names ≡ true) (is_kept (codes "COLUMNS") ls) (all_entries (codes "COLUMNS") ls)
     (each_flat (λ l. Each (λ e. is_among e.owner names ≡ true) (entries_of l)) (λ e. is_among e.owner names ≡ true) entries_of items own

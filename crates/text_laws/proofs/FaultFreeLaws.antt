@@ -126,7 +126,7 @@ none_numbered f n [] h = refl
 none_numbered f n (x ∷ xs) h =
     ap (λ k. k ++ flat_map f (enumerate_from (n + 1) xs)) (h 0 n x refl) ∙ none_numbered f (n + 1) xs (λ i j y at. h (suc i) j y at)
 
--- a program within its limits passes none
+-- a program within its limits exceeds none
 pub no_limits : (m : Parts) → IsWithinLimits m → limits_of m ≡ []
 no_limits m h =
     let columns = flat_map column_limits (enumerate_from 0 m.columns) in

@@ -119,7 +119,7 @@ begins_low d ds e =
     lower : (c : ℕ) → c < 65 → to_ascii_lowercase c ≡ c
     lower c h = ap (λ t. cond t c (cond (nat_lt c 91) (c + 32) c)) (lt-ltb c 65 h)
 
--- ---- the text of a size
+-- ---- the text of an absolute value
 
 size_is : (n k : ℕ) → unsigned_text n k ≡ joined (decimal (n / 10 ^ k)) (places k (n % 10 ^ k))
 size_is n k = by (n % 10 ^ k == 0) refl
@@ -192,7 +192,7 @@ small_number negative n k l = by (nat_le (10 ^ (20 + k)) n) refl
     by true e = absurd (let above = leb-true (10 ^ (20 + k)) n e in omega arith)
     by false e = refl
 
--- the digits of a size stand for it
+-- the digits of an absolute value write it
 size_number : (negative : Bool) (n k : ℕ) → n < 2 ^ 64
     → number_from negative (value_from 0 (decimal (n / 10 ^ k) ++ places k (n % 10 ^ k))) (length (places k (n % 10 ^ k)))
     ≡ least_number negative n k

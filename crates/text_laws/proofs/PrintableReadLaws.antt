@@ -28,7 +28,7 @@ use Rattle.mps_defs.specs.declared.reading.How.{How}
 use Rattle.mps_defs.specs.declared.reading.MpsError.TheVariants.{SectionOrder, FieldCount, RowKind, TwiceRow, Marker}
 use Rattle.mps_defs.proofs.UncrossedLaws.{no_row_crossed}
 use Rattle.text_laws.specs.ReadBack.{has_return, program_names, column_names_of, ModelsReadArePrintable}
-use Rattle.text_laws.proofs.EachLaws.{each_filter, each_passes, each_of_map, each_through, each_those}
+use Rattle.text_laws.proofs.EachLaws.{each_filter, each_kept, each_of_map, each_through, each_those}
 use Rattle.text_laws.proofs.DistinctReadLaws.{row_line}
 use Rattle.text_laws.proofs.ListLaws.{each_both}
 use Rattle.text_laws.proofs.ReadCanonicalLaws.{IsFaultless, bound_lines, faultless, find_each, read_column, read_row}
@@ -96,7 +96,7 @@ IsCut f = (list_any is_blank f ≡ false) × (list_any is_line_end f ≡ false)
 fields_cut : (line : List ℕ) → list_any is_line_end line ≡ false → Each IsField (fields_of line)
 fields_cut line none =
     each_both (λ f. nat_le 1 (length f) ≡ true) IsCut IsField (fields_of line)
-    (each_passes (λ f. nat_le 1 (length f)) (slice_split is_blank line))
+    (each_kept (λ f. nat_le 1 (length f)) (slice_split is_blank line))
     (each_filter IsCut (λ f. nat_le 1 (length f)) (slice_split is_blank line)
     (each_both (λ f. list_any is_blank f ≡ false) (λ f. list_any is_line_end f ≡ false) IsCut (slice_split is_blank line)
     (parts_without is_blank is_blank line (each_cut is_blank line))
@@ -129,7 +129,7 @@ lines_cut text =
 
     kept : Each (λ p. IsCutText p.1) (numbered text)
     kept = each_both (λ p. is_read p ≡ true) (λ p. list_any is_line_end p.1 ≡ false) (λ p. IsCutText p.1) (numbered text)
-        (each_passes is_read (enumerate_from 1 (map without_return raw)))
+        (each_kept is_read (enumerate_from 1 (map without_return raw)))
         (each_filter (λ p. list_any is_line_end p.1 ≡ false) is_read (enumerate_from 1 (map without_return raw))
         (each_numbered (λ line. list_any is_line_end line ≡ false) 1 (map without_return raw) plain))
         (λ p e none. record { some = left_true (nat_le 1 (length (fields_of p.1))) _ e; all = fields_cut p.1 none })

@@ -16,7 +16,7 @@ use Rattle.mps_defs.specs.Faults.{mps_fault, model_of}
 use Rattle.ip_defs.specs.declared.programs.Column.{Column}
 use Rattle.ip_defs.specs.declared.programs.Row.{Row}
 use Rattle.ip_defs.specs.declared.programs.Parts.{Parts}
-use Rattle.ip_defs.specs.declared.limits.Limit as Passing
+use Rattle.ip_defs.specs.declared.limits.Limit as Exceeded
 use Rattle.mps_defs.specs.declared.reading.How.{How}
 use Rattle.mps_defs.specs.declared.reading.MpsError.TheVariants.{NoEnd, NoObjective, NotUtf8, Limit}
 use Rattle.ip_model.proofs.LimitLaws.{within_limits}
@@ -43,7 +43,7 @@ pub record IsFaultless (text : List ℕ) (how : How) : Type 0 where
 no_limits : (m : Parts) → limit_faults m ≡ [] → limits_of m ≡ []
 no_limits m e = by (limits_of m) e
   where
-    by : (ls : List Passing.Limit) → map Limit ls ≡ [] → ls ≡ []
+    by : (ls : List Exceeded.Limit) → map Limit ls ≡ [] → ls ≡ []
     by [] f = refl
     by (l ∷ ls) f = absurd cc
 

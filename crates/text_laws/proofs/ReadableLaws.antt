@@ -107,10 +107,11 @@ pub all_from : {A : Type 0} (P : A → Type 0) (xs : List A) → ((i : ℕ) (x :
 all_from P [] h = tt
 all_from P (x ∷ xs) h = (h 0 x refl, all_from P xs (λ i y e. h (suc i) y e))
 
-listed : {A : Type 0} (test : A → Bool) (xs : List A) → list_all test xs ≡ true → (i : ℕ) (x : A) → slice_get xs i ≡ Some x → test x ≡ true
-listed test [] e i x at = absurd cc
-listed test (y ∷ ys) e zero x at = let same : y ≡ x = cc in ap test (sym same) ∙ (both_true (test y) (list_all test ys) e).0
-listed test (y ∷ ys) e (suc i) x at = listed test ys (both_true (test y) (list_all test ys) e).1 i x at
+each_tested : {A : Type 0} (test : A → Bool) (xs : List A) → list_all test xs ≡ true → (i : ℕ) (x : A) → slice_get xs i ≡ Some x
+    → test x ≡ true
+each_tested test [] e i x at = absurd cc
+each_tested test (y ∷ ys) e zero x at = let same : y ≡ x = cc in ap test (sym same) ∙ (both_true (test y) (list_all test ys) e).0
+each_tested test (y ∷ ys) e (suc i) x at = each_tested test ys (both_true (test y) (list_all test ys) e).1 i x at
 
 small_coefs : (ps : List (ℕ × ℤ)) → AreSmall (2 ^ 40) ps → Each (λ p. unsigned_abs p.1 < 2 ^ 64) ps
 small_coefs [] h = tt
@@ -131,7 +132,7 @@ program_text m e w =
       constant = let l = w.constant in omega arith;
       columns = all_from IsColumnText m.columns
           (λ i c at. let l = w.columns i c at in record {
-            name = listed (λ x. is_printable_name x.name) m.columns second.1 i c at;
+            name = each_tested (λ x. is_printable_name x.name) m.columns second.1 i c at;
             cost = omega
                 (arith, l.cost);
             lo = omega (arith, l.lo);
@@ -139,7 +140,7 @@ program_text m e w =
           });
       rows = all_from IsRowText m.rows
           (λ i r at. let l = w.rows i r at in record {
-            name = listed (λ x. is_printable_name x.name) m.rows first.1 i r at;
+            name = each_tested (λ x. is_printable_name x.name) m.rows first.1 i r at;
             decimals =
                 (w.shape.rows i r at).decimals;
             coefs = small_coefs r.coefs l.coefs;

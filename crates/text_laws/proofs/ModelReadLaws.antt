@@ -23,7 +23,8 @@ use Rattle.ip_defs.specs.declared.programs.Parts.{Parts}
 use Rattle.text_laws.specs.ReadBack.{needed_decimals, range_of, IsCanonical}
 use Rattle.text_laws.proofs.NumberTextLaws.{decimal_text_units}
 use Rattle.text_laws.proofs.CanonicalLaws.{program_lines}
-use Rattle.text_laws.proofs.ReadableLaws.{IsProgramText, IsRowText, IsColumnText, program_text, canonical_lines_read, right_side_small}
+use Rattle.text_laws.proofs.ReadableLaws.{IsProgramText, IsRowText, IsColumnText, printable_parts, program_text, canonical_lines_read}
+use Rattle.text_laws.proofs.ReadableLaws.{right_side_small}
 use Rattle.text_laws.proofs.EntryReadLaws.{bare, listed, bare_at, bare_for, bare_decimals, for_append, decimals_append, listed_append}
 use Rattle.text_laws.proofs.EntryReadLaws.{written_at_bare, written_for_bare, decimals_bare}
 use Rattle.text_laws.proofs.RecordReadLaws.{IsApart, objective_read, rows_read, columns_kept, right_sides_kept, ranges_kept}
@@ -52,16 +53,6 @@ each_apart m (r ∷ rs) e = (
   each_apart m rs
       (right_false (bytes_eq m.objective r.name) (is_among m.objective (map (λ k. k.name) rs)) e),
 )
-
-none_crossed : (m : Parts) → is_printable m ≡ true → list_any is_crossed m.rows ≡ false
-none_crossed m e =
-    let first =
-    both_true (not (list_any is_crossed m.rows) && is_printable_name m.objective && list_all (λ c. is_printable_name c.name) m.columns)
-    (list_all (λ r. is_printable_name r.name) m.rows) e in
-    let second =
-    both_true (not (list_any is_crossed m.rows) && is_printable_name m.objective)
-    (list_all (λ c. is_printable_name c.name) m.columns) first.0 in
-    not-true (list_any is_crossed m.rows) (both_true (not (list_any is_crossed m.rows)) (is_printable_name m.objective) second.0).0
 
 map_back : {A : Type 0} (f : A → List ℕ) (g : List ℕ → A) (xs : List A) → ((i : ℕ) (x : A) → slice_get xs i ≡ Some x → g (f x) ≡ x)
     → map g (map f xs) ≡ xs
@@ -242,7 +233,7 @@ row_sides_read m how h i r at =
     ap (λ o. row_sides (kind_text r) r.decimals (unwrap_or o no_number)
     (written_for (kept_entries (codes "RANGES") (program_lines m)) r.name)) right
     ∙ ap (λ o. row_sides (kind_text r) r.decimals (unwrap_or (bare_for (rhs_bare r) r.name) no_number) o) range
-    ∙ sides_read r row (fails_at is_crossed m.rows i r (none_crossed m h.printable) at)
+    ∙ sides_read r row (fails_at is_crossed m.rows i r (printable_parts m h.printable).uncrossed at)
 
 pub row_read : (m : Parts) (how : How) → IsCanonical m how → (i : ℕ) (r : Row) → slice_get m.rows i ≡ Some r
     → row_from (program_lines m) how (kind_text r) r.name ≡ r

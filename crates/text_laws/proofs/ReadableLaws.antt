@@ -31,6 +31,7 @@ use Rattle.text_laws.proofs.SectionLaws.{Sections, AreSections, AreItems, sectio
 use Rattle.text_laws.proofs.SectionLaws.{after_right_sides, after_ranges, after_bounds}
 use Rattle.text_laws.proofs.CanonicalLaws.{sections_of, canonical_sections, are_sections}
 use Rattle.ip_defs.proofs.BoolLaws.{both_true}
+use Rattle.std.proofs.lemmas.Bool.{not-true}
 use Rattle.ip_defs.proofs.ListLaws.{each_numbered}
 use Rattle.mps_defs.proofs.NumberLaws.{ten_positive}
 
@@ -117,8 +118,15 @@ small_coefs : (ps : List (ℕ × ℤ)) → AreSmall (2 ^ 40) ps → Each (λ p. 
 small_coefs [] h = tt
 small_coefs (p ∷ ps) h = (let here = h 0 (omega arith) in omega arith, small_coefs ps (λ i l. h (suc i) (omega arith)))
 
-pub program_text : (m : Parts) → is_printable m ≡ true → IsWithinLimits m → IsProgramText m
-program_text m e w =
+-- what it says of a program that it is printable
+pub record ArePrintable (m : Parts) : Type 0 where
+  pub uncrossed : list_any is_crossed m.rows ≡ false
+  pub objective : is_printable_name m.objective ≡ true
+  pub columns : list_all (λ c. is_printable_name c.name) m.columns ≡ true
+  pub rows : list_all (λ r. is_printable_name r.name) m.rows ≡ true
+
+pub printable_parts : (m : Parts) → is_printable m ≡ true → ArePrintable m
+printable_parts m e =
     let first =
     both_true (not (list_any is_crossed m.rows) && is_printable_name m.objective && list_all (λ c. is_printable_name c.name) m.columns)
     (list_all (λ r. is_printable_name r.name) m.rows) e in
@@ -127,12 +135,22 @@ program_text m e w =
     (list_all (λ c. is_printable_name c.name) m.columns) first.0 in
     let third = both_true (not (list_any is_crossed m.rows)) (is_printable_name m.objective) second.0 in
     record {
+      uncrossed = not-true (list_any is_crossed m.rows) third.0;
       objective = third.1;
+      columns = second.1;
+      rows = first.1;
+    }
+
+pub program_text : (m : Parts) → is_printable m ≡ true → IsWithinLimits m → IsProgramText m
+program_text m e w =
+    let parts = printable_parts m e in
+    record {
+      objective = parts.objective;
       decimals = w.shape.decimals;
       constant = let l = w.constant in omega arith;
       columns = all_from IsColumnText m.columns
           (λ i c at. let l = w.columns i c at in record {
-            name = each_tested (λ x. is_printable_name x.name) m.columns second.1 i c at;
+            name = each_tested (λ x. is_printable_name x.name) m.columns parts.columns i c at;
             cost = omega
                 (arith, l.cost);
             lo = omega (arith, l.lo);
@@ -140,7 +158,7 @@ program_text m e w =
           });
       rows = all_from IsRowText m.rows
           (λ i r at. let l = w.rows i r at in record {
-            name = each_tested (λ x. is_printable_name x.name) m.rows first.1 i r at;
+            name = each_tested (λ x. is_printable_name x.name) m.rows parts.rows i r at;
             decimals =
                 (w.shape.rows i r at).decimals;
             coefs = small_coefs r.coefs l.coefs;

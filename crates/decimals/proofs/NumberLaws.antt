@@ -54,17 +54,20 @@ digit_room s v i n d h l small =
     (omega arith, mul-le-mul_left (s + 1) (tens_rise (i + 1) n (omega arith)))
 
 -- the digits of a remainder, one place at a time
-pub places_step : (k remainder : ℕ) → (remainder ≡ 0 → ⊥) → places (suc k) remainder ≡ (48 + remainder / 10 ^ k) ∷ places k (remainder % 10 ^ k)
+pub places_step : (k remainder : ℕ) → (remainder ≡ 0 → ⊥)
+    → places (suc k) remainder ≡ (48 + remainder / 10 ^ k) ∷ places k (remainder % 10 ^ k)
 places_step k remainder some = by (remainder == 0) refl
   where
     by : (t : Bool) → (remainder == 0) ≡ t
-        → (if t then [] else (48 + remainder / 10 ^ k) ∷ places k (remainder % 10 ^ k)) ≡ (48 + remainder / 10 ^ k) ∷ places k (remainder % 10 ^ k)
+        → (if t then [] else (48 + remainder / 10 ^ k) ∷ places k (remainder % 10 ^ k))
+        ≡ (48 + remainder / 10 ^ k) ∷ places k (remainder % 10 ^ k)
     by true e = absurd (some (eqb-true remainder 0 e))
     by false e = refl
 
 -- a digit is below ten
 pub digit_below : (k remainder : ℕ) → remainder < 10 ^ (k + 1) → remainder / 10 ^ k < 10
-digit_below k remainder l = div_below remainder (10 ^ k) 10 (ten_positive k) (let e = ten_more k in let s = mul_comm (10 ^ k) 10 in omega arith)
+digit_below k remainder l =
+    div_below remainder (10 ^ k) 10 (ten_positive k) (let e = ten_more k in let s = mul_comm (10 ^ k) 10 in omega arith)
 
 -- a number below 10^left that is not 0 has a place left
 pub left_positive : (left remainder : ℕ) → (remainder ≡ 0 → ⊥) → remainder < 10 ^ left → left ≡ suc (left - 1)
@@ -179,7 +182,8 @@ more_units_fit units written wanted more below fits most is = by (nat_le written
 
 -- one more digit of a remainder is written
 pub place_written : (all before now encoded : List ℕ) (left remainder place whole below letter : ℕ) → all ≡ before ++ places left remainder
-    → (remainder ≡ 0 → ⊥) → remainder < 10 ^ left → place ≡ left - 1 → whole ≡ remainder / 10 ^ place → below ≡ remainder % 10 ^ place → letter ≡ 48 + whole
+    → (remainder ≡ 0 → ⊥) → remainder < 10 ^ left → place ≡ left - 1 → whole ≡ remainder / 10 ^ place
+    → below ≡ remainder % 10 ^ place → letter ≡ 48 + whole
     → (letter < 128 → encoded ≡ letter ∷ []) → now ≡ before ++ encoded → (all ≡ now ++ places (left - 1) below) × (below < 10 ^ (left - 1))
 place_written all before now encoded left remainder place whole below letter is some small at-place is-whole is-below is-letter ascii pushed =
     let k = left - 1 in

@@ -99,12 +99,14 @@ depth_is =
 
 pivots_is : IsOption (codes "--pivots")
 pivots_is =
-    option_is (codes "--pivots") (codes "pivots") (option_of (codes "--pivots") (codes "pivots")) refl refl refl refl refl refl refl refl refl
+    option_is (codes "--pivots") (codes "pivots") (option_of (codes "--pivots") (codes "pivots"))
+    refl refl refl refl refl refl refl refl refl
     (record { first = refl; second = refl; third = refl })
 
 digits_is : IsOption (codes "--digits")
 digits_is =
-    option_is (codes "--digits") (codes "digits") (option_of (codes "--digits") (codes "digits")) refl refl refl refl refl refl refl refl refl
+    option_is (codes "--digits") (codes "digits") (option_of (codes "--digits") (codes "digits"))
+    refl refl refl refl refl refl refl refl refl
     (record { first = refl; second = refl; third = refl })
 
 box_is : IsOption (codes "--box")

@@ -9,7 +9,8 @@ use Rattle.mps_defs.specs.Records.{Line, is_section_line, first_field, last_word
 use Rattle.mps_defs.proofs.ListLaws.{last_of-add}
 
 -- the section word after one more line
-pub last_word-add : (ps : List (ℕ × List ℕ)) (p : ℕ × List ℕ) → last_word (ps ++ p ∷ []) ≡ (if is_section_line p then first_field p else last_word ps)
+pub last_word-add : (ps : List (ℕ × List ℕ)) (p : ℕ × List ℕ)
+    → last_word (ps ++ p ∷ []) ≡ (if is_section_line p then first_field p else last_word ps)
 last_word-add ps p = ap (λ l. option_map_or first_field (last_of l) []) (filter-append is_section_line ps (p ∷ [])) ∙ by (is_section_line p)
   where
     by : (b : Bool) → option_map_or first_field (last_of (filter is_section_line ps ++ cond b (p ∷ []) [])) []

@@ -1,5 +1,6 @@
 -- The rows of a model that is read are not crossed: a range widens one side.
-use Rattle.std.specs.Prelude.{◌≡◌, ℕ, not, Bool, true, false, ◌||◌, bytes_eq, codes, List, [], ◌∷◌, map, filter, Option, Some, None, ℤ, pos}
+use Rattle.std.specs.Prelude.{◌≡◌, ℕ, not, Bool, true, false, ◌||◌, bytes_eq, codes, List, [], ◌∷◌, map, filter, Option, Some, None, ℤ}
+use Rattle.std.specs.Prelude.{pos}
 use Rattle.std.specs.Prelude.{◌+ℤ◌, ◌-ℤ◌, unsigned_abs, unwrap_or}
 use Rattle.std.specs.List.{list_any}
 use Rattle.std.specs.Option.{option_map_or}

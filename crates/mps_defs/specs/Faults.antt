@@ -12,7 +12,8 @@ use Rattle.mps_defs.specs.Numbers.{is_number, decimals_of}
 use Rattle.mps_defs.specs.Records.{Line, Entry, lines_of, field, items_of, words_of, row_kind, row_name, row_names, objective, is_marker}
 use Rattle.mps_defs.specs.Records.{in_force, column_name, column_names, has_column, entries_of, all_entries, is_kept, takes_number}
 use Rattle.mps_defs.specs.Records.{takes_none, bound_column, bound_text}
-use Rattle.mps_defs.specs.TextModels.{is_negative_number, lower_side, upper_side, lower_entry, upper_entry, is_integer, kind_is, model_from}
+use Rattle.mps_defs.specs.TextModels.{is_negative_number, lower_side, upper_side, lower_entry, upper_entry, is_integer, kind_is}
+use Rattle.mps_defs.specs.TextModels.{model_from}
 use Rattle.mps_defs.specs.TextModels.{number_or_zero}
 use Rattle.ip_defs.specs.Limits.{limits_of}
 use Rattle.mps_defs.specs.declared.reading.How.{How}

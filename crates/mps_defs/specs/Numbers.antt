@@ -74,7 +74,8 @@ is_number text = nat_le (length text) 32 && (is_infinity (without_sign text) || 
 
 -- a numeral is its digits times ten to this power
 abbrev pub power_of : List ℕ → ℤ
-power_of body = signed (is_minus (exponent_part body)) (digits_value (without_sign (exponent_part body))) -ℤ pos (length (fraction_part body))
+power_of body =
+    signed (is_minus (exponent_part body)) (digits_value (without_sign (exponent_part body))) -ℤ pos (length (fraction_part body))
 
 -- the value of n times ten to a power, as a fraction: the numerator, and the power of ten that is the denominator
 abbrev pub over_tens : ℕ → ℤ → ℕ × ℕ

@@ -1,7 +1,8 @@
 -- The text of lines, one more at a time.
-use Rattle.std.specs.Prelude.{◌≡◌, ℕ, zero, suc, ◌≤◌, List, [], ◌∷◌, ◌++◌, length, take, flat_map, Some, slice_get}
-use Rattle.std.proofs.Common.{ap, sym, ◌∙◌, append_assoc}
+use Rattle.std.specs.Prelude.{◌≡◌, ℕ, zero, suc, ◌+◌, ◌<◌, ◌≤◌, List, [], ◌∷◌, ◌++◌, length, take, flat_map, Some, slice_get, get_or}
+use Rattle.std.proofs.Common.{refl, ap, sym, ◌∙◌, append_assoc, add-one}
 use Rattle.std.proofs.lemmas.Grind.{flat_map-append}
+use Rattle.std.proofs.lemmas.Option.{slice_get_read}
 use Rattle.std.proofs.lemmas.List.{append-nil, take_all}
 use Rattle.mps_defs.specs.CanonicalText.{Written, written_text}
 use Rattle.mps_printer.specs.Internal.Sections.{lines_text}
@@ -31,6 +32,18 @@ text_more f start xs i x e =
 pub text_all : {A : Type 0} (f : A → List Written) (xs : List A) (i : ℕ) → length xs ≤ i
     → lines_text (flat_map f (take i xs)) ≡ lines_text (flat_map f xs)
 text_all f xs i h = ap (λ l. lines_text (flat_map f l)) (take_all i xs h)
+
+-- a loop that adds the lines of one element after the other: one more, and all
+pub lines_added : {A : Type 0} (f : A → List Written) (start : List ℕ) {now new : List ℕ} (xs : List A) (i : ℕ) (x : A) → i < length xs
+    → x ≡ get_or xs i x → now ≡ start ++ lines_text (flat_map f (take i xs)) → new ≡ now ++ lines_text (f x)
+    → new ≡ start ++ lines_text (flat_map f (take (i + 1) xs))
+lines_added f start xs i x inside is before more =
+    rw add-one (more ∙ ap (λ bs. bs ++ lines_text (f x)) before
+    ∙ text_more f start xs i x (slice_get_read xs (length xs) i x refl inside is))
+
+pub lines_complete : {A : Type 0} (f : A → List Written) (start : List ℕ) {now : List ℕ} (xs : List A) (i : ℕ) → length xs ≤ i
+    → now ≡ start ++ lines_text (flat_map f (take i xs)) → now ≡ start ++ lines_text (flat_map f xs)
+lines_complete f start xs i past before = before ∙ ap (λ bs. start ++ bs) (text_all f xs i past)
 
 -- lines after lines
 pub text_longer : (start : List ℕ) (xs ys : List Written) → (start ++ lines_text xs) ++ lines_text ys ≡ start ++ lines_text (xs ++ ys)

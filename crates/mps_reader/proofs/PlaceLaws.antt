@@ -1,5 +1,6 @@
 -- The places of names in a list that grows at its end.
 use Rattle.std.specs.Prelude.{◌≡◌, ℕ, zero, suc, ◌+◌, ◌-◌, false, List, [], ◌∷◌, ◌++◌, length, map, position, slice_get, None, Some}
+use Rattle.std.specs.Prelude.{Option}
 use Rattle.std.specs.Prelude.{option_map, bytes_eq, string_bytes, if◌then◌else◌, refl}
 use Rattle.std.specs.List.{list_any}
 use Rattle.std.specs.Option.{option_or, is_some}
@@ -41,6 +42,12 @@ place_of_name (k ∷ keys) name =
     position_cons (λ s. bytes_eq name (string_bytes s)) k keys
     ∙ ap (λ o. if bytes_eq name (string_bytes k) then Some 0 else option_map suc o) (place_of_name keys name)
     ∙ sym (position_cons (bytes_eq name) (string_bytes k) (map string_bytes keys))
+
+-- so does it for a name that is the same
+pub placed : (keys : List (String Global)) (name other : List ℕ) (o : Option ℕ) → other ≡ name
+    → o ≡ position (λ k. bytes_eq name (string_bytes k)) keys → position (bytes_eq other) (map string_bytes keys) ≡ o
+placed keys name other o same at =
+    ap (λ n. position (bytes_eq n) (map string_bytes keys)) same ∙ sym (place_of_name keys name) ∙ sym at
 
 -- a set of names takes a new one at its end
 pub name_added : (keys : List (String Global)) (s : String Global) (name : List ℕ) → string_bytes s ≡ name

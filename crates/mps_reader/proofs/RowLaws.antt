@@ -57,6 +57,11 @@ found_name before t name h =
     ∙ place_where_any (bytes_eq name) (map string_bytes t.names.keys)
     ∙ ap (is_among name) h.names
 
+-- so what a set of names finds says whether a name came before
+pub found_as : (before : List Line) (t : RowTable) (name : List ℕ) (o : Option ℕ) (s : Bool) → RowsStand before t
+    → o ≡ position (λ k. bytes_eq name (string_bytes k)) t.names.keys → s ≡ is_some o → is_among name (row_names before) ≡ s
+found_as before t name o s h at is = sym (found_name before t name h) ∙ ap is_some (sym at) ∙ sym is
+
 -- the first refusals
 pub twice_row : (before : List Line) (n : ℕ) (k : RowKind) (kind name : List ℕ) → kind_word k ≡ kind
     → is_among (codes "ROWS") (words_of before) ≡ true

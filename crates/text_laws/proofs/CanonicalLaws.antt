@@ -1,5 +1,6 @@
 -- The sections of a canonical text, and the lines that it is read as.
-use Rattle.std.specs.Prelude.{◌≡◌, ℕ, ◌==◌, Bool, true, false, not, if◌then◌else◌, List, [], ◌∷◌, ◌++◌, length, map, flat_map, find, Option}
+use Rattle.std.specs.Prelude.{◌≡◌, ℕ, ◌==◌, Bool, true, false, not, if◌then◌else◌, List, [], ◌∷◌, ◌++◌, length, map, flat_map, find}
+use Rattle.std.specs.Prelude.{Option}
 use Rattle.std.specs.Prelude.{None, Some, codes, ℤ, pos, neg_ℤ, ◌-ℤ◌}
 use Rattle.std.specs.List.{enumerate_from}
 use Rattle.std.specs.Option.{option_map_or}
@@ -108,7 +109,8 @@ are_sections m = record {
       (when_item (not (int_eq m.constant (pos 0))) (triple (codes "RHS") m.objective (value_text m (neg_ℤ m.constant))) refl)
       (items_flat rhs_line m.rows rhs_items);
   ranges = items_flat range_line m.rows range_items;
-  bounds = items_flat (λ c. bound_line (codes "LO") c.name c.lo ∷ bound_line (codes "UP") c.name c.hi ∷ []) m.columns (λ c. (refl, (refl, tt)));
+  bounds = items_flat (λ c. bound_line (codes "LO") c.name c.lo ∷ bound_line (codes "UP") c.name c.hi ∷ []) m.columns
+      (λ c. (refl, (refl, tt)));
 }
 
 -- the lines of the canonical text of a program

@@ -1,7 +1,9 @@
 -- The names of rows and of columns that are read of lines without a fault differ.
-use Rattle.std.specs.Prelude.{◌≡◌, ℕ, ◌==◌, Bool, true, false, ◌&&◌, ◌||◌, not, cond, if◌then◌else◌, List, [], ◌∷◌, ◌++◌, length, drop, map}
+use Rattle.std.specs.Prelude.{◌≡◌, ℕ, ◌==◌, Bool, true, false, ◌&&◌, ◌||◌, not, cond, if◌then◌else◌, List, [], ◌∷◌, ◌++◌, length, drop}
+use Rattle.std.specs.Prelude.{map}
 use Rattle.std.specs.Prelude.{filter, find, Some, bytes_eq, codes}
 use Rattle.std.proofs.Common.{refl, ap, sym, ◌∙◌, subst}
+use Rattle.std.proofs.lemmas.Bool.{not-false}
 use Rattle.std.proofs.lemmas.List.Folds.{list_any-append}
 use Rattle.std.proofs.lemmas.Slice.Eq.{bytes_eq-Decides}
 use Rattle.mps_defs.specs.Lists.{is_among, AreDistinct}
@@ -13,7 +15,7 @@ use Rattle.mps_defs.specs.Faults.{line_faults, row_faults}
 use Rattle.mps_defs.specs.declared.reading.MpsError.TheVariants.{SectionOrder, FieldCount, RowKind, TwiceRow, Marker}
 use Rattle.text_laws.proofs.ListLaws.{each_both, each_flat}
 use Rattle.text_laws.proofs.SectionLaws.{new_names, names_of, names_are}
-use Rattle.text_laws.proofs.EachLaws.{each_filter, each_passes}
+use Rattle.text_laws.proofs.EachLaws.{each_filter, each_kept}
 use Rattle.text_laws.proofs.SoundLaws.{IsSound, sound_line, sound_next}
 use Rattle.text_laws.proofs.KeptReadLaws.{by_parts}
 use Rattle.ip_defs.proofs.BoolLaws.{both_true, left_false, right_false, either_true}
@@ -80,15 +82,20 @@ distinct_more (y ∷ ys) x d e = (
   distinct_more ys x d.1 (right_false (bytes_eq x y) (is_among x ys) e),
 )
 
--- the name on a line of ROWS did not come before
-row_new : (before : List Line) (l : Line) → l.is_item ≡ true → l.section ≡ codes "ROWS" → line_faults before l ≡ []
-    → is_among (row_name l) (row_names before) ≡ false
-row_new before l item own =
-    by_parts (λ k. line_faults before k ≡ [] → is_among (row_name k) (row_names before) ≡ false) l (codes "ROWS") item own
+-- a line of ROWS has two fields, a name that did not come before, and not the word of a marker line
+pub record IsRowLine (before : List Line) (l : Line) : Type 0 where
+  pub count : (length l.fields == 2) ≡ true
+  pub new : is_among (row_name l) (row_names before) ≡ false
+  pub plain : bytes_eq (row_name l) (codes "'MARKER'") ≡ false
+
+pub row_line : (before : List Line) (l : Line) → l.is_item ≡ true → l.section ≡ codes "ROWS" → line_faults before l ≡ []
+    → IsRowLine before l
+row_line before l item own =
+    by_parts (λ k. line_faults before k ≡ [] → IsRowLine before k) l (codes "ROWS") item own
     (parts (record { number = l.number; is_item = true; section = codes "ROWS"; fields = l.fields }))
   where
     parts : (k : Line) → when (not (is_among (codes "ROWS") (words_of before))) (SectionOrder k.number) ++ row_faults before k ≡ []
-        → is_among (row_name k) (row_names before) ≡ false
+        → IsRowLine before k
     parts k none =
         let count = when (not (length k.fields == 2)) (FieldCount k.number) in
         let kind = when (not (is_among (row_kind k) (codes "N" ∷ codes "L" ∷ codes "G" ∷ codes "E" ∷ []))) (RowKind k.number) in
@@ -97,7 +104,12 @@ row_new before l item own =
         let own = none_append (when (not (is_among (codes "ROWS") (words_of before))) (SectionOrder k.number)) (row_faults before k) none in
         let last = none_append (count ++ kind ++ twice) mark own.1 in
         let third = none_append (count ++ kind) twice last.0 in
-        none_when (is_among (row_name k) (row_names before)) (TwiceRow k.number) third.1
+        let second = none_append count kind third.0 in
+        record {
+          count = not-false (length k.fields == 2) (none_when (not (length k.fields == 2)) (FieldCount k.number) second.0);
+          new = none_when (is_among (row_name k) (row_names before)) (TwiceRow k.number) third.1;
+          plain = none_when (bytes_eq (row_name k) (codes "'MARKER'")) (Marker k.number) last.1;
+        }
 
 rows_distinct : (word : List ℕ) (before ls : List Line) → IsSound word before ls → AreDistinct (row_names before)
     → AreDistinct (row_names (before ++ ls))
@@ -115,7 +127,7 @@ rows_distinct word before (l ∷ ls) sound d =
         ∙ ap (λ t. map row_name (cond t (l ∷ []) [])) f in
         subst (λ k. AreDistinct (row_names before ++ k)) (sym mine)
         (distinct_more (row_names before) (row_name l) d
-        (row_new before l e ((bytes_eq-Decides l.section (codes "ROWS")).0 f) (sound_line word before ls l sound)))
+        (row_line before l e ((bytes_eq-Decides l.section (codes "ROWS")).0 f) (sound_line word before ls l sound)).new)
     by true false e f =
         let mine : row_names (l ∷ []) ≡ [] =
         ap (λ t. map row_name (cond (t && bytes_eq l.section (codes "ROWS")) (l ∷ []) [])) e
@@ -223,7 +235,7 @@ entries_owned ls =
     let own = each_both (λ l. (l.is_item && bytes_eq l.section (codes "COLUMNS")) ≡ true)
     (λ l. is_marker l ≡ false → is_among (column_name l) (columns_among items) ≡ true)
     (λ l. Each (λ e. is_among e.owner names ≡ true) (entries_of l)) items
-    (each_passes (λ l. l.is_item && bytes_eq l.section (codes "COLUMNS")) ls) (lines_among items)
+    (each_kept (λ l. l.is_item && bytes_eq l.section (codes "COLUMNS")) ls) (lines_among items)
     (λ l item h. line_owned names l item (λ e. names_among (column_name l) ls ∙ h e)) in
     each_filter (λ e. is_among e.owner names ≡ true) (is_kept (codes "COLUMNS") ls) (all_entries (codes "COLUMNS") ls)
     (each_flat (λ l. Each (λ e. is_among e.owner names ≡ true) (entries_of l)) (λ e. is_among e.owner names ≡ true) entries_of items own

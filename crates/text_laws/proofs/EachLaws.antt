@@ -13,10 +13,10 @@ each_filter {A} P test (x ∷ xs) all = by (test x) (each_filter P test xs all.1
     by true rest = (all.0, rest)
     by false rest = rest
 
--- what passes a test
-pub each_passes : {A : Type 0} (test : A → Bool) (xs : List A) → Each (λ x. test x ≡ true) (filter test xs)
-each_passes test [] = tt
-each_passes {A} test (x ∷ xs) = by (test x) refl (each_passes test xs)
+-- what meets a test
+pub each_kept : {A : Type 0} (test : A → Bool) (xs : List A) → Each (λ x. test x ≡ true) (filter test xs)
+each_kept test [] = tt
+each_kept {A} test (x ∷ xs) = by (test x) refl (each_kept test xs)
   where
     by : (t : Bool) → test x ≡ t → Each (λ y. test y ≡ true) (filter test xs)
         → Each (λ y. test y ≡ true) (cond t (x ∷ filter test xs) (filter test xs))

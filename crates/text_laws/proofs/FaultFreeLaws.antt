@@ -115,7 +115,8 @@ row_within i r h =
     (option_map_or (exceeds (2 ^ 62)) r.low false || option_map_or (exceeds (2 ^ 62)) r.high false) Whats.Side i) (le-ltb 255
     (length r.name) h.name)
     ∙ ap (λ t. limit_at t Whats.Coef i ++ limit_at
-    (option_map_or (exceeds (2 ^ 62)) r.low false || option_map_or (exceeds (2 ^ 62)) r.high false) Whats.Side i) (all_small r.coefs h.coefs)
+    (option_map_or (exceeds (2 ^ 62)) r.low false
+    || option_map_or (exceeds (2 ^ 62)) r.high false) Whats.Side i) (all_small r.coefs h.coefs)
     ∙ ap (λ t. limit_at (t || option_map_or (exceeds (2 ^ 62)) r.high false) Whats.Side i) (side_small r.low h.low)
     ∙ ap (λ t. limit_at t Whats.Side i) (side_small r.high h.high)
 
@@ -125,7 +126,7 @@ none_numbered f n [] h = refl
 none_numbered f n (x ∷ xs) h =
     ap (λ k. k ++ flat_map f (enumerate_from (n + 1) xs)) (h 0 n x refl) ∙ none_numbered f (n + 1) xs (λ i j y at. h (suc i) j y at)
 
--- a program within its limits passes none
+-- a program within its limits exceeds none
 pub no_limits : (m : Parts) → IsWithinLimits m → limits_of m ≡ []
 no_limits m h =
     let columns = flat_map column_limits (enumerate_from 0 m.columns) in

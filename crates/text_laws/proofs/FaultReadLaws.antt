@@ -8,7 +8,8 @@ use Rattle.ip_defs.specs.Limits.{limits_of}
 use Rattle.mps_defs.specs.CanonicalText.{canonical_text}
 use Rattle.mps_defs.specs.Records.{objective, column_names, lines_of}
 use Rattle.mps_defs.specs.TextModels.{model_from}
-use Rattle.mps_defs.specs.Faults.{all_line_faults, continuous_faults, bound_missing, upper_faults, limit_faults, faults_of_lines, mps_fault}
+use Rattle.mps_defs.specs.Faults.{all_line_faults, continuous_faults, bound_missing, upper_faults, limit_faults, faults_of_lines}
+use Rattle.mps_defs.specs.Faults.{mps_fault}
 use Rattle.mps_defs.specs.declared.reading.MpsError.TheVariants.{NotUtf8, NoObjective, NoEnd, Limit}
 use Rattle.mps_defs.specs.declared.reading.How.{How}
 use Rattle.ip_defs.specs.declared.programs.Column.{Column}

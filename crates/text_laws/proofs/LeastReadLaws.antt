@@ -1,5 +1,6 @@
 -- A number that is read has the least decimals that write it, in each unit that is fine enough; and the decimals of a difference.
-use Rattle.std.specs.Prelude.{◌≡◌, ℕ, zero, suc, ◌+◌, ◌-◌, ◌*◌, ◌/◌, ◌%◌, ◌^◌, ◌≤◌, nat_le, max, Bool, true, false, if◌then◌else◌, List, []}
+use Rattle.std.specs.Prelude.{◌≡◌, ℕ, zero, suc, ◌+◌, ◌-◌, ◌*◌, ◌/◌, ◌%◌, ◌^◌, ◌≤◌, nat_le, max, Bool, true, false, if◌then◌else◌, List}
+use Rattle.std.specs.Prelude.{[]}
 use Rattle.std.specs.Prelude.{◌∷◌, unwrap_or, ℤ, pos, negsuc, ◌-ℤ◌, ◌*ℤ◌}
 use Rattle.std.specs.Int.RustNames.{unsigned_abs}
 use Rattle.std.proofs.Common.{refl, arith, ap, sym, ◌∙◌, subst, leb-false}
@@ -74,7 +75,7 @@ number_least text = by (is_number text) (is_infinity (without_sign text))
 
 -- ---- differences
 
--- the least place is no later than one that passes
+-- the least place is no later than one that will do
 least_before : (g : ℕ → Bool) (i n m : ℕ) → i ≤ m → g m ≡ true → least_from g i n ≤ m
 least_before g i zero m l e = l
 least_before g i (suc n) m l e = by (g i) refl (λ later. least_before g (suc i) n m later e)
@@ -130,7 +131,7 @@ writes_sum k m a b h g =
     let parts = divisible (a * 10 ^ m) (b * 10 ^ m) (10 ^ k) h g in
     (ap (λ y. y % 10 ^ k) (add-mul a b (10 ^ m)) ∙ parts.0, ap (λ y. y % 10 ^ k) (sub_mul a b (10 ^ m)) ∙ parts.1)
 
--- the size of a difference is a sum or a difference of the sizes
+-- the absolute value of a difference is a sum or a difference of absolute values
 size_of_difference : (P : ℕ → Type 0) (x y : ℤ) → P (unsigned_abs x + unsigned_abs y) → P (unsigned_abs x - unsigned_abs y)
     → P (unsigned_abs y - unsigned_abs x) → P (unsigned_abs (x -ℤ y))
 size_of_difference P x y sum down up = by (nat_le (unsigned_abs x) (unsigned_abs y)) refl x y refl refl
@@ -162,7 +163,7 @@ difference_needs k m x y h g =
     let down = writes_sum k m (unsigned_abs y) (unsigned_abs x) b a in
     writes_needs k m (unsigned_abs (x -ℤ y)) (size_of_difference (Writes k m) x y up.0 up.1 down.1)
 
--- a size of 0 needs none
+-- 0 needs none
 pub nothing_needs : (k : ℕ) (z : ℤ) → unsigned_abs z ≡ 0 → needed_decimals k z ≡ 0
 nothing_needs k z e = ap (λ (n : ℕ). least_decimals n k) e ∙ (zero_reached k).1
 

@@ -1,5 +1,6 @@
 -- No fault is found in the lines of a section whose rows are known, whose amounts are numbers and whose places are fresh.
-use Rattle.std.specs.Prelude.{◌≡◌, ℕ, suc, ◌≤◌, ◌<◌, ◌^◌, nat_lt, nat_le, Bool, true, false, ◌&&◌, ◌||◌, not, cond, if◌then◌else◌, List, []}
+use Rattle.std.specs.Prelude.{◌≡◌, ℕ, suc, ◌≤◌, ◌<◌, ◌^◌, nat_lt, nat_le, Bool, true, false, ◌&&◌, ◌||◌, not, cond, if◌then◌else◌, List}
+use Rattle.std.specs.Prelude.{[]}
 use Rattle.std.specs.Prelude.{◌∷◌, ◌++◌, map, filter, flat_map, bytes_eq, codes, ℤ}
 use Rattle.std.specs.List.{list_any}
 use Rattle.std.specs.Fmt.{signed_decimal}
@@ -23,7 +24,7 @@ use Rattle.text_laws.proofs.WrittenLaws.{lines_from}
 use Rattle.text_laws.proofs.NumberTextLaws.{decimal_text_read, decimal_text_decimals, signed_decimal_read}
 use Rattle.text_laws.proofs.ScaleLaws.{least_within}
 use Rattle.text_laws.proofs.SectionLaws.{names_of}
-use Rattle.text_laws.proofs.EntryReadLaws.{Told, told, tells}
+use Rattle.text_laws.proofs.EntryReadLaws.{BareEntry, bare, listed}
 use Rattle.text_laws.proofs.NameReadLaws.{owners, not_among_more}
 use Rattle.text_laws.proofs.BoundReadLaws.{two_bounds}
 use Rattle.text_laws.proofs.EachLaws.{EachAfter}
@@ -56,18 +57,18 @@ pub same_rows : (before : List Line) (n : ℕ) (word : List ℕ) (fs : List (Lis
 same_rows before n word fs other =
     ap (map row_name) (rows_stay before (item word n fs) (ap (λ t. cond t (item word n fs ∷ []) []) other))
 
--- what the entries of a section tell
-abbrev pub told_in : List ℕ → List Line → List Told
-told_in word ls = map told (all_entries word ls)
+-- the entries of a section, without their line numbers
+abbrev pub bare_in : List ℕ → List Line → List BareEntry
+bare_in word ls = map bare (all_entries word ls)
 
-told_more : (word : List ℕ) (before : List Line) (l : Line) → (l.is_item && bytes_eq l.section word) ≡ true
-    → told_in word (before ++ l ∷ []) ≡ told_in word before ++ map told (entries_of l)
-told_more word before l own =
-    ap (λ k. map told (flat_map entries_of k))
+bare_more : (word : List ℕ) (before : List Line) (l : Line) → (l.is_item && bytes_eq l.section word) ≡ true
+    → bare_in word (before ++ l ∷ []) ≡ bare_in word before ++ map bare (entries_of l)
+bare_more word before l own =
+    ap (λ k. map bare (flat_map entries_of k))
     (items_of-append word before (l ∷ []) ∙ ap (λ t. items_of word before ++ cond t (l ∷ []) []) own)
-    ∙ ap (map told) (flat_map-append entries_of (items_of word before) (l ∷ [])
+    ∙ ap (map bare) (flat_map-append entries_of (items_of word before) (l ∷ [])
     ∙ ap (λ k. all_entries word before ++ k) (append-nil (entries_of l)))
-    ∙ map-append told (all_entries word before) (entries_of l)
+    ∙ map-append bare (all_entries word before) (entries_of l)
 
 -- ---- one entry
 
@@ -94,12 +95,12 @@ IsEntry rows (true, a ∷ []) = ⊥
 IsEntry rows (true, []) = ⊥
 IsEntry rows (false, fs) = ⊥
 
-said_of : (e : Entry) (es : List Entry) → list_any (same_place e) es ≡ is_said e.owner e.row (map told es)
+said_of : (e : Entry) (es : List Entry) → list_any (same_place e) es ≡ is_said e.owner e.row (map bare es)
 said_of e [] = refl
 said_of e (x ∷ xs) = ap (λ t. same_place e x || t) (said_of e xs)
 
 entry_faultless : (word : List ℕ) (ls : List Line) (prior : List Entry) (e : Entry) → is_among e.row (row_names ls) ≡ true → IsAmount e.text
-    → is_said e.owner e.row (map told prior) ≡ false → entry_faults word ls prior e ≡ []
+    → is_said e.owner e.row (map bare prior) ≡ false → entry_faults word ls prior e ≡ []
 entry_faultless word ls prior e known amount fresh =
     ap (λ t. when (not t) (UnknownRow e.line) ++ when (not (is_number e.text)) (Number e.line)
     ++ when (is_kept word ls e && nat_lt 9 (decimals_of (number_or_zero e.text))) (Digits e.line)
@@ -116,12 +117,12 @@ entry_faultless word ls prior e known amount fresh =
 
 -- a line of one entry
 pair_faultless : (before : List Line) (l : Line) (e : Entry) → entries_of l ≡ e ∷ [] → is_among e.row (row_names (before ++ l ∷ [])) ≡ true
-    → IsAmount e.text → is_said e.owner e.row (told_in l.section before) ≡ false → pair_faults before l ≡ []
+    → IsAmount e.text → is_said e.owner e.row (bare_in l.section before) ≡ false → pair_faults before l ≡ []
 pair_faultless before l e one known amount fresh =
     ap (λ es. flat_map (λ p. entry_faults l.section (before ++ l ∷ []) (all_entries l.section before ++ p.0) p.1) (with_earlier es)) one
     ∙ append-nil (entry_faults l.section (before ++ l ∷ []) (all_entries l.section before ++ []) e)
     ∙ entry_faultless l.section (before ++ l ∷ []) (all_entries l.section before ++ []) e known amount
-    (ap (λ es. is_said e.owner e.row (map told es)) (append-nil (all_entries l.section before)) ∙ fresh)
+    (ap (λ es. is_said e.owner e.row (map bare es)) (append-nil (all_entries l.section before)) ∙ fresh)
 
 -- ---- RHS and RANGES
 
@@ -154,9 +155,10 @@ set_line_faultless before n word a b c w came pairs =
     ∙ pairs
 
 pub sets_faultless : (word : List ℕ) → IsSetWord word
-    → (rows : List (List ℕ)) (before : List Line) (n : ℕ) (ds : List Written) (seen : List Told) → RowsCame before → row_names before ≡ rows
-    → told_in word before ≡ seen
-    → Each (IsEntry rows) ds → EachAfter IsFresh seen (flat_map tells ds) → faults_after before (lines_from n word ds) ≡ []
+    → (rows : List (List ℕ)) (before : List Line) (n : ℕ) (ds : List Written) (seen : List BareEntry) → RowsCame before
+    → row_names before ≡ rows
+    → bare_in word before ≡ seen
+    → Each (IsEntry rows) ds → EachAfter IsFresh seen (flat_map listed ds) → faults_after before (lines_from n word ds) ≡ []
 sets_faultless word w rows before n [] seen came known is all fresh = refl
 sets_faultless word w rows before n ((true, a ∷ b ∷ c ∷ []) ∷ ds) seen came known is all fresh =
     let l = item word n (a ∷ b ∷ c ∷ []) in
@@ -166,11 +168,11 @@ sets_faultless word w rows before n ((true, a ∷ b ∷ c ∷ []) ∷ ds) seen c
     (set_line_faultless before n word a b c w came (pair_faultless before l (entry_of n a b c) one (ap (is_among b) rows_same
     ∙ (all.0).1) ((all.0).2) (ap (is_said a b) is
     ∙ fresh.0)))
-    (sets_faultless word w rows (before ++ l ∷ []) (suc n) ds (seen ++ told (entry_of n a b c) ∷ [])
+    (sets_faultless word w rows (before ++ l ∷ []) (suc n) ds (seen ++ bare (entry_of n a b c) ∷ [])
     (still_came before n word (a ∷ b ∷ c ∷ []) came) rows_same
-    (told_more word before l (text_self word)
-    ∙ ap (λ es. told_in word before ++ map told es) one
-    ∙ ap (λ k. k ++ told (entry_of n a b c) ∷ []) is) all.1 fresh.1)
+    (bare_more word before l (text_self word)
+    ∙ ap (λ es. bare_in word before ++ map bare es) one
+    ∙ ap (λ k. k ++ bare (entry_of n a b c) ∷ []) is) all.1 fresh.1)
 sets_faultless word w rows before n ((true, a ∷ b ∷ c ∷ d ∷ fs) ∷ ds) seen came known is all fresh = absurd all.0
 sets_faultless word w rows before n ((true, a ∷ b ∷ []) ∷ ds) seen came known is all fresh = absurd all.0
 sets_faultless word w rows before n ((true, a ∷ []) ∷ ds) seen came known is all fresh = absurd all.0
@@ -180,8 +182,8 @@ sets_faultless word w rows before n ((false, fs) ∷ ds) seen came known is all 
 -- ---- COLUMNS
 
 -- what is known of the columns before a line
-pub record ColumnsKnown (before : List Line) (seen : List Told) : Type 0 where
-  pub told_are : told_in (codes "COLUMNS") before ≡ seen
+pub record ColumnsKnown (before : List Line) (seen : List BareEntry) : Type 0 where
+  pub bare_are : bare_in (codes "COLUMNS") before ≡ seen
   pub names_are : names_of before ≡ owners seen
   pub last_is : (name : List ℕ) → is_last_column before name ≡ option_map_or (λ t. bytes_eq t.owner name) (last_of seen) false
 
@@ -189,31 +191,31 @@ column_entry : (n : ℕ) (a b c : List ℕ) → bytes_eq b (codes "'MARKER'") �
     → entries_of (item (codes "COLUMNS") n (a ∷ b ∷ c ∷ [])) ≡ entry_of n a b c ∷ []
 column_entry n a b c plain = ap (λ t. if t then [] else entry_of n a b c ∷ []) plain
 
-column_known : (before : List Line) (n : ℕ) (a b c : List ℕ) (seen : List Told) → bytes_eq b (codes "'MARKER'") ≡ false
+column_known : (before : List Line) (n : ℕ) (a b c : List ℕ) (seen : List BareEntry) → bytes_eq b (codes "'MARKER'") ≡ false
     → ColumnsKnown before seen
-    → ColumnsKnown (before ++ item (codes "COLUMNS") n (a ∷ b ∷ c ∷ []) ∷ []) (seen ++ told (entry_of n a b c) ∷ [])
+    → ColumnsKnown (before ++ item (codes "COLUMNS") n (a ∷ b ∷ c ∷ []) ∷ []) (seen ++ bare (entry_of n a b c) ∷ [])
 column_known before n a b c seen plain k =
     let l = item (codes "COLUMNS") n (a ∷ b ∷ c ∷ []) in
-    let t = told (entry_of n a b c) in
+    let t = bare (entry_of n a b c) in
     record {
-      told_are = told_more (codes "COLUMNS") before l refl
-          ∙ ap (λ es. told_in (codes "COLUMNS") before ++ map told es) (column_entry n a b c plain)
-          ∙ ap (λ x. x ++ t ∷ []) k.told_are;
+      bare_are = bare_more (codes "COLUMNS") before l refl
+          ∙ ap (λ es. bare_in (codes "COLUMNS") before ++ map bare es) (column_entry n a b c plain)
+          ∙ ap (λ x. x ++ t ∷ []) k.bare_are;
       names_are = names_on_lines-append before (l ∷ [])
           ∙ ap (λ u. names_of before ++ map column_name (cond (not u) (l ∷ []) [])) plain
           ∙ ap (λ x. x ++ a ∷ []) k.names_are
-          ∙ sym (map-append (λ (x : Told). x.owner) seen (t ∷ []));
+          ∙ sym (map-append (λ (x : BareEntry). x.owner) seen (t ∷ []));
       last_is = λ name.
           ap (λ x. option_map_or (λ (y : Line). not (is_marker y) && bytes_eq (column_name y) name) (last_of x) false)
           (items_of-append (codes "COLUMNS") before (l ∷ []))
           ∙ ap (λ x. option_map_or (λ (y : Line). not (is_marker y) && bytes_eq (column_name y) name) x false)
           (last_of-add (items_of (codes "COLUMNS") before) l)
           ∙ ap (λ u. not u && bytes_eq a name) plain
-          ∙ sym (ap (λ x. option_map_or (λ (y : Told). bytes_eq y.owner name) x false) (last_of-add seen t));
+          ∙ sym (ap (λ x. option_map_or (λ (y : BareEntry). bytes_eq y.owner name) x false) (last_of-add seen t));
     }
 
-not_split : (before : List Line) (n : ℕ) (a b c : List ℕ) (seen : List Told) → ColumnsKnown before seen
-    → is_parted seen (told (entry_of n a b c)) ≡ false → is_split before (item (codes "COLUMNS") n (a ∷ b ∷ c ∷ [])) ≡ false
+not_split : (before : List Line) (n : ℕ) (a b c : List ℕ) (seen : List BareEntry) → ColumnsKnown before seen
+    → is_parted seen (bare (entry_of n a b c)) ≡ false → is_split before (item (codes "COLUMNS") n (a ∷ b ∷ c ∷ [])) ≡ false
 not_split before n a b c seen k h =
     ap (λ ns. is_among a ns && not (is_last_column before a)) k.names_are ∙ ap (λ t. is_among a (owners seen) && not t) (k.last_is a) ∙ h
 
@@ -228,9 +230,9 @@ column_line_faultless before n a b c plain came whole pairs =
     ∙ ap (λ t. when t (SplitColumn n) ++ pair_faults before l) whole
     ∙ pairs
 
-pub columns_faultless : (rows : List (List ℕ)) (before : List Line) (n : ℕ) (ds : List Written) (seen : List Told) → RowsCame before
+pub columns_faultless : (rows : List (List ℕ)) (before : List Line) (n : ℕ) (ds : List Written) (seen : List BareEntry) → RowsCame before
     → row_names before ≡ rows → ColumnsKnown before seen
-    → Each (IsEntry rows) ds → EachAfter IsNew seen (flat_map tells ds) → faults_after before (lines_from n (codes "COLUMNS") ds) ≡ []
+    → Each (IsEntry rows) ds → EachAfter IsNew seen (flat_map listed ds) → faults_after before (lines_from n (codes "COLUMNS") ds) ≡ []
 columns_faultless rows before n [] seen came known is all new = refl
 columns_faultless rows before n ((true, a ∷ b ∷ c ∷ []) ∷ ds) seen came known is all new =
     let l = item (codes "COLUMNS") n (a ∷ b ∷ c ∷ []) in
@@ -239,9 +241,9 @@ columns_faultless rows before n ((true, a ∷ b ∷ c ∷ []) ∷ ds) seen came 
     line_faultless before l (lines_from (suc n) (codes "COLUMNS") ds)
     (column_line_faultless before n a b c ((all.0).0) came (not_split before n a b c seen is ((new.0).1))
     (pair_faultless before l (entry_of n a b c) one (ap (is_among b) rows_same
-    ∙ (all.0).1) ((all.0).2) (ap (is_said a b) is.told_are
+    ∙ (all.0).1) ((all.0).2) (ap (is_said a b) is.bare_are
     ∙ (new.0).0)))
-    (columns_faultless rows (before ++ l ∷ []) (suc n) ds (seen ++ told (entry_of n a b c) ∷ [])
+    (columns_faultless rows (before ++ l ∷ []) (suc n) ds (seen ++ bare (entry_of n a b c) ∷ [])
     (still_came before n (codes "COLUMNS") (a ∷ b ∷ c ∷ []) came) rows_same (column_known before n a b c seen ((all.0).0) is) all.1 new.1)
 columns_faultless rows before n ((true, a ∷ b ∷ c ∷ d ∷ fs) ∷ ds) seen came known is all new = absurd all.0
 columns_faultless rows before n ((true, a ∷ b ∷ []) ∷ ds) seen came known is all new = absurd all.0

@@ -284,7 +284,8 @@ EndsOnce [] = ⊥
 EndsOnce (w ∷ []) = is_last w ≡ true
 EndsOnce (w ∷ v ∷ ws) = (is_last w ≡ false) × EndsOnce (v ∷ ws)
 
-all_through : (n : ℕ) (ws : List Written) → AreReadable ws → EndsOnce ws → through_first is_end_line (numbered_from n ws) ≡ numbered_from n ws
+all_through : (n : ℕ) (ws : List Written) → AreReadable ws → EndsOnce ws
+    → through_first is_end_line (numbered_from n ws) ≡ numbered_from n ws
 all_through n [] h e = absurd e
 all_through n (w ∷ []) h e = ap (λ t. if t then (n, line_text w) ∷ [] else (n, line_text w) ∷ []) (line_ends n w h.0 ∙ e)
 all_through n (w ∷ v ∷ ws) h e =

@@ -1,5 +1,6 @@
 -- The model of a canonical text is the program that it was written of.
-use Rattle.std.specs.Prelude.{◌≡◌, ℕ, zero, suc, ◌+◌, ◌==◌, true, false, ◌&&◌, not, if◌then◌else◌, List, [], ◌∷◌, ◌++◌, length, map, filter}
+use Rattle.std.specs.Prelude.{◌≡◌, ℕ, zero, suc, ◌+◌, ◌==◌, true, false, ◌&&◌, not, if◌then◌else◌, List, [], ◌∷◌, ◌++◌, length, map}
+use Rattle.std.specs.Prelude.{filter}
 use Rattle.std.specs.Prelude.{flat_map, find, Option, None, Some, option_map, unwrap_or, slice_get, bytes_eq, codes, ℤ, pos, negsuc, neg_ℤ}
 use Rattle.std.specs.List.{list_any, list_all}
 use Rattle.std.specs.Option.{option_map_or, option_or}
@@ -22,15 +23,16 @@ use Rattle.ip_defs.specs.declared.programs.Parts.{Parts}
 use Rattle.text_laws.specs.ReadBack.{needed_decimals, range_of, IsCanonical}
 use Rattle.text_laws.proofs.NumberTextLaws.{decimal_text_units}
 use Rattle.text_laws.proofs.CanonicalLaws.{program_lines}
-use Rattle.text_laws.proofs.ReadableLaws.{IsProgramText, IsRowText, IsColumnText, program_text, canonical_lines_read, right_side_small}
-use Rattle.text_laws.proofs.EntryReadLaws.{told, tells, told_at, told_for, told_decimals, for_append, decimals_append, tells_append}
-use Rattle.text_laws.proofs.EntryReadLaws.{written_at_told, written_for_told, decimals_told}
+use Rattle.text_laws.proofs.ReadableLaws.{IsProgramText, IsRowText, IsColumnText, printable_parts, program_text, canonical_lines_read}
+use Rattle.text_laws.proofs.ReadableLaws.{right_side_small}
+use Rattle.text_laws.proofs.EntryReadLaws.{bare, listed, bare_at, bare_for, bare_decimals, for_append, decimals_append, listed_append}
+use Rattle.text_laws.proofs.EntryReadLaws.{written_at_bare, written_for_bare, decimals_bare}
 use Rattle.text_laws.proofs.RecordReadLaws.{IsApart, objective_read, rows_read, columns_kept, right_sides_kept, ranges_kept}
 use Rattle.text_laws.proofs.NameReadLaws.{names_read}
-use Rattle.text_laws.proofs.CoefReadLaws.{told_from, coef_written, cost_written}
+use Rattle.text_laws.proofs.CoefReadLaws.{bare_from, coef_written, cost_written}
 use Rattle.text_laws.proofs.OrderReadLaws.{IsFrom, ordered_from, coefs_read}
 use Rattle.text_laws.proofs.BoundReadLaws.{lower_read, upper_read}
-use Rattle.text_laws.proofs.SideReadLaws.{AreOfRow, none_for, none_of, own_of, rhs_told, range_told, rhs_own, range_own, sides_read}
+use Rattle.text_laws.proofs.SideReadLaws.{AreOfRow, none_for, none_of, own_of, rhs_bare, range_bare, rhs_own, range_own, sides_read}
 use Rattle.text_laws.proofs.SideReadLaws.{when_row, amount_for, amount_number}
 use Rattle.text_laws.proofs.DecimalReadLaws.{flat_flat, coef_decimals, cost_decimals_read, rhs_decimals, range_decimals, constant_decimals}
 use Rattle.ip_defs.proofs.BoolLaws.{both_true, left_false, right_false}
@@ -52,16 +54,6 @@ each_apart m (r ∷ rs) e = (
       (right_false (bytes_eq m.objective r.name) (is_among m.objective (map (λ k. k.name) rs)) e),
 )
 
-none_crossed : (m : Parts) → is_printable m ≡ true → list_any is_crossed m.rows ≡ false
-none_crossed m e =
-    let first =
-    both_true (not (list_any is_crossed m.rows) && is_printable_name m.objective && list_all (λ c. is_printable_name c.name) m.columns)
-    (list_all (λ r. is_printable_name r.name) m.rows) e in
-    let second =
-    both_true (not (list_any is_crossed m.rows) && is_printable_name m.objective)
-    (list_all (λ c. is_printable_name c.name) m.columns) first.0 in
-    not-true (list_any is_crossed m.rows) (both_true (not (list_any is_crossed m.rows)) (is_printable_name m.objective) second.0).0
-
 map_back : {A : Type 0} (f : A → List ℕ) (g : List ℕ → A) (xs : List A) → ((i : ℕ) (x : A) → slice_get xs i ≡ Some x → g (f x) ≡ x)
     → map g (map f xs) ≡ xs
 map_back f g xs h = map-map g f xs ∙ map_same (λ x. g (f x)) xs h
@@ -71,33 +63,33 @@ map_back f g xs h = map-map g f xs ∙ map_same (λ x. g (f x)) xs h
 all_decimals : (m : Parts) (row : List ℕ) → IsProgramText m → is_among m.objective (map (λ k. k.name) m.rows) ≡ false
     → decimals_in (kept_entries (codes "COLUMNS") (program_lines m) ++ kept_entries (codes "RHS") (program_lines m)
     ++ kept_entries (codes "RANGES") (program_lines m)) row
-    ≡ told_decimals (told_from m 0 m.columns) row
-    ++ (told_decimals (flat_map tells (constant_line m)) row ++ told_decimals (flat_map rhs_told m.rows) row) ++ told_decimals
-    (flat_map range_told m.rows) row
+    ≡ bare_decimals (bare_from m 0 m.columns) row
+    ++ (bare_decimals (flat_map listed (constant_line m)) row ++ bare_decimals (flat_map rhs_bare m.rows) row) ++ bare_decimals
+    (flat_map range_bare m.rows) row
 all_decimals m row h d =
     let cs = kept_entries (codes "COLUMNS") (program_lines m) in
     let rs = kept_entries (codes "RHS") (program_lines m) in
     let gs = kept_entries (codes "RANGES") (program_lines m) in
-    decimals_told (cs ++ rs ++ gs) row
-    ∙ ap (λ ts. told_decimals ts row) (map-append told (cs ++ rs) gs ∙ ap (λ ts. ts ++ map told gs) (map-append told cs rs))
-    ∙ decimals_append (map told cs ++ map told rs) (map told gs) row
-    ∙ ap (λ l. l ++ told_decimals (map told gs) row) (decimals_append (map told cs) (map told rs) row)
-    ∙ ap (λ ts. told_decimals ts row ++ told_decimals (map told rs) row ++ told_decimals (map told gs) row) (columns_kept m h)
-    ∙ ap (λ ts. told_decimals (told_from m 0 m.columns) row ++ told_decimals ts row ++ told_decimals (map told gs) row)
+    decimals_bare (cs ++ rs ++ gs) row
+    ∙ ap (λ ts. bare_decimals ts row) (map-append bare (cs ++ rs) gs ∙ ap (λ ts. ts ++ map bare gs) (map-append bare cs rs))
+    ∙ decimals_append (map bare cs ++ map bare rs) (map bare gs) row
+    ∙ ap (λ l. l ++ bare_decimals (map bare gs) row) (decimals_append (map bare cs) (map bare rs) row)
+    ∙ ap (λ ts. bare_decimals ts row ++ bare_decimals (map bare rs) row ++ bare_decimals (map bare gs) row) (columns_kept m h)
+    ∙ ap (λ ts. bare_decimals (bare_from m 0 m.columns) row ++ bare_decimals ts row ++ bare_decimals (map bare gs) row)
     (right_sides_kept m
-    ∙ tells_append (constant_line m) (flat_map rhs_line m.rows)
-    ∙ ap (λ k. flat_map tells (constant_line m) ++ k) (flat_flat rhs_line m.rows))
-    ∙ ap (λ l. told_decimals (told_from m 0 m.columns) row ++ l ++ told_decimals (map told gs) row)
-    (decimals_append (flat_map tells (constant_line m)) (flat_map rhs_told m.rows) row)
-    ∙ ap (λ ts. told_decimals (told_from m 0 m.columns) row
-    ++ (told_decimals (flat_map tells (constant_line m)) row ++ told_decimals
-    (flat_map rhs_told m.rows) row) ++ told_decimals ts row) (ranges_kept m (each_apart m m.rows d)
+    ∙ listed_append (constant_line m) (flat_map rhs_line m.rows)
+    ∙ ap (λ k. flat_map listed (constant_line m) ++ k) (flat_flat rhs_line m.rows))
+    ∙ ap (λ l. bare_decimals (bare_from m 0 m.columns) row ++ l ++ bare_decimals (map bare gs) row)
+    (decimals_append (flat_map listed (constant_line m)) (flat_map rhs_bare m.rows) row)
+    ∙ ap (λ ts. bare_decimals (bare_from m 0 m.columns) row
+    ++ (bare_decimals (flat_map listed (constant_line m)) row ++ bare_decimals
+    (flat_map rhs_bare m.rows) row) ++ bare_decimals ts row) (ranges_kept m (each_apart m m.rows d)
     ∙ flat_flat range_line m.rows)
 
 three_largest : (n : ℕ) (a b c : List ℕ) → largest n (a ++ b ++ c) ≡ largest (largest (largest n a) b) c
 three_largest n a b c = largest-append n (a ++ b) c ∙ ap (λ (k : ℕ). largest k c) (largest-append n a b)
 
-constant_row : (m : Parts) → AreOfRow m.objective (flat_map tells (constant_line m))
+constant_row : (m : Parts) → AreOfRow m.objective (flat_map listed (constant_line m))
 constant_row m = when_row (not (int_eq m.constant (pos 0))) (codes "RHS") m.objective (value_text m (neg_ℤ m.constant))
 
 pub row_decimals_read : (m : Parts) (how : How) → IsCanonical m how → (i : ℕ) (r : Row) → slice_get m.rows i ≡ Some r
@@ -112,18 +104,18 @@ row_decimals_read m how h i r at =
     let needed = map (needed_decimals k) in
     ap (largest how.digits) (all_decimals m r.name text h.rows.0)
     ∙ ap (λ l. largest how.digits
-    (l ++ (told_decimals (flat_map tells (constant_line m)) r.name ++ told_decimals (flat_map rhs_told m.rows) r.name) ++ told_decimals
-    (flat_map range_told m.rows) r.name)) (coef_decimals m i r h.rows at row.decimals ordered)
+    (l ++ (bare_decimals (flat_map listed (constant_line m)) r.name ++ bare_decimals (flat_map rhs_bare m.rows) r.name) ++ bare_decimals
+    (flat_map range_bare m.rows) r.name)) (coef_decimals m i r h.rows at row.decimals ordered)
     ∙ ap (λ l. largest how.digits
-    (map (λ p. needed_decimals k p.1) r.coefs ++ (l ++ told_decimals (flat_map rhs_told m.rows) r.name) ++ told_decimals
-    (flat_map range_told m.rows) r.name)) (none_for m.objective r.name (flat_map tells (constant_line m)) (constant_row m) apart).1
-    ∙ ap (λ l. largest how.digits (map (λ p. needed_decimals k p.1) r.coefs ++ l ++ told_decimals (flat_map range_told m.rows) r.name))
-    (own_of rhs_told rhs_own m.rows i r h.rows.1 at).1
-    ∙ ap (λ l. largest how.digits (map (λ p. needed_decimals k p.1) r.coefs ++ told_decimals (rhs_told r) r.name ++ l))
-    (own_of range_told range_own m.rows i r h.rows.1 at).1
-    ∙ three_largest how.digits (map (λ p. needed_decimals k p.1) r.coefs) (told_decimals (rhs_told r) r.name)
-    (told_decimals (range_told r) r.name)
-    ∙ ap (λ (n : ℕ). largest n (told_decimals (range_told r) r.name))
+    (map (λ p. needed_decimals k p.1) r.coefs ++ (l ++ bare_decimals (flat_map rhs_bare m.rows) r.name) ++ bare_decimals
+    (flat_map range_bare m.rows) r.name)) (none_for m.objective r.name (flat_map listed (constant_line m)) (constant_row m) apart).1
+    ∙ ap (λ l. largest how.digits (map (λ p. needed_decimals k p.1) r.coefs ++ l ++ bare_decimals (flat_map range_bare m.rows) r.name))
+    (own_of rhs_bare rhs_own m.rows i r h.rows.1 at).1
+    ∙ ap (λ l. largest how.digits (map (λ p. needed_decimals k p.1) r.coefs ++ bare_decimals (rhs_bare r) r.name ++ l))
+    (own_of range_bare range_own m.rows i r h.rows.1 at).1
+    ∙ three_largest how.digits (map (λ p. needed_decimals k p.1) r.coefs) (bare_decimals (rhs_bare r) r.name)
+    (bare_decimals (range_bare r) r.name)
+    ∙ ap (λ (n : ℕ). largest n (bare_decimals (range_bare r) r.name))
     (rhs_decimals r (largest how.digits (map (λ p. needed_decimals k p.1) r.coefs)) row (right_side_small r row))
     ∙ range_decimals r (largest (largest how.digits (map (λ p. needed_decimals k p.1) r.coefs))
     (map (needed_decimals k) (option_map_or (λ b. b ∷ []) (right_side r) []))) row
@@ -144,18 +136,18 @@ cost_units_read m how h =
     let costs = map (λ (c : Column). needed_decimals k c.cost) m.columns in
     ap (largest how.digits) (all_decimals m m.objective text h.rows.0)
     ∙ ap (λ l. largest how.digits
-    (l ++ (told_decimals (flat_map tells (constant_line m)) m.objective ++ told_decimals
-    (flat_map rhs_told m.rows) m.objective) ++ told_decimals (flat_map range_told m.rows) m.objective))
+    (l ++ (bare_decimals (flat_map listed (constant_line m)) m.objective ++ bare_decimals
+    (flat_map rhs_bare m.rows) m.objective) ++ bare_decimals (flat_map range_bare m.rows) m.objective))
     (cost_decimals_read m h.rows.0 text.decimals 0 m.columns text.columns)
     ∙ ap (λ l. largest how.digits
-    (costs ++ (told_decimals (flat_map tells (constant_line m)) m.objective ++ l) ++ told_decimals
-    (flat_map range_told m.rows) m.objective)) (none_of rhs_told rhs_own m.rows m.objective h.rows.0).1
-    ∙ ap (λ l. largest how.digits (costs ++ (told_decimals (flat_map tells (constant_line m)) m.objective ++ []) ++ l))
-    (none_of range_told range_own m.rows m.objective h.rows.0).1
+    (costs ++ (bare_decimals (flat_map listed (constant_line m)) m.objective ++ l) ++ bare_decimals
+    (flat_map range_bare m.rows) m.objective)) (none_of rhs_bare rhs_own m.rows m.objective h.rows.0).1
+    ∙ ap (λ l. largest how.digits (costs ++ (bare_decimals (flat_map listed (constant_line m)) m.objective ++ []) ++ l))
+    (none_of range_bare range_own m.rows m.objective h.rows.0).1
     ∙ ap (largest how.digits)
-    (append-nil (costs ++ (told_decimals (flat_map tells (constant_line m)) m.objective ++ []))
-    ∙ ap (λ l. costs ++ l) (append-nil (told_decimals (flat_map tells (constant_line m)) m.objective)))
-    ∙ largest-append how.digits costs (told_decimals (flat_map tells (constant_line m)) m.objective)
+    (append-nil (costs ++ (bare_decimals (flat_map listed (constant_line m)) m.objective ++ []))
+    ∙ ap (λ l. costs ++ l) (append-nil (bare_decimals (flat_map listed (constant_line m)) m.objective)))
+    ∙ largest-append how.digits costs (bare_decimals (flat_map listed (constant_line m)) m.objective)
     ∙ constant_decimals m (largest how.digits costs) text.constant text.decimals
     ∙ sym (largest-append how.digits costs (needed_decimals k m.constant ∷ []))
     ∙ sym (ap (largest how.digits) (map-append (needed_decimals k) (map (λ c. c.cost) m.columns) (m.constant ∷ [])
@@ -171,8 +163,8 @@ column_read m how h j c at =
     let column = each_get IsColumnText m.columns j c text.columns at in
     let cost : written_at (kept_entries (codes "COLUMNS") (program_lines m)) m.objective c.name ≡ Some
     (number_or_zero (value_text m c.cost)) =
-    written_at_told (kept_entries (codes "COLUMNS") (program_lines m)) m.objective c.name
-    ∙ ap (λ ts. told_at ts m.objective c.name) (columns_kept m text)
+    written_at_bare (kept_entries (codes "COLUMNS") (program_lines m)) m.objective c.name
+    ∙ ap (λ ts. bare_at ts m.objective c.name) (columns_kept m text)
     ∙ cost_written m j c h.columns at in
     ap (λ o. made (units m.cost_decimals (unwrap_or o no_number)) (unwrap_or (lower_side (program_lines m) c.name) (box_low how))
     (unwrap_or (upper_side (program_lines m) c.name) (box_high how))) cost
@@ -200,9 +192,9 @@ row_coefs_read m how h i r at =
     (subst (λ (n : ℕ). IsFrom 0 n r.coefs) size ordered)
     (λ j name here. let found = column_at m.columns j name here in
     let start : 0 + j ≡ j = omega arith in
-    written_at_told (kept_entries (codes "COLUMNS") (program_lines m)) r.name name
-    ∙ ap (λ ts. told_at ts r.name name) (columns_kept m text)
-    ∙ ap (told_at (told_from m 0 m.columns) r.name) (sym found.2)
+    written_at_bare (kept_entries (codes "COLUMNS") (program_lines m)) r.name name
+    ∙ ap (λ ts. bare_at ts r.name name) (columns_kept m text)
+    ∙ ap (bare_at (bare_from m 0 m.columns) r.name) (sym found.2)
     ∙ coef_written m i r j found.0 h.columns h.rows at found.1
     ∙ ap (λ (n : ℕ). option_map (λ (p : ℕ × ℤ). number_or_zero (decimal_text p.1 r.decimals)) (find (λ p. p.0 == n) r.coefs)) (sym start))
   where
@@ -224,24 +216,24 @@ row_sides_read m how h i r at =
     let text = program_text m h.printable h.limits in
     let row = each_get IsRowText m.rows i r text.rows at in
     let apart = not_at m.objective (map (λ k. k.name) m.rows) i r.name h.rows.0 (get_map (λ k. k.name) m.rows i r at) in
-    let right : written_for (kept_entries (codes "RHS") (program_lines m)) r.name ≡ told_for (rhs_told r) r.name =
-    written_for_told (kept_entries (codes "RHS") (program_lines m)) r.name
-    ∙ ap (λ ts. told_for ts r.name)
+    let right : written_for (kept_entries (codes "RHS") (program_lines m)) r.name ≡ bare_for (rhs_bare r) r.name =
+    written_for_bare (kept_entries (codes "RHS") (program_lines m)) r.name
+    ∙ ap (λ ts. bare_for ts r.name)
     (right_sides_kept m
-    ∙ tells_append (constant_line m) (flat_map rhs_line m.rows)
-    ∙ ap (λ k. flat_map tells (constant_line m) ++ k) (flat_flat rhs_line m.rows))
-    ∙ for_append (flat_map tells (constant_line m)) (flat_map rhs_told m.rows) r.name
-    ∙ ap (λ o. option_or o (told_for (flat_map rhs_told m.rows) r.name))
-    (none_for m.objective r.name (flat_map tells (constant_line m)) (constant_row m) apart).0
-    ∙ (own_of rhs_told rhs_own m.rows i r h.rows.1 at).0 in
-    let range : written_for (kept_entries (codes "RANGES") (program_lines m)) r.name ≡ told_for (range_told r) r.name =
-    written_for_told (kept_entries (codes "RANGES") (program_lines m)) r.name
-    ∙ ap (λ ts. told_for ts r.name) (ranges_kept m (each_apart m m.rows h.rows.0) ∙ flat_flat range_line m.rows)
-    ∙ (own_of range_told range_own m.rows i r h.rows.1 at).0 in
+    ∙ listed_append (constant_line m) (flat_map rhs_line m.rows)
+    ∙ ap (λ k. flat_map listed (constant_line m) ++ k) (flat_flat rhs_line m.rows))
+    ∙ for_append (flat_map listed (constant_line m)) (flat_map rhs_bare m.rows) r.name
+    ∙ ap (λ o. option_or o (bare_for (flat_map rhs_bare m.rows) r.name))
+    (none_for m.objective r.name (flat_map listed (constant_line m)) (constant_row m) apart).0
+    ∙ (own_of rhs_bare rhs_own m.rows i r h.rows.1 at).0 in
+    let range : written_for (kept_entries (codes "RANGES") (program_lines m)) r.name ≡ bare_for (range_bare r) r.name =
+    written_for_bare (kept_entries (codes "RANGES") (program_lines m)) r.name
+    ∙ ap (λ ts. bare_for ts r.name) (ranges_kept m (each_apart m m.rows h.rows.0) ∙ flat_flat range_line m.rows)
+    ∙ (own_of range_bare range_own m.rows i r h.rows.1 at).0 in
     ap (λ o. row_sides (kind_text r) r.decimals (unwrap_or o no_number)
     (written_for (kept_entries (codes "RANGES") (program_lines m)) r.name)) right
-    ∙ ap (λ o. row_sides (kind_text r) r.decimals (unwrap_or (told_for (rhs_told r) r.name) no_number) o) range
-    ∙ sides_read r row (fails_at is_crossed m.rows i r (none_crossed m h.printable) at)
+    ∙ ap (λ o. row_sides (kind_text r) r.decimals (unwrap_or (bare_for (rhs_bare r) r.name) no_number) o) range
+    ∙ sides_read r row (fails_at is_crossed m.rows i r (printable_parts m h.printable).uncrossed at)
 
 pub row_read : (m : Parts) (how : How) → IsCanonical m how → (i : ℕ) (r : Row) → slice_get m.rows i ≡ Some r
     → row_from (program_lines m) how (kind_text r) r.name ≡ r
@@ -266,14 +258,14 @@ constant_read m how h =
     let text = program_text m h.printable h.limits in
     let given : written_for (kept_entries (codes "RHS") (program_lines m)) m.objective ≡
     (if not (int_eq m.constant (pos 0)) then Some (number_or_zero (value_text m (neg_ℤ m.constant))) else None) =
-    written_for_told (kept_entries (codes "RHS") (program_lines m)) m.objective
-    ∙ ap (λ ts. told_for ts m.objective)
+    written_for_bare (kept_entries (codes "RHS") (program_lines m)) m.objective
+    ∙ ap (λ ts. bare_for ts m.objective)
     (right_sides_kept m
-    ∙ tells_append (constant_line m) (flat_map rhs_line m.rows)
-    ∙ ap (λ k. flat_map tells (constant_line m) ++ k) (flat_flat rhs_line m.rows))
-    ∙ for_append (flat_map tells (constant_line m)) (flat_map rhs_told m.rows) m.objective
-    ∙ ap (option_or (told_for (flat_map tells (constant_line m)) m.objective)) (none_of rhs_told rhs_own m.rows m.objective h.rows.0).0
-    ∙ or_none (told_for (flat_map tells (constant_line m)) m.objective)
+    ∙ listed_append (constant_line m) (flat_map rhs_line m.rows)
+    ∙ ap (λ k. flat_map listed (constant_line m) ++ k) (flat_flat rhs_line m.rows))
+    ∙ for_append (flat_map listed (constant_line m)) (flat_map rhs_bare m.rows) m.objective
+    ∙ ap (option_or (bare_for (flat_map listed (constant_line m)) m.objective)) (none_of rhs_bare rhs_own m.rows m.objective h.rows.0).0
+    ∙ or_none (bare_for (flat_map listed (constant_line m)) m.objective)
     ∙ amount_for (not (int_eq m.constant (pos 0))) (codes "RHS") m.objective (value_text m (neg_ℤ m.constant)) in
     ap (λ o. neg_ℤ (units m.cost_decimals (unwrap_or o no_number)))
     (given ∙ ap (λ t. if not t then Some (number_or_zero (value_text m (neg_ℤ m.constant))) else None) (same_zero m.constant))

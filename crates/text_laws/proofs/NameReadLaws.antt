@@ -18,21 +18,21 @@ use Rattle.text_laws.proofs.WrittenLaws.{lines_from}
 use Rattle.text_laws.proofs.SectionLaws.{lines_in, columns_are, columns_at, new_names, names_are}
 use Rattle.text_laws.proofs.CanonicalLaws.{sections_of, are_sections}
 use Rattle.text_laws.proofs.ReadableLaws.{IsProgramText}
-use Rattle.text_laws.proofs.EntryReadLaws.{Told, tells, AreTriples, tells_append}
+use Rattle.text_laws.proofs.EntryReadLaws.{BareEntry, listed, AreTriples, listed_append}
 use Rattle.text_laws.proofs.RecordReadLaws.{blocks_of, blocks_triples}
-use Rattle.text_laws.proofs.CoefReadLaws.{told_from, block_told}
+use Rattle.text_laws.proofs.CoefReadLaws.{bare_from, block_bare}
 use Rattle.ip_defs.proofs.BoolLaws.{left_false, right_false}
 use Rattle.std.proofs.lemmas.List.{append-nil, append_assoc, map-append}
 use Rattle.ip_defs.proofs.TextLaws.{text_self}
 use Rattle.mps_defs.proofs.PlaceLaws.{apart_turned}
 
-abbrev pub owners : List Told → List (List ℕ)
+abbrev pub owners : List BareEntry → List (List ℕ)
 owners ts = map (λ t. t.owner) ts
 
 -- the names on the lines between the markers
-pub lines_told : (m : Parts) → IsProgramText m
-    → map column_name (column_lines (lines_in (sections_of m))) ≡ owners (flat_map tells (blocks_of m))
-lines_told m h =
+pub lines_bare : (m : Parts) → IsProgramText m
+    → map column_name (column_lines (lines_in (sections_of m))) ≡ owners (flat_map listed (blocks_of m))
+lines_bare m h =
     ap (λ ls. map column_name (filter (λ l. not (is_marker l)) ls)) (columns_are (sections_of m) (are_sections m)) ∙ by m.columns
   where
     first : ℕ
@@ -48,15 +48,15 @@ lines_told m h =
     plain n ds = map column_name (filter (λ l. not (is_marker l)) (lines_from n (codes "COLUMNS") ds))
 
     after : (n : ℕ) (ds : List Written) → AreTriples ds
-        → map column_name (filter (λ l. not (is_marker l)) (lines_from n (codes "COLUMNS") (ds ++ last ∷ []))) ≡ owners (flat_map tells ds)
+        → map column_name (filter (λ l. not (is_marker l)) (lines_from n (codes "COLUMNS") (ds ++ last ∷ []))) ≡ owners (flat_map listed ds)
     after n [] t = refl
     after n (d ∷ ds) t = two d ds t (after (suc n) ds t.1)
       where
         two : (e : Written) (es : List Written) → AreTriples (e ∷ es)
             → map column_name (filter (λ l. not (is_marker l)) (lines_from (suc n) (codes "COLUMNS") (es ++ last ∷ [])))
-            ≡ owners (flat_map tells es)
+            ≡ owners (flat_map listed es)
             → map column_name (filter (λ l. not (is_marker l)) (lines_from n (codes "COLUMNS") (e ∷ (es ++ last ∷ []))))
-            ≡ owners (flat_map tells (e ∷ es))
+            ≡ owners (flat_map listed (e ∷ es))
         two (true, a ∷ b ∷ c ∷ []) es k rest =
             let l : Line = record { number = n; is_item = true; section = codes "COLUMNS"; fields = a ∷ b ∷ c ∷ [] } in
             let later = filter (λ y. not (is_marker y)) (lines_from (suc n) (codes "COLUMNS") (es ++ last ∷ [])) in
@@ -70,7 +70,7 @@ lines_told m h =
     by : (cs : List Column)
         → map column_name (filter (λ l. not (is_marker l)) (lines_from first (codes "COLUMNS") (if length cs == 0 then []
         else start ∷ flat_map (column_block m) (enumerate_from 0 cs) ++ last ∷ [])))
-        ≡ owners (flat_map tells (flat_map (column_block m) (enumerate_from 0 cs)))
+        ≡ owners (flat_map listed (flat_map (column_block m) (enumerate_from 0 cs)))
     by [] = refl
     by (c ∷ cs) =
         ap (λ t. map column_name (filter (λ l. not (is_marker l))
@@ -79,22 +79,22 @@ lines_told m h =
         (enumerate_from 0 (c ∷ cs)) ++ last ∷ [])))) (ne_eqb (length (c ∷ cs)) 0 (λ e. omega arith))
         ∙ after (suc first) (flat_map (column_block m) (enumerate_from 0 (c ∷ cs))) (blocks_triples m h (enumerate_from 0 (c ∷ cs)))
 
-abbrev pub AreOwned : List ℕ → List Told → Type 0
+abbrev pub AreOwned : List ℕ → List BareEntry → Type 0
 AreOwned name ts = Each (λ t. t.owner ≡ name) ts
 
-owned_append : (name : List ℕ) (xs ys : List Told) → AreOwned name xs → AreOwned name ys → AreOwned name (xs ++ ys)
+owned_append : (name : List ℕ) (xs ys : List BareEntry) → AreOwned name xs → AreOwned name ys → AreOwned name (xs ++ ys)
 owned_append name [] ys h k = k
 owned_append name (x ∷ xs) ys h k = (h.0, owned_append name xs ys h.1 k)
 
-pub coefs_owned : (j : ℕ) (name : List ℕ) (rs : List Row) → AreOwned name (flat_map tells (flat_map (coef_line j name) rs))
+pub coefs_owned : (j : ℕ) (name : List ℕ) (rs : List Row) → AreOwned name (flat_map listed (flat_map (coef_line j name) rs))
 coefs_owned j name [] = tt
 coefs_owned j name (r ∷ rs) =
-    subst (AreOwned name) (sym (tells_append (coef_line j name r) (flat_map (coef_line j name) rs)))
-    (owned_append name (flat_map tells (coef_line j name r)) (flat_map tells (flat_map (coef_line j name) rs))
+    subst (AreOwned name) (sym (listed_append (coef_line j name r) (flat_map (coef_line j name) rs)))
+    (owned_append name (flat_map listed (coef_line j name r)) (flat_map listed (flat_map (coef_line j name) rs))
     (one (find (λ p. p.0 == j) r.coefs)) (coefs_owned j name rs))
   where
     one : (o : Option (ℕ × ℤ))
-        → AreOwned name (flat_map tells (option_map_or (λ p. triple name r.name (decimal_text p.1 r.decimals) ∷ []) o []))
+        → AreOwned name (flat_map listed (option_map_or (λ p. triple name r.name (decimal_text p.1 r.decimals) ∷ []) o []))
     one None = tt
     one (Some p) = (refl, tt)
 
@@ -102,7 +102,8 @@ among_more : (name : List ℕ) (seen more : List (List ℕ)) → is_among name s
 among_more name seen more e = list_any-append (bytes_eq name) seen more ∙ ap (λ t. t || is_among name more) e
 
 -- a name that came before brings nothing
-same_names : (name : List ℕ) (seen : List (List ℕ)) (ts : List Told) (rest : List (List ℕ)) → is_among name seen ≡ true → AreOwned name ts
+same_names : (name : List ℕ) (seen : List (List ℕ)) (ts : List BareEntry) (rest : List (List ℕ)) → is_among name seen ≡ true
+    → AreOwned name ts
     → new_names seen (owners ts ++ rest) ≡ new_names (seen ++ owners ts) rest
 same_names name seen [] rest e h = ap (λ s. new_names s rest) (sym (append-nil seen))
 same_names name seen (t ∷ ts) rest e h =
@@ -110,7 +111,8 @@ same_names name seen (t ∷ ts) rest e h =
     ∙ same_names name (seen ++ t.owner ∷ []) ts rest (among_more name seen (t.owner ∷ []) e) h.1
     ∙ ap (λ s. new_names s rest) (append_assoc seen (t.owner ∷ []) (owners ts))
 
-pub not_owned : (other name : List ℕ) (ts : List Told) → bytes_eq other name ≡ false → AreOwned name ts → is_among other (owners ts) ≡ false
+pub not_owned : (other name : List ℕ) (ts : List BareEntry) → bytes_eq other name ≡ false → AreOwned name ts
+    → is_among other (owners ts) ≡ false
 not_owned other name [] e h = refl
 not_owned other name (t ∷ ts) e h = ap (λ u. u || is_among other (owners ts)) (ap (bytes_eq other) h.0 ∙ e) ∙ not_owned other name ts e h.1
 
@@ -119,16 +121,16 @@ pub not_among_more : (name : List ℕ) (xs ys : List (List ℕ)) → is_among na
 not_among_more name xs ys e f = list_any-append (bytes_eq name) xs ys ∙ ap (λ t. t || is_among name ys) e ∙ f
 
 all_names : (m : Parts) (j : ℕ) (cs : List Column) (seen : List (List ℕ)) → AreDistinct (map (λ c. c.name) cs)
-    → Each (λ c. is_among c.name seen ≡ false) cs → new_names seen (owners (told_from m j cs)) ≡ map (λ c. c.name) cs
+    → Each (λ c. is_among c.name seen ≡ false) cs → new_names seen (owners (bare_from m j cs)) ≡ map (λ c. c.name) cs
 all_names m j [] seen d h = refl
 all_names m j (c ∷ cs) seen d h =
-    let ts = flat_map tells (flat_map (coef_line j c.name) m.rows) in
-    let rest = owners (told_from m (j + 1) cs) in
+    let ts = flat_map listed (flat_map (coef_line j c.name) m.rows) in
+    let rest = owners (bare_from m (j + 1) cs) in
     let owned = coefs_owned j c.name m.rows in
     let here : is_among c.name (seen ++ c.name ∷ []) ≡ true =
     list_any-append (bytes_eq c.name) seen (c.name ∷ []) ∙ last (is_among c.name seen) (bytes_eq c.name c.name) (text_self c.name) in
-    ap (λ k. new_names seen (owners k)) (tells_append (column_block m (j, c)) (flat_map (column_block m) (enumerate_from (j + 1) cs)))
-    ∙ ap (new_names seen) (map-append (λ (t : Told). t.owner) (block_told m j c) (told_from m (j + 1) cs))
+    ap (λ k. new_names seen (owners k)) (listed_append (column_block m (j, c)) (flat_map (column_block m) (enumerate_from (j + 1) cs)))
+    ∙ ap (new_names seen) (map-append (λ (t : BareEntry). t.owner) (block_bare m j c) (bare_from m (j + 1) cs))
     ∙ ap (λ u. when (not u) c.name ++ new_names (seen ++ c.name ∷ []) (owners ts ++ rest)) h.0
     ∙ ap (λ k. c.name ∷ k)
     (same_names c.name (seen ++ c.name ∷ []) ts rest here owned
@@ -139,13 +141,13 @@ all_names m j (c ∷ cs) seen d h =
     last false u e = ap (λ k. k || false) e
 
     after : (ks : List Column) → is_among c.name (map (λ k. k.name) ks) ≡ false → Each (λ k. is_among k.name seen ≡ false) ks
-        → Each (λ k. is_among k.name ((seen ++ c.name ∷ []) ++ owners (flat_map tells (flat_map (coef_line j c.name) m.rows))) ≡ false) ks
+        → Each (λ k. is_among k.name ((seen ++ c.name ∷ []) ++ owners (flat_map listed (flat_map (coef_line j c.name) m.rows))) ≡ false) ks
     after [] e g = tt
     after (k ∷ ks) e g =
         let apart = apart_turned c.name k.name (left_false (bytes_eq c.name k.name) (is_among c.name (map (λ y. y.name) ks)) e) in (
-          not_among_more k.name (seen ++ c.name ∷ []) (owners (flat_map tells (flat_map (coef_line j c.name) m.rows)))
+          not_among_more k.name (seen ++ c.name ∷ []) (owners (flat_map listed (flat_map (coef_line j c.name) m.rows)))
               (not_among_more k.name seen (c.name ∷ []) g.0 (ap (λ t. t || false) apart))
-              (not_owned k.name c.name (flat_map tells (flat_map (coef_line j c.name) m.rows)) apart (coefs_owned j c.name m.rows)),
+              (not_owned k.name c.name (flat_map listed (flat_map (coef_line j c.name) m.rows)) apart (coefs_owned j c.name m.rows)),
           after ks (right_false (bytes_eq c.name k.name) (is_among c.name (map (λ y. y.name) ks)) e) g.1,
         )
 
@@ -156,4 +158,4 @@ none_seen (c ∷ cs) = (refl, none_seen cs)
 pub names_read : (m : Parts) → IsProgramText m → AreDistinct (map (λ c. c.name) m.columns)
     → column_names (lines_in (sections_of m)) ≡ map (λ c. c.name) m.columns
 names_read m h d =
-    names_are (lines_in (sections_of m)) ∙ ap (new_names []) (lines_told m h) ∙ all_names m 0 m.columns [] d (none_seen m.columns)
+    names_are (lines_in (sections_of m)) ∙ ap (new_names []) (lines_bare m h) ∙ all_names m 0 m.columns [] d (none_seen m.columns)

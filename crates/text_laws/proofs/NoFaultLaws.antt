@@ -19,10 +19,10 @@ use Rattle.text_laws.proofs.SectionLaws.{AreItems, number_after, items_all, colu
 use Rattle.text_laws.proofs.SectionLaws.{after_right_sides, after_ranges, after_bounds}
 use Rattle.text_laws.proofs.CanonicalLaws.{sections_of, are_sections}
 use Rattle.text_laws.proofs.ReadableLaws.{IsProgramText, IsRowText, IsColumnText, program_text}
-use Rattle.text_laws.proofs.EntryReadLaws.{told, tells_append}
+use Rattle.text_laws.proofs.EntryReadLaws.{bare, listed_append}
 use Rattle.text_laws.proofs.RecordReadLaws.{blocks_of, blocks_triples, not_marker}
-use Rattle.text_laws.proofs.CoefReadLaws.{told_from, block_told, coef_told}
-use Rattle.text_laws.proofs.NameReadLaws.{owners, lines_told, none_seen}
+use Rattle.text_laws.proofs.CoefReadLaws.{bare_from, block_bare, coef_bare}
+use Rattle.text_laws.proofs.NameReadLaws.{owners, lines_bare, none_seen}
 use Rattle.text_laws.proofs.ModelReadLaws.{each_apart}
 use Rattle.text_laws.proofs.ContinuousLaws.{triples_items, plain_lines, row_part, mark}
 use Rattle.text_laws.proofs.FreshLaws.{columns_new, right_sides_fresh, ranges_fresh}
@@ -46,7 +46,7 @@ record IsNamed (m : Parts) : Type 0 where
   columns : AreDistinct (map (λ c. c.name) m.columns)
   rows : AreDistinct (m.objective ∷ map (λ r. r.name) m.rows)
 
--- the section words, as many as came before each section
+-- the section words before each section
 abbrev to_rows : List (List ℕ)
 to_rows = codes "NAME" ∷ codes "ROWS" ∷ []
 
@@ -75,30 +75,30 @@ end_part before n e =
     (opening_faultless before n (codes "ENDATA") to_bounds e refl refl) refl
 
 -- each column is on a line of COLUMNS
-column_owned : (m : Parts) (j : ℕ) (cs : List Column) → Each (λ c. is_among c.name (owners (told_from m j cs)) ≡ true) cs
+column_owned : (m : Parts) (j : ℕ) (cs : List Column) → Each (λ c. is_among c.name (owners (bare_from m j cs)) ≡ true) cs
 column_owned m j [] = tt
 column_owned m j (c ∷ cs) = (here, later cs (column_owned m (j + 1) cs))
   where
     more : (name : List ℕ)
-        → is_among name (owners (told_from m j (c ∷ cs)))
-        ≡ (is_among name (owners (block_told m j c)) || is_among name (owners (told_from m (j + 1) cs)))
+        → is_among name (owners (bare_from m j (c ∷ cs)))
+        ≡ (is_among name (owners (block_bare m j c)) || is_among name (owners (bare_from m (j + 1) cs)))
     more name =
-        ap (λ ts. is_among name (owners ts)) (tells_append (column_block m (j, c)) (flat_map (column_block m) (enumerate_from (j + 1) cs)))
-        ∙ ap (is_among name) (map-append (λ t. t.owner) (block_told m j c) (told_from m (j + 1) cs))
-        ∙ list_any-append (bytes_eq name) (owners (block_told m j c)) (owners (told_from m (j + 1) cs))
+        ap (λ ts. is_among name (owners ts)) (listed_append (column_block m (j, c)) (flat_map (column_block m) (enumerate_from (j + 1) cs)))
+        ∙ ap (is_among name) (map-append (λ t. t.owner) (block_bare m j c) (bare_from m (j + 1) cs))
+        ∙ list_any-append (bytes_eq name) (owners (block_bare m j c)) (owners (bare_from m (j + 1) cs))
 
-    here : is_among c.name (owners (told_from m j (c ∷ cs))) ≡ true
+    here : is_among c.name (owners (bare_from m j (c ∷ cs))) ≡ true
     here =
         more c.name
-        ∙ ap (λ t. (t || is_among c.name (owners (coef_told j c.name m.rows))) || is_among c.name (owners (told_from m (j + 1) cs)))
+        ∙ ap (λ t. (t || is_among c.name (owners (coef_bare j c.name m.rows))) || is_among c.name (owners (bare_from m (j + 1) cs)))
         (text_self c.name)
 
-    later : (ks : List Column) → Each (λ k. is_among k.name (owners (told_from m (j + 1) cs)) ≡ true) ks
-        → Each (λ k. is_among k.name (owners (told_from m j (c ∷ cs))) ≡ true) ks
+    later : (ks : List Column) → Each (λ k. is_among k.name (owners (bare_from m (j + 1) cs)) ≡ true) ks
+        → Each (λ k. is_among k.name (owners (bare_from m j (c ∷ cs))) ≡ true) ks
     later [] g = tt
     later (k ∷ ks) g = (
       more k.name
-          ∙ either_true (is_among k.name (owners (block_told m j c))) (is_among k.name (owners (told_from m (j + 1) cs))) g.0,
+          ∙ either_true (is_among k.name (owners (block_bare m j c))) (is_among k.name (owners (bare_from m (j + 1) cs))) g.0,
       later ks g.1,
     )
 
@@ -106,12 +106,12 @@ columns_bounded : (m : Parts) (before : List Line) → IsProgramText m → items
     → Each (IsBounded before) m.columns
 columns_bounded m before h e = all m.columns h.columns (column_owned m 0 m.columns)
   where
-    names : map column_name (filter (λ l. not (is_marker l)) (items_of (codes "COLUMNS") before)) ≡ owners (told_from m 0 m.columns)
+    names : map column_name (filter (λ l. not (is_marker l)) (items_of (codes "COLUMNS") before)) ≡ owners (bare_from m 0 m.columns)
     names =
         ap (λ k. map column_name (filter (λ l. not (is_marker l)) k)) (e ∙ sym (columns_are (sections_of m) (are_sections m)))
-        ∙ lines_told m h
+        ∙ lines_bare m h
 
-    all : (cs : List Column) → Each IsColumnText cs → Each (λ c. is_among c.name (owners (told_from m 0 m.columns)) ≡ true) cs
+    all : (cs : List Column) → Each IsColumnText cs → Each (λ c. is_among c.name (owners (bare_from m 0 m.columns)) ≡ true) cs
         → Each (IsBounded before) cs
     all [] t g = tt
     all (c ∷ cs) t g = (record { known = ap (is_among c.name) names ∙ g.0; lo = (t.0).lo; hi = (t.0).hi }, all cs t.1 g.1)
@@ -152,7 +152,7 @@ ranges_part m h before n hs k =
     (section_faultless (before ++ l ∷ []) (suc n) (codes "RANGES") s.ranges (after_ranges s) ((are_sections m).ranges)
     (sets_faultless (codes "RANGES") (record { no_rows = refl; no_columns = refl; no_bounds = refl }) (rows_named m) (before
     ++ l ∷ []) (suc n) s.ranges [] (ap (is_among (codes "ROWS")) now.words_are) (rows_known m (before ++ l ∷ []) now.rows_are)
-    (ap (λ y. map told (flat_map entries_of y)) now.ranges_are) (ranges_entries m h.text) (ranges_fresh m ((h.rows).1)))
+    (ap (λ y. map bare (flat_map entries_of y)) now.ranges_are) (ranges_entries m h.text) (ranges_fresh m ((h.rows).1)))
     (bounds_part m h ((before ++ l ∷ []) ++ lines_from (suc n) (codes "RANGES") s.ranges) (number_after (suc n) s.ranges) (row_part m) hs
     (lines_from (suc n) (codes "RANGES") s.ranges)
     (after_range_lines (before ++ l ∷ []) to_ranges (row_part m) (column_part m) hs (suc n) s.ranges ((are_sections m).ranges) now)))
@@ -168,7 +168,7 @@ right_sides_part m h before n k =
     (section_faultless (before ++ l ∷ []) (suc n) (codes "RHS") s.right_sides (after_right_sides s) ((are_sections m).right_sides)
     (sets_faultless (codes "RHS") (record { no_rows = refl; no_columns = refl; no_bounds = refl }) (rows_named m) (before
     ++ l ∷ []) (suc n) s.right_sides [] (ap (is_among (codes "ROWS")) now.words_are) (rows_known m (before ++ l ∷ []) now.rows_are)
-    (ap (λ y. map told (flat_map entries_of y)) now.right_sides_are) (right_sides_entries m h.text) (right_sides_fresh m h.rows))
+    (ap (λ y. map bare (flat_map entries_of y)) now.right_sides_are) (right_sides_entries m h.text) (right_sides_fresh m h.rows))
     (ranges_part m h ((before ++ l ∷ []) ++ lines_from (suc n) (codes "RHS") s.right_sides) (number_after (suc n) s.right_sides)
     (lines_from (suc n) (codes "RHS") s.right_sides)
     (after_right_lines (before ++ l ∷ []) to_right_sides (row_part m) (column_part m) (suc n) s.right_sides
@@ -210,7 +210,7 @@ column_lines_faultless m h before n came rows none = by (length m.columns == 0)
 
     known : ColumnsKnown inner []
     known = record {
-      told_are = ap (λ k. map told (flat_map entries_of k)) marked;
+      bare_are = ap (λ k. map bare (flat_map entries_of k)) marked;
       names_are = ap (λ k. map column_name (filter (λ l. not (is_marker l)) k)) marked;
       last_is = λ name. ap (λ k. option_map_or (λ (l : Line). not (is_marker l) && bytes_eq (column_name l) name) (last_of k) false) marked;
     }

@@ -15,7 +15,8 @@ use Rattle.std.proofs.Math.Nat.{div-le_self, mul-le-mul_left}
 use Rattle.std.proofs.lemmas.Int.{ints}
 use Rattle.decimals.proofs.DecimalLaws.{least_units, units-none}
 use Rattle.decimals.proofs.NumberLaws.{value_from-append, none_after, tens_rise}
-use Rattle.text_laws.proofs.NumeralLaws.{digit_range, decimal_digits, decimal_value, decimal_some, places_digits, places_short, places_none}
+use Rattle.text_laws.proofs.NumeralLaws.{digit_range, decimal_digits, decimal_value, decimal_some, places_digits, places_short}
+use Rattle.text_laws.proofs.NumeralLaws.{places_none}
 use Rattle.text_laws.proofs.NumeralLaws.{none_among, no_point, no_mark, no_sign, all_before, before_it, after_it}
 use Rattle.text_laws.proofs.ScaleLaws.{places_value, zeros_dropped, units_back}
 use Rattle.mps_defs.specs.Numbers.{is_digit, is_point, is_exponent_mark, is_numeral, is_number, is_infinity, is_minus, without_sign}
@@ -118,7 +119,7 @@ begins_low d ds e =
     lower : (c : ℕ) → c < 65 → to_ascii_lowercase c ≡ c
     lower c h = ap (λ t. cond t c (cond (nat_lt c 91) (c + 32) c)) (lt-ltb c 65 h)
 
--- ---- the text of a size
+-- ---- the text of an absolute value
 
 size_is : (n k : ℕ) → unsigned_text n k ≡ joined (decimal (n / 10 ^ k)) (places k (n % 10 ^ k))
 size_is n k = by (n % 10 ^ k == 0) refl
@@ -191,7 +192,7 @@ small_number negative n k l = by (nat_le (10 ^ (20 + k)) n) refl
     by true e = absurd (let above = leb-true (10 ^ (20 + k)) n e in omega arith)
     by false e = refl
 
--- the digits of a size stand for it
+-- the digits of an absolute value write it
 size_number : (negative : Bool) (n k : ℕ) → n < 2 ^ 64
     → number_from negative (value_from 0 (decimal (n / 10 ^ k) ++ places k (n % 10 ^ k))) (length (places k (n % 10 ^ k)))
     ≡ least_number negative n k
@@ -266,7 +267,8 @@ signed_size negative text n k h most without minus short =
     let read = read_body negative text (unsigned_text n k) without minus short plain.finite numeral in (
       read.0,
       read.1
-          ∙ ap Some (fraction_is negative (decimal (n / 10 ^ k)) (places k (n % 10 ^ k)) (unsigned_text n k) b ∙ size_number negative n k h),
+          ∙ ap Some (fraction_is negative (decimal (n / 10 ^ k)) (places k (n % 10 ^ k)) (unsigned_text n k) b
+          ∙ size_number negative n k h),
     )
 
 abbrev pub is_below_zero : ℤ → Bool

@@ -44,7 +44,7 @@ decimal_value n h = let e = decimal_is_IsNumeral n h in same_value 0 (decimal n)
 pub decimal_some : (n : ℕ) → n < 2 ^ 64 → 1 ≤ length (decimal n)
 decimal_some n h = (decimal_is_IsNumeral n h).0.0
 
--- ---- the digits of a rest
+-- ---- the digits of a fraction
 
 pub places_none : (k : ℕ) → places k 0 ≡ []
 places_none zero = refl

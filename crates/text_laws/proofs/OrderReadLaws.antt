@@ -1,5 +1,6 @@
 -- The coefficients of a row are read in their order.
-use Rattle.std.specs.Prelude.{◌≡◌, ◌≢◌, ℕ, zero, suc, ◌+◌, ◌<◌, ◌≤◌, ◌^◌, ◌==◌, nat_le, Bool, true, false, not, cond, List, [], ◌∷◌, length}
+use Rattle.std.specs.Prelude.{◌≡◌, ◌≢◌, ℕ, zero, suc, ◌+◌, ◌<◌, ◌≤◌, ◌^◌, ◌==◌, nat_le, Bool, true, false, not, cond, List, [], ◌∷◌}
+use Rattle.std.specs.Prelude.{length}
 use Rattle.std.specs.Prelude.{map, filter, filter_map, find, Option, None, Some, option_map, slice_get, ℤ, pos, negsuc, ⊤}
 use Rattle.std.specs.List.{enumerate_from, cons_option}
 use Rattle.std.specs.Int.RustNames.{unsigned_abs}

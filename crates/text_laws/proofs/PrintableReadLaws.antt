@@ -18,20 +18,20 @@ use Rattle.ip_defs.proofs.BoolLaws.{left_false, right_false, left_true}
 use Rattle.ip_defs.proofs.ListLaws.{each_weaker, each_numbered, none_append, none_when}
 use Rattle.ip_defs.proofs.TextLaws.{text_turned}
 use Rattle.mps_defs.specs.Lists.{is_among, with_earlier, through_first}
-use Rattle.mps_defs.specs.Records.{Line, is_line_end, is_blank, without_return, fields_of, is_read, numbered, is_end_line, line_of, lines_of}
+use Rattle.mps_defs.specs.Records.{Line, is_line_end, is_blank, without_return, fields_of, is_read, numbered, is_end_line, line_of}
+use Rattle.mps_defs.specs.Records.{lines_of}
 use Rattle.mps_defs.specs.Records.{field, items_of, words_of, row_kind, row_name, row_lines, row_names, is_free, objective, column_name}
 use Rattle.mps_defs.specs.Records.{column_names, first_lines, is_new_column}
-use Rattle.mps_defs.specs.TextModels.{row_from, column_from, row_decimals}
 use Rattle.mps_defs.specs.CanonicalText.{is_separator, is_printable_name, is_printable}
-use Rattle.mps_defs.specs.Faults.{line_faults, row_faults, faults_after, mps_fault, model_of}
+use Rattle.mps_defs.specs.Faults.{line_faults, faults_after, mps_fault, model_of}
 use Rattle.mps_defs.specs.declared.reading.How.{How}
 use Rattle.mps_defs.specs.declared.reading.MpsError.TheVariants.{SectionOrder, FieldCount, RowKind, TwiceRow, Marker}
 use Rattle.mps_defs.proofs.UncrossedLaws.{no_row_crossed}
 use Rattle.text_laws.specs.ReadBack.{has_return, program_names, column_names_of, ModelsReadArePrintable}
-use Rattle.text_laws.proofs.EachLaws.{each_filter, each_passes, each_of_map, each_through, each_those}
-use Rattle.text_laws.proofs.KeptReadLaws.{by_parts}
+use Rattle.text_laws.proofs.EachLaws.{each_filter, each_kept, each_of_map, each_through, each_those}
+use Rattle.text_laws.proofs.DistinctReadLaws.{row_line}
 use Rattle.text_laws.proofs.ListLaws.{each_both}
-use Rattle.text_laws.proofs.ReadCanonicalLaws.{IsFaultless, faultless, find_each}
+use Rattle.text_laws.proofs.ReadCanonicalLaws.{IsFaultless, bound_lines, faultless, find_each, read_column, read_row}
 use Rattle.text_laws.proofs.Utf8ReadLaws.{first_part}
 
 -- ---- parts between the bytes at which a text is cut
@@ -96,7 +96,7 @@ IsCut f = (list_any is_blank f ≡ false) × (list_any is_line_end f ≡ false)
 fields_cut : (line : List ℕ) → list_any is_line_end line ≡ false → Each IsField (fields_of line)
 fields_cut line none =
     each_both (λ f. nat_le 1 (length f) ≡ true) IsCut IsField (fields_of line)
-    (each_passes (λ f. nat_le 1 (length f)) (slice_split is_blank line))
+    (each_kept (λ f. nat_le 1 (length f)) (slice_split is_blank line))
     (each_filter IsCut (λ f. nat_le 1 (length f)) (slice_split is_blank line)
     (each_both (λ f. list_any is_blank f ≡ false) (λ f. list_any is_line_end f ≡ false) IsCut (slice_split is_blank line)
     (parts_without is_blank is_blank line (each_cut is_blank line))
@@ -129,7 +129,7 @@ lines_cut text =
 
     kept : Each (λ p. IsCutText p.1) (numbered text)
     kept = each_both (λ p. is_read p ≡ true) (λ p. list_any is_line_end p.1 ≡ false) (λ p. IsCutText p.1) (numbered text)
-        (each_passes is_read (enumerate_from 1 (map without_return raw)))
+        (each_kept is_read (enumerate_from 1 (map without_return raw)))
         (each_filter (λ p. list_any is_line_end p.1 ≡ false) is_read (enumerate_from 1 (map without_return raw))
         (each_numbered (λ line. list_any is_line_end line ≡ false) 1 (map without_return raw) plain))
         (λ p e none. record { some = left_true (nat_le 1 (length (fields_of p.1))) _ e; all = fields_cut p.1 none })
@@ -182,40 +182,21 @@ names_printable name (x ∷ xs) all =
 -- ---- rows
 
 -- a line of ROWS has two fields, and the second is not 'MARKER'
-record IsRowLine (l : Line) : Type 0 where
+record IsNamedRow (l : Line) : Type 0 where
   count : (length l.fields == 2) ≡ true
-  name : bytes_eq (row_name l) (codes "'MARKER'") ≡ false
+  plain : bytes_eq (row_name l) (codes "'MARKER'") ≡ false
 
-row_line : (before : List Line) (l : Line) → l.is_item ≡ true → l.section ≡ codes "ROWS" → line_faults before l ≡ [] → IsRowLine l
-row_line before l item own =
-    by_parts (λ k. line_faults before k ≡ [] → IsRowLine k) l (codes "ROWS") item own
-    (parts (record { number = l.number; is_item = true; section = codes "ROWS"; fields = l.fields }))
-  where
-    parts : (k : Line) → when (not (is_among (codes "ROWS") (words_of before))) (SectionOrder k.number) ++ row_faults before k ≡ []
-        → IsRowLine k
-    parts k none =
-        let count = when (not (length k.fields == 2)) (FieldCount k.number) in
-        let kind = when (not (is_among (row_kind k) (codes "N" ∷ codes "L" ∷ codes "G" ∷ codes "E" ∷ []))) (RowKind k.number) in
-        let twice = when (is_among (row_name k) (row_names before)) (TwiceRow k.number) in
-        let mark = when (bytes_eq (row_name k) (codes "'MARKER'")) (Marker k.number) in
-        let own = none_append (when (not (is_among (codes "ROWS") (words_of before))) (SectionOrder k.number)) (row_faults before k) none in
-        let last = none_append (count ++ kind ++ twice) mark own.1 in
-        let third = none_append (count ++ kind) twice last.0 in
-        let second = none_append count kind third.0 in
-        record {
-          count = not-false (length k.fields == 2) (none_when (not (length k.fields == 2)) (FieldCount k.number) second.0);
-          name = none_when (bytes_eq (row_name k) (codes "'MARKER'")) (Marker k.number) last.1;
-        }
-
-rows_lines : (before ls : List Line) → faults_after before ls ≡ [] → Each IsRowLine (row_lines ls)
+rows_lines : (before ls : List Line) → faults_after before ls ≡ [] → Each IsNamedRow (row_lines ls)
 rows_lines before [] none = tt
 rows_lines before (l ∷ ls) none =
     let parts = none_append (line_faults before l) (faults_after (before ++ l ∷ []) ls) none in
     by l.is_item (bytes_eq l.section (codes "ROWS")) refl refl parts.0 (rows_lines (before ++ l ∷ []) ls parts.1)
   where
     by : (t u : Bool) → l.is_item ≡ t → bytes_eq l.section (codes "ROWS") ≡ u → line_faults before l ≡ []
-        → Each IsRowLine (row_lines ls) → Each IsRowLine (cond (t && u) (l ∷ row_lines ls) (row_lines ls))
-    by true true e f none rest = (row_line before l e ((bytes_eq-Decides l.section (codes "ROWS")).0 f) none, rest)
+        → Each IsNamedRow (row_lines ls) → Each IsNamedRow (cond (t && u) (l ∷ row_lines ls) (row_lines ls))
+    by true true e f none rest =
+        let right = row_line before l e ((bytes_eq-Decides l.section (codes "ROWS")).0 f) none in
+        (record { count = right.count; plain = right.plain }, rest)
     by true false e f none rest = rest
     by false u e f none rest = rest
 
@@ -224,10 +205,10 @@ record IsRowName (name : List ℕ) : Type 0 where
   field : IsField name
   plain : is_marker_name name ≡ false
 
-named_row : (l : Line) → IsCutLine l → IsRowLine l → IsRowName (row_name l)
+named_row : (l : Line) → IsCutLine l → IsNamedRow l → IsRowName (row_name l)
 named_row l cut row = record {
   field = second l.fields (eqb-true (length l.fields) 2 row.count) cut.all;
-  plain = text_turned (codes "'MARKER'") (row_name l) ∙ row.name;
+  plain = text_turned (codes "'MARKER'") (row_name l) ∙ row.plain;
 }
   where
     second : (fs : List (List ℕ)) → length fs ≡ 2 → Each IsField fs → IsField (slice_index_or fs 1 [])
@@ -286,20 +267,11 @@ models_printable text how none =
     h : IsFaultless text how
     h = faultless text how none
 
-    bound : List Line
-    bound = filter (λ l. not (is_free l)) (row_lines ls)
-
-    row : Line → Row
-    row l = row_from ls how (row_kind l) (row_name l)
-
-    column : List ℕ → Column
-    column = column_from ls how (unwrap_or (objective ls) []) (row_decimals ls how (unwrap_or (objective ls) []))
-
     cut : Each IsCutLine ls
     cut = lines_cut text
 
     named : Each (λ l. IsRowName (row_name l)) (row_lines ls)
-    named = each_both IsCutLine IsRowLine (λ l. IsRowName (row_name l)) (row_lines ls)
+    named = each_both IsCutLine IsNamedRow (λ l. IsRowName (row_name l)) (row_lines ls)
         (each_filter IsCutLine (λ l. l.is_item && bytes_eq l.section (codes "ROWS")) ls cut) (rows_lines [] ls h.lines) named_row
 
     objective_name : IsRowName m.objective
@@ -307,11 +279,11 @@ models_printable text how none =
         (find_each (λ l. IsRowName (row_name l)) is_free (row_lines ls) (h.objective).0 named (h.objective).1)
 
     rows : Each (λ (r : Row). IsRowName r.name) m.rows
-    rows = each_of_map (λ (r : Row). IsRowName r.name) row bound
+    rows = each_of_map (λ (r : Row). IsRowName r.name) (read_row how ls) (bound_lines ls)
         (each_filter (λ l. IsRowName (row_name l)) (λ l. not (is_free l)) (row_lines ls) named)
 
     columns : Each (λ (c : Column). IsField c.name) m.columns
-    columns = each_of_map (λ (c : Column). IsField c.name) column (column_names ls)
+    columns = each_of_map (λ (c : Column). IsField c.name) (read_column how ls) (column_names ls)
         (each_of_map IsField (λ (p : List Line × Line). column_name p.1) (first_lines ls)
         (each_filter (λ (p : List Line × Line). IsField (column_name p.1)) (λ p. is_new_column p.0 p.1) (with_earlier ls)
         (each_weaker (λ (p : List Line × Line). IsCutLine p.1) (λ p. IsField (column_name p.1)) (with_earlier ls)

@@ -16,7 +16,7 @@ use Rattle.mps_defs.specs.Faults.{mps_fault, model_of}
 use Rattle.ip_defs.specs.declared.programs.Column.{Column}
 use Rattle.ip_defs.specs.declared.programs.Row.{Row}
 use Rattle.ip_defs.specs.declared.programs.Parts.{Parts}
-use Rattle.ip_defs.specs.declared.limits.Limit as Passing
+use Rattle.ip_defs.specs.declared.limits.Limit as Exceeded
 use Rattle.mps_defs.specs.declared.reading.How.{How}
 use Rattle.mps_defs.specs.declared.reading.MpsError.TheVariants.{NoEnd, NoObjective, NotUtf8, Limit}
 use Rattle.ip_model.proofs.LimitLaws.{within_limits}
@@ -43,7 +43,7 @@ pub record IsFaultless (text : List ℕ) (how : How) : Type 0 where
 no_limits : (m : Parts) → limit_faults m ≡ [] → limits_of m ≡ []
 no_limits m e = by (limits_of m) e
   where
-    by : (ls : List Passing.Limit) → map Limit ls ≡ [] → ls ≡ []
+    by : (ls : List Exceeded.Limit) → map Limit ls ≡ [] → ls ≡ []
     by [] f = refl
     by (l ∷ ls) f = absurd cc
 
@@ -86,6 +86,18 @@ faultless text how none = by (is_utf8 text) refl none
     by true valid e = from valid (no_first (faults_of_lines ls how) e)
     by false valid e = absurd cc
 
+-- ---- the rows and the columns of the model of lines
+
+abbrev pub bound_lines : List Line → List Line
+bound_lines ls = filter (λ l. not (is_free l)) (row_lines ls)
+
+abbrev pub read_row : How → List Line → Line → Row
+read_row how ls l = row_from ls how (row_kind l) (row_name l)
+
+abbrev pub read_column : How → List Line → List ℕ → Column
+read_column how ls =
+    column_from ls how (unwrap_or (objective ls) []) (row_decimals ls how (unwrap_or (objective ls) []))
+
 -- ---- names
 
 pub find_each : {A : Type 0} (P : A → Type 0) (test : A → Bool) (xs : List A) (x : A) → Each P xs → find test xs ≡ Some x → P x
@@ -111,11 +123,12 @@ text_names text how h = record {
   objective = ap (λ o. is_utf8 (unwrap_or (option_map row_name o) [])) (h.objective).1
       ∙ is_utf8-from_IsUtf8 (row_name (h.objective).0)
       (field_utf8 (h.objective).0 1 (find_each IsTextLine is_free (row_lines ls) (h.objective).0 rows (h.objective).1));
-  columns = λ j c at. each_get (λ (x : Column). is_utf8 x.name ≡ true) (map column (column_names ls)) j c
-      (each_of_map (λ (x : Column). is_utf8 x.name ≡ true) column (column_names ls) names) at;
-  rows = λ i r at. each_get (λ (x : Row). is_utf8 x.name ≡ true) (map row bound) i r
-      (each_of_map (λ (x : Row). is_utf8 x.name ≡ true) row bound
-      (each_weaker IsTextLine (λ l. is_utf8 (row_name l) ≡ true) bound (λ l f. is_utf8-from_IsUtf8 (row_name l) (field_utf8 l 1 f))
+  columns = λ j c at. each_get (λ (x : Column). is_utf8 x.name ≡ true) (map (read_column how ls) (column_names ls)) j c
+      (each_of_map (λ (x : Column). is_utf8 x.name ≡ true) (read_column how ls) (column_names ls) names) at;
+  rows = λ i r at. each_get (λ (x : Row). is_utf8 x.name ≡ true) (map (read_row how ls) (bound_lines ls)) i r
+      (each_of_map (λ (x : Row). is_utf8 x.name ≡ true) (read_row how ls) (bound_lines ls)
+      (each_weaker IsTextLine (λ l. is_utf8 (row_name l)
+      ≡ true) (bound_lines ls) (λ l f. is_utf8-from_IsUtf8 (row_name l) (field_utf8 l 1 f))
       (each_filter IsTextLine (λ l. not (is_free l)) (row_lines ls) rows))) at;
 }
   where
@@ -127,15 +140,6 @@ text_names text how h = record {
 
     rows : Each IsTextLine (row_lines ls)
     rows = each_filter IsTextLine (λ l. l.is_item && bytes_eq l.section (codes "ROWS")) ls all
-
-    bound : List Line
-    bound = filter (λ l. not (is_free l)) (row_lines ls)
-
-    row : Line → Row
-    row l = row_from ls how (row_kind l) (row_name l)
-
-    column : List ℕ → Column
-    column = column_from ls how (unwrap_or (objective ls) []) (row_decimals ls how (unwrap_or (objective ls) []))
 
     names : Each (λ n. is_utf8 n ≡ true) (column_names ls)
     names = each_of_map (λ n. is_utf8 n ≡ true) (λ (p : List Line × Line). column_name p.1) (first_lines ls)
@@ -150,15 +154,17 @@ models_canonical text how digits none printable = record {
   printable = printable;
   limits = limits;
   texts = text_names text how h;
-  columns = subst AreDistinct (sym (names_back (λ (c : Column). c.name) column (λ n. refl) (column_names ls))) (columns_distinct ls);
+  columns = subst AreDistinct (sym (names_back (λ (c : Column). c.name) (read_column how ls) (λ n. refl) (column_names ls)))
+      (columns_distinct ls);
   rows = subst AreDistinct
-      (ap (λ o. row_name l ∷ o) (sym (rows_back how ls bound))
-      ∙ ap (λ o. unwrap_or (option_map row_name o) [] ∷ map (λ (r : Row). r.name) (map row bound)) (sym at)) (row_names_distinct ls l
+      (ap (λ o. row_name l ∷ o) (sym (rows_back how ls (bound_lines ls)))
+      ∙ ap (λ o. unwrap_or (option_map row_name o) [] ∷ map (λ (r : Row). r.name) (map (read_row how ls) (bound_lines ls))) (sym at))
+      (row_names_distinct ls l
       (sound_read text h.lines) at);
   digits = digits;
   decimals = record {
     costs = cost_least ls how read (row_name l) (ap (option_map row_name) at);
-    rows = λ i r g. (let made = get_from_map row bound i r g in
+    rows = λ i r g. (let made = get_from_map (read_row how ls) (bound_lines ls) i r g in
         subst (λ (x : Row). x.decimals ≡ largest how.digits (map (needed_decimals x.decimals) (row_amounts x))) made.2
         (row_least ls how (row_kind made.0) (row_name made.0) read (subst IsRow (sym made.2) (limits.rows i r g))));
   };
@@ -175,15 +181,6 @@ models_canonical text how digits none printable = record {
 
     at : find is_free (row_lines ls) ≡ Some l
     at = (h.objective).1
-
-    bound : List Line
-    bound = filter (λ k. not (is_free k)) (row_lines ls)
-
-    row : Line → Row
-    row k = row_from ls how (row_kind k) (row_name k)
-
-    column : List ℕ → Column
-    column = column_from ls how (unwrap_or (objective ls) []) (row_decimals ls how (unwrap_or (objective ls) []))
 
     read : AreRead ls
     read = entries_read ls (sound_read text h.lines)

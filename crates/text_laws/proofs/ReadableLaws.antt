@@ -31,6 +31,7 @@ use Rattle.text_laws.proofs.SectionLaws.{Sections, AreSections, AreItems, sectio
 use Rattle.text_laws.proofs.SectionLaws.{after_right_sides, after_ranges, after_bounds}
 use Rattle.text_laws.proofs.CanonicalLaws.{sections_of, canonical_sections, are_sections}
 use Rattle.ip_defs.proofs.BoolLaws.{both_true}
+use Rattle.std.proofs.lemmas.Bool.{not-true}
 use Rattle.ip_defs.proofs.ListLaws.{each_numbered}
 use Rattle.mps_defs.proofs.NumberLaws.{ten_positive}
 
@@ -107,17 +108,25 @@ pub all_from : {A : Type 0} (P : A → Type 0) (xs : List A) → ((i : ℕ) (x :
 all_from P [] h = tt
 all_from P (x ∷ xs) h = (h 0 x refl, all_from P xs (λ i y e. h (suc i) y e))
 
-listed : {A : Type 0} (test : A → Bool) (xs : List A) → list_all test xs ≡ true → (i : ℕ) (x : A) → slice_get xs i ≡ Some x → test x ≡ true
-listed test [] e i x at = absurd cc
-listed test (y ∷ ys) e zero x at = let same : y ≡ x = cc in ap test (sym same) ∙ (both_true (test y) (list_all test ys) e).0
-listed test (y ∷ ys) e (suc i) x at = listed test ys (both_true (test y) (list_all test ys) e).1 i x at
+each_tested : {A : Type 0} (test : A → Bool) (xs : List A) → list_all test xs ≡ true → (i : ℕ) (x : A) → slice_get xs i ≡ Some x
+    → test x ≡ true
+each_tested test [] e i x at = absurd cc
+each_tested test (y ∷ ys) e zero x at = let same : y ≡ x = cc in ap test (sym same) ∙ (both_true (test y) (list_all test ys) e).0
+each_tested test (y ∷ ys) e (suc i) x at = each_tested test ys (both_true (test y) (list_all test ys) e).1 i x at
 
 small_coefs : (ps : List (ℕ × ℤ)) → AreSmall (2 ^ 40) ps → Each (λ p. unsigned_abs p.1 < 2 ^ 64) ps
 small_coefs [] h = tt
 small_coefs (p ∷ ps) h = (let here = h 0 (omega arith) in omega arith, small_coefs ps (λ i l. h (suc i) (omega arith)))
 
-pub program_text : (m : Parts) → is_printable m ≡ true → IsWithinLimits m → IsProgramText m
-program_text m e w =
+-- what it says of a program that it is printable
+pub record ArePrintable (m : Parts) : Type 0 where
+  pub uncrossed : list_any is_crossed m.rows ≡ false
+  pub objective : is_printable_name m.objective ≡ true
+  pub columns : list_all (λ c. is_printable_name c.name) m.columns ≡ true
+  pub rows : list_all (λ r. is_printable_name r.name) m.rows ≡ true
+
+pub printable_parts : (m : Parts) → is_printable m ≡ true → ArePrintable m
+printable_parts m e =
     let first =
     both_true (not (list_any is_crossed m.rows) && is_printable_name m.objective && list_all (λ c. is_printable_name c.name) m.columns)
     (list_all (λ r. is_printable_name r.name) m.rows) e in
@@ -126,12 +135,22 @@ program_text m e w =
     (list_all (λ c. is_printable_name c.name) m.columns) first.0 in
     let third = both_true (not (list_any is_crossed m.rows)) (is_printable_name m.objective) second.0 in
     record {
+      uncrossed = not-true (list_any is_crossed m.rows) third.0;
       objective = third.1;
+      columns = second.1;
+      rows = first.1;
+    }
+
+pub program_text : (m : Parts) → is_printable m ≡ true → IsWithinLimits m → IsProgramText m
+program_text m e w =
+    let parts = printable_parts m e in
+    record {
+      objective = parts.objective;
       decimals = w.shape.decimals;
       constant = let l = w.constant in omega arith;
       columns = all_from IsColumnText m.columns
           (λ i c at. let l = w.columns i c at in record {
-            name = listed (λ x. is_printable_name x.name) m.columns second.1 i c at;
+            name = each_tested (λ x. is_printable_name x.name) m.columns parts.columns i c at;
             cost = omega
                 (arith, l.cost);
             lo = omega (arith, l.lo);
@@ -139,7 +158,7 @@ program_text m e w =
           });
       rows = all_from IsRowText m.rows
           (λ i r at. let l = w.rows i r at in record {
-            name = listed (λ x. is_printable_name x.name) m.rows first.1 i r at;
+            name = each_tested (λ x. is_printable_name x.name) m.rows parts.rows i r at;
             decimals =
                 (w.shape.rows i r at).decimals;
             coefs = small_coefs r.coefs l.coefs;

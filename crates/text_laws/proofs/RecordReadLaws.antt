@@ -22,7 +22,7 @@ use Rattle.text_laws.proofs.SectionLaws.{lines_in, rows_are, columns_are, right_
 use Rattle.text_laws.proofs.SectionLaws.{ranges_at}
 use Rattle.text_laws.proofs.CanonicalLaws.{sections_of, are_sections}
 use Rattle.text_laws.proofs.ReadableLaws.{IsProgramText, IsRowText}
-use Rattle.text_laws.proofs.EntryReadLaws.{told, tells, AreTriples}
+use Rattle.text_laws.proofs.EntryReadLaws.{bare, listed, AreTriples}
 use Rattle.ip_defs.proofs.BoolLaws.{both_true}
 use Rattle.ip_defs.proofs.TextLaws.{text_self}
 
@@ -130,10 +130,10 @@ blocks_triples m h xs =
     any [] = tt
     any (y ∷ ys) = (tt, any ys)
 
--- what the entries of COLUMNS tell
-pub columns_told : (m : Parts) → IsProgramText m
-    → map told (all_entries (codes "COLUMNS") (lines_in (sections_of m))) ≡ flat_map tells (blocks_of m)
-columns_told m h = ap (λ ls. map told (flat_map entries_of ls)) (columns_are (sections_of m) (are_sections m)) ∙ by m.columns
+-- what the entries of COLUMNS are
+pub columns_bare : (m : Parts) → IsProgramText m
+    → map bare (all_entries (codes "COLUMNS") (lines_in (sections_of m))) ≡ flat_map listed (blocks_of m)
+columns_bare m h = ap (λ ls. map bare (flat_map entries_of ls)) (columns_are (sections_of m) (are_sections m)) ∙ by m.columns
   where
     first : ℕ
     first = columns_at (sections_of m)
@@ -145,15 +145,15 @@ columns_told m h = ap (λ ls. map told (flat_map entries_of ls)) (columns_are (s
     last = triple (codes "M") (codes "'MARKER'") (codes "'INTEND'")
 
     after : (n : ℕ) (ds : List Written) → AreTriples ds
-        → map told (flat_map entries_of (lines_from n (codes "COLUMNS") (ds ++ last ∷ []))) ≡ flat_map tells ds
+        → map bare (flat_map entries_of (lines_from n (codes "COLUMNS") (ds ++ last ∷ []))) ≡ flat_map listed ds
     after n [] t = refl
     after n (d ∷ ds) t = two d ds t (after (suc n) ds t.1)
       where
         two : (e : Written) (es : List Written) → AreTriples (e ∷ es)
-            → map told (flat_map entries_of (lines_from (suc n) (codes "COLUMNS") (es ++ last ∷ []))) ≡ flat_map tells es
-            → map told (flat_map entries_of (lines_from n (codes "COLUMNS") (e ∷ (es ++ last ∷ [])))) ≡ flat_map tells (e ∷ es)
+            → map bare (flat_map entries_of (lines_from (suc n) (codes "COLUMNS") (es ++ last ∷ []))) ≡ flat_map listed es
+            → map bare (flat_map entries_of (lines_from n (codes "COLUMNS") (e ∷ (es ++ last ∷ [])))) ≡ flat_map listed (e ∷ es)
         two (true, a ∷ b ∷ c ∷ []) es k rest =
-            ap (λ u. map told ((if u then [] else record { line = n; owner = a; row = b; text = c } ∷ [])
+            ap (λ u. map bare ((if u then [] else record { line = n; owner = a; row = b; text = c } ∷ [])
             ++ flat_map entries_of (lines_from (suc n) (codes "COLUMNS") (es ++ last ∷ [])))) k.0
             ∙ ap (λ l. record { owner = a; row = b; text = c } ∷ l) rest
         two (true, a ∷ b ∷ c ∷ d' ∷ fs) es k rest = absurd k.0
@@ -163,12 +163,12 @@ columns_told m h = ap (λ ls. map told (flat_map entries_of ls)) (columns_are (s
         two (false, fs) es k rest = absurd k.0
 
     by : (cs : List Column)
-        → map told (flat_map entries_of (lines_from first (codes "COLUMNS") (if length cs == 0 then []
+        → map bare (flat_map entries_of (lines_from first (codes "COLUMNS") (if length cs == 0 then []
         else start ∷ flat_map (column_block m) (enumerate_from 0 cs) ++ last ∷ [])))
-        ≡ flat_map tells (flat_map (column_block m) (enumerate_from 0 cs))
+        ≡ flat_map listed (flat_map (column_block m) (enumerate_from 0 cs))
     by [] = refl
     by (c ∷ cs) =
-        ap (λ t. map told (flat_map entries_of
+        ap (λ t. map bare (flat_map entries_of
         (lines_from first (codes "COLUMNS")
         (if t then [] else start ∷ flat_map (column_block m)
         (enumerate_from 0 (c ∷ cs)) ++ last ∷ [])))) (ne_eqb (length (c ∷ cs)) 0 (λ e. omega arith))
@@ -181,11 +181,11 @@ all_pass test [] h = refl
 all_pass test (x ∷ xs) h = ap (λ t. cond t (x ∷ filter test xs) (filter test xs)) (h x) ∙ ap (λ k. x ∷ k) (all_pass test xs h)
 
 pub columns_kept : (m : Parts) → IsProgramText m
-    → map told (kept_entries (codes "COLUMNS") (lines_in (sections_of m))) ≡ flat_map tells (blocks_of m)
+    → map bare (kept_entries (codes "COLUMNS") (lines_in (sections_of m))) ≡ flat_map listed (blocks_of m)
 columns_kept m h =
-    ap (map told) (all_pass (is_kept (codes "COLUMNS") (lines_in (sections_of m)))
+    ap (map bare) (all_pass (is_kept (codes "COLUMNS") (lines_in (sections_of m)))
     (all_entries (codes "COLUMNS") (lines_in (sections_of m))) (λ e. ap (λ t. (not t && true) && true) (none_dropped m e.row)))
-    ∙ columns_told m h
+    ∙ columns_bare m h
 
 -- lines of one set, whose rows have some property
 abbrev pub IsOfSet : List ℕ → (List ℕ → Type 0) → Written → Type 0
@@ -202,20 +202,20 @@ AreOfSet set P ds = Each (IsOfSet set P) ds
 set_kept : (word set : List ℕ) (P : List ℕ → Type 0) (ls : List Line) → bytes_eq word (codes "COLUMNS") ≡ false
     → ((e : Entry) → e.owner ≡ set → P e.row → is_kept word ls e ≡ true)
     → (n : ℕ) (ds : List Written) → AreOfSet set P ds
-    → map told (filter (is_kept word ls) (flat_map entries_of (lines_from n word ds))) ≡ flat_map tells ds
+    → map bare (filter (is_kept word ls) (flat_map entries_of (lines_from n word ds))) ≡ flat_map listed ds
 set_kept word set P ls other h n [] all = refl
 set_kept word set P ls other h n (d ∷ ds) all = one d ds all (set_kept word set P ls other h (suc n) ds all.1)
   where
     one : (w : Written) (ws : List Written) → AreOfSet set P (w ∷ ws)
-        → map told (filter (is_kept word ls) (flat_map entries_of (lines_from (suc n) word ws))) ≡ flat_map tells ws
-        → map told (filter (is_kept word ls) (flat_map entries_of (lines_from n word (w ∷ ws)))) ≡ flat_map tells (w ∷ ws)
+        → map bare (filter (is_kept word ls) (flat_map entries_of (lines_from (suc n) word ws))) ≡ flat_map listed ws
+        → map bare (filter (is_kept word ls) (flat_map entries_of (lines_from n word (w ∷ ws)))) ≡ flat_map listed (w ∷ ws)
     one (true, a ∷ b ∷ c ∷ []) ws k rest =
         let e : Entry = record { line = n; owner = a; row = b; text = c } in
         let l : Line = record { number = n; is_item = true; section = word; fields = a ∷ b ∷ c ∷ [] } in
         let later = flat_map entries_of (lines_from (suc n) word ws) in
-        ap (λ u. map told (filter (is_kept word ls) ((if u then (if is_marker l then [] else e ∷ []) else e ∷ []) ++ later))) other
-        ∙ ap (λ u. map told (cond u (e ∷ filter (is_kept word ls) later) (filter (is_kept word ls) later))) (h e k.0.0 k.0.1)
-        ∙ ap (λ y. told e ∷ y) rest
+        ap (λ u. map bare (filter (is_kept word ls) ((if u then (if is_marker l then [] else e ∷ []) else e ∷ []) ++ later))) other
+        ∙ ap (λ u. map bare (cond u (e ∷ filter (is_kept word ls) later) (filter (is_kept word ls) later))) (h e k.0.0 k.0.1)
+        ∙ ap (λ y. bare e ∷ y) rest
     one (true, a ∷ b ∷ c ∷ d' ∷ fs) ws k rest = absurd k.0
     one (true, a ∷ b ∷ []) ws k rest = absurd k.0
     one (true, a ∷ []) ws k rest = absurd k.0
@@ -277,9 +277,9 @@ right_sides_set m =
     (of_set_flat (codes "RHS") (λ b. ⊤) (λ r. ⊤) rhs_line m.rows (each_any m.rows) (λ r t. rhs_set r))
 
 pub right_sides_kept : (m : Parts)
-    → map told (kept_entries (codes "RHS") (lines_in (sections_of m))) ≡ flat_map tells (constant_line m ++ flat_map rhs_line m.rows)
+    → map bare (kept_entries (codes "RHS") (lines_in (sections_of m))) ≡ flat_map listed (constant_line m ++ flat_map rhs_line m.rows)
 right_sides_kept m =
-    ap (λ ls. map told (filter (is_kept (codes "RHS") (lines_in (sections_of m))) (flat_map entries_of ls))) items
+    ap (λ ls. map bare (filter (is_kept (codes "RHS") (lines_in (sections_of m))) (flat_map entries_of ls))) items
     ∙ by (constant_line m ++ flat_map rhs_line m.rows) refl (right_sides_set m)
   where
     at : ℕ
@@ -290,13 +290,13 @@ right_sides_kept m =
 
     by : (ds : List Written) → constant_line m ++ flat_map rhs_line m.rows ≡ ds
         → AreOfSet (codes "RHS") (λ b. ⊤) (constant_line m ++ flat_map rhs_line m.rows)
-        → map told (filter (is_kept (codes "RHS") (lines_in (sections_of m))) (flat_map entries_of
+        → map bare (filter (is_kept (codes "RHS") (lines_in (sections_of m))) (flat_map entries_of
         (lines_from at (codes "RHS") (constant_line m ++ flat_map rhs_line m.rows))))
-        ≡ flat_map tells (constant_line m ++ flat_map rhs_line m.rows)
+        ≡ flat_map listed (constant_line m ++ flat_map rhs_line m.rows)
     by [] e all =
-        ap (λ ds. map told (filter (is_kept (codes "RHS") (lines_in (sections_of m)))
+        ap (λ ds. map bare (filter (is_kept (codes "RHS") (lines_in (sections_of m)))
         (flat_map entries_of (lines_from at (codes "RHS") ds)))) e
-        ∙ sym (ap (flat_map tells) e)
+        ∙ sym (ap (flat_map listed) e)
     by (d ∷ ds) e all =
         let here = subst (AreOfSet (codes "RHS") (λ b. ⊤)) e all in
         let kept : is_kept_set (codes "RHS") (lines_in (sections_of m)) (codes "RHS") ≡ true =
@@ -313,9 +313,9 @@ abbrev pub IsApart : Parts → List ℕ → Type 0
 IsApart m name = bytes_eq name m.objective ≡ false
 
 pub ranges_kept : (m : Parts) → Each (λ r. IsApart m r.name) m.rows
-    → map told (kept_entries (codes "RANGES") (lines_in (sections_of m))) ≡ flat_map tells (flat_map range_line m.rows)
+    → map bare (kept_entries (codes "RANGES") (lines_in (sections_of m))) ≡ flat_map listed (flat_map range_line m.rows)
 ranges_kept m apart =
-    ap (λ ls. map told (filter (is_kept (codes "RANGES") (lines_in (sections_of m))) (flat_map entries_of ls))) items
+    ap (λ ls. map bare (filter (is_kept (codes "RANGES") (lines_in (sections_of m))) (flat_map entries_of ls))) items
     ∙ by (flat_map range_line m.rows) refl
     (of_set_flat (codes "RNG") (IsApart m) (λ r. IsApart m r.name) range_line m.rows apart (λ r h. range_set (IsApart m) r h))
   where
@@ -326,13 +326,13 @@ ranges_kept m apart =
     items = ranges_are (sections_of m) (are_sections m)
 
     by : (ds : List Written) → flat_map range_line m.rows ≡ ds → AreOfSet (codes "RNG") (IsApart m) (flat_map range_line m.rows)
-        → map told (filter (is_kept (codes "RANGES") (lines_in (sections_of m)))
+        → map bare (filter (is_kept (codes "RANGES") (lines_in (sections_of m)))
         (flat_map entries_of (lines_from at (codes "RANGES") (flat_map range_line m.rows))))
-        ≡ flat_map tells (flat_map range_line m.rows)
+        ≡ flat_map listed (flat_map range_line m.rows)
     by [] e all =
-        ap (λ ds. map told (filter (is_kept (codes "RANGES") (lines_in (sections_of m)))
+        ap (λ ds. map bare (filter (is_kept (codes "RANGES") (lines_in (sections_of m)))
         (flat_map entries_of (lines_from at (codes "RANGES") ds)))) e
-        ∙ sym (ap (flat_map tells) e)
+        ∙ sym (ap (flat_map listed) e)
     by (d ∷ ds) e all =
         let here = subst (AreOfSet (codes "RNG") (IsApart m)) e all in
         let kept : is_kept_set (codes "RANGES") (lines_in (sections_of m)) (codes "RNG") ≡ true =

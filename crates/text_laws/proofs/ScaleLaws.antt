@@ -1,4 +1,4 @@
--- Digits of a rest after a whole part: the number that they write, in the least decimals, and its units.
+-- Digits of a fraction after a whole part: the number that they write, in the least decimals, and its units.
 use Rattle.std.specs.Prelude.{◌≡◌, ℕ, zero, suc, ◌+◌, ◌-◌, ◌*◌, ◌/◌, ◌%◌, ◌^◌, ◌<◌, ◌≤◌, ◌==◌, Bool, true, false, if◌then◌else◌, [], ◌∷◌}
 use Rattle.std.specs.Prelude.{length}
 use Rattle.std.proofs.Common.{refl, arith, ap, sym, ◌∙◌}
@@ -10,7 +10,7 @@ use Rattle.mps_defs.specs.Lists.{least_from}
 use Rattle.mps_defs.specs.Numbers.{places, value_from, has_decimals, least_decimals}
 use Rattle.mps_defs.proofs.NumberLaws.{ten_positive}
 
--- ten times the digits of a rest, after a whole part
+-- ten times the digits of a fraction, after a whole part
 pub places_value : (k rest w : ℕ) → rest < 10 ^ k → value_from w (places k rest) * 10 ^ (k - length (places k rest)) ≡ w * 10 ^ k + rest
 places_value zero rest w h = omega arith
 places_value (suc k) rest w h =
@@ -57,7 +57,7 @@ zeros_dropped n k (suc j) =
           ∙ rest.1,
     )
 
--- the least place is no later than the last one, and passes where the last one does
+-- the least place is no later than the last one, and will do where the last one does
 pub least_within : (g : ℕ → Bool) (i n : ℕ) → (least_from g i n ≤ i + n)
 least_within g i zero = omega arith
 least_within g i (suc n) = by (g i) (least_within g (suc i) n)

@@ -9,7 +9,7 @@ use Rattle.mps_defs.specs.Records.{Line, Entry, objective, row_lines, row_kind, 
 use Rattle.mps_defs.specs.TextModels.{units, written_in, decimals_in, row_decimals, coefs_in, row_from, column_from, model_from}
 use Rattle.mps_defs.specs.declared.reading.How.{How}
 use Rattle.mps_defs.specs.declared.reading.Number.{Number}
-use Rattle.text_laws.proofs.EachLaws.{each_passes, each_of_map}
+use Rattle.text_laws.proofs.EachLaws.{each_kept, each_of_map}
 use Rattle.text_laws.proofs.LeastReadLaws.{largest_most}
 use Rattle.text_laws.proofs.FoundReadLaws.{IsFound, at_place, of_row}
 use Rattle.text_laws.proofs.EntryDecimalLaws.{IsFewFor, decimals_few}
@@ -31,7 +31,7 @@ coefs_ordered es names row k =
     record {
       rising = rises_at 0 (length names) (coefs_in es names row k) up;
       within = λ i l. (let b = rises_within 0 (length names) (coefs_in es names row k) up i l in b.1);
-      present = present_at (coefs_in es names row k) (each_passes (λ (p : ℕ × ℤ). not (unsigned_abs p.1 == 0)) pairs);
+      present = present_at (coefs_in es names row k) (each_kept (λ (p : ℕ × ℤ). not (unsigned_abs p.1 == 0)) pairs);
     }
 
 -- ---- decimals

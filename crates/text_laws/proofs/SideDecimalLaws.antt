@@ -31,7 +31,7 @@ AreWithin k most sides = Each (λ z. needed_decimals k z ≤ most) (right_amount
 abbrev pub NeedsOwn : ℕ → Number → Type 0
 NeedsOwn k n = needed_decimals k (units k n) ≡ decimals_of n
 
--- a Large number passes the limit of a side
+-- a Large number exceeds the limit of a side
 large_passes : (k : ℕ) (negative : Bool) → unsigned_abs (units k (Large negative)) ≤ 2 ^ 62 → ⊥
 large_passes k negative small =
     let size = signed_size negative (10 ^ (20 + k)) in

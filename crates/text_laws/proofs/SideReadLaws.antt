@@ -1,5 +1,6 @@
 -- The right sides and the ranges of a canonical text are the sides of the rows.
-use Rattle.std.specs.Prelude.{◌≡◌, ℕ, zero, suc, ◌-◌, ◌<◌, ◌≤◌, ◌^◌, Bool, true, false, ◌&&◌, ◌||◌, not, cond, if◌then◌else◌, List, [], ◌∷◌}
+use Rattle.std.specs.Prelude.{◌≡◌, ℕ, zero, suc, ◌-◌, ◌<◌, ◌≤◌, ◌^◌, Bool, true, false, ◌&&◌, ◌||◌, not, cond, if◌then◌else◌, List, []}
+use Rattle.std.specs.Prelude.{◌∷◌}
 use Rattle.std.specs.Prelude.{◌++◌, map, filter, flat_map, find, Option, None, Some, option_map, unwrap_or, slice_get, bytes_eq, codes, ℤ}
 use Rattle.std.specs.Prelude.{pos, ◌-ℤ◌, ◌*ℤ◌, ◌≤ℤ◌}
 use Rattle.std.specs.Option.{option_map_or, option_or, ForSome}
@@ -18,7 +19,7 @@ use Rattle.mps_defs.specs.declared.reading.Number.{Number}
 use Rattle.ip_defs.specs.declared.programs.Row.{Row}
 use Rattle.text_laws.proofs.NumberTextLaws.{decimal_text_units, decimal_text_finite}
 use Rattle.text_laws.proofs.ReadableLaws.{IsRowText, width_small}
-use Rattle.text_laws.proofs.EntryReadLaws.{Told, tells, told_for, told_decimals, for_append, decimals_append}
+use Rattle.text_laws.proofs.EntryReadLaws.{BareEntry, listed, bare_for, bare_decimals, for_append, decimals_append}
 use Rattle.ip_defs.proofs.BoolLaws.{left_false, right_false}
 use Rattle.ip_defs.proofs.ListLaws.{or_none}
 use Rattle.std.proofs.lemmas.List.{append-nil}
@@ -27,90 +28,90 @@ use Rattle.mps_defs.proofs.PlaceLaws.{apart_turned, not_at}
 use Rattle.mps_defs.proofs.ListLaws.{get_map}
 use Rattle.std.proofs.lemmas.Bool.Decides.{Decides-int_eq}
 
-abbrev pub AreOfRow : List ℕ → List Told → Type 0
+abbrev pub AreOfRow : List ℕ → List BareEntry → Type 0
 AreOfRow name ts = Each (λ t. t.row ≡ name) ts
 
-pub none_for : (name row : List ℕ) (ts : List Told) → AreOfRow name ts → bytes_eq name row ≡ false
-    → (told_for ts row ≡ None) × (told_decimals ts row ≡ [])
+pub none_for : (name row : List ℕ) (ts : List BareEntry) → AreOfRow name ts → bytes_eq name row ≡ false
+    → (bare_for ts row ≡ None) × (bare_decimals ts row ≡ [])
 none_for name row [] h e = (refl, refl)
 none_for name row (t ∷ ts) h e =
     let here : bytes_eq t.row row ≡ false = ap (λ n. bytes_eq n row) h.0 ∙ e in
     let rest = none_for name row ts h.1 e in (
-      ap (λ u. option_map (λ (k : Told). number_or_zero k.text) (cond u (Some t) (find (λ k. bytes_eq k.row row) ts))) here ∙ rest.0,
-      ap (λ u. map (λ (k : Told). decimals_of (number_or_zero k.text))
+      ap (λ u. option_map (λ (k : BareEntry). number_or_zero k.text) (cond u (Some t) (find (λ k. bytes_eq k.row row) ts))) here ∙ rest.0,
+      ap (λ u. map (λ (k : BareEntry). decimals_of (number_or_zero k.text))
           (cond u (t ∷ filter (λ k. bytes_eq k.row row) ts) (filter (λ k. bytes_eq k.row row) ts))) here
           ∙ rest.1,
     )
 
 -- lists of entries by rows, each of its row: what is found for a row is what its own list has
-module _ (f : Row → List Told) (own : (r : Row) → AreOfRow r.name (f r)) where
+module _ (f : Row → List BareEntry) (own : (r : Row) → AreOfRow r.name (f r)) where
   pub none_of : (rs : List Row) (row : List ℕ) → is_among row (map (λ r. r.name) rs) ≡ false
-      → (told_for (flat_map f rs) row ≡ None) × (told_decimals (flat_map f rs) row ≡ [])
+      → (bare_for (flat_map f rs) row ≡ None) × (bare_decimals (flat_map f rs) row ≡ [])
   none_of [] row e = (refl, refl)
   none_of (r ∷ rs) row e =
       let here =
       none_for r.name row (f r) (own r)
       (apart_turned row r.name (left_false (bytes_eq row r.name) (is_among row (map (λ k. k.name) rs)) e)) in
       let rest = none_of rs row (right_false (bytes_eq row r.name) (is_among row (map (λ k. k.name) rs)) e) in (
-        for_append (f r) (flat_map f rs) row ∙ ap (λ o. option_or o (told_for (flat_map f rs) row)) here.0 ∙ rest.0,
-        decimals_append (f r) (flat_map f rs) row ∙ ap (λ l. l ++ told_decimals (flat_map f rs) row) here.1 ∙ rest.1,
+        for_append (f r) (flat_map f rs) row ∙ ap (λ o. option_or o (bare_for (flat_map f rs) row)) here.0 ∙ rest.0,
+        decimals_append (f r) (flat_map f rs) row ∙ ap (λ l. l ++ bare_decimals (flat_map f rs) row) here.1 ∙ rest.1,
       )
 
   pub own_of : (rs : List Row) (i : ℕ) (r : Row) → AreDistinct (map (λ k. k.name) rs) → slice_get rs i ≡ Some r
-      → (told_for (flat_map f rs) r.name ≡ told_for (f r) r.name) × (told_decimals (flat_map f rs) r.name ≡ told_decimals (f r) r.name)
+      → (bare_for (flat_map f rs) r.name ≡ bare_for (f r) r.name) × (bare_decimals (flat_map f rs) r.name ≡ bare_decimals (f r) r.name)
   own_of [] i r d at = absurd cc
   own_of (s ∷ rs) zero r d at =
       let same : s ≡ r = cc in
       let rest = none_of rs s.name d.0 in
-      subst (λ (k : Row). (told_for (flat_map f (s ∷ rs)) k.name ≡ told_for (f k) k.name) ×
-      (told_decimals (flat_map f (s ∷ rs)) k.name ≡ told_decimals (f k) k.name)) same (
-        for_append (f s) (flat_map f rs) s.name ∙ ap (option_or (told_for (f s) s.name)) rest.0 ∙ or_none (told_for (f s) s.name),
+      subst (λ (k : Row). (bare_for (flat_map f (s ∷ rs)) k.name ≡ bare_for (f k) k.name) ×
+      (bare_decimals (flat_map f (s ∷ rs)) k.name ≡ bare_decimals (f k) k.name)) same (
+        for_append (f s) (flat_map f rs) s.name ∙ ap (option_or (bare_for (f s) s.name)) rest.0 ∙ or_none (bare_for (f s) s.name),
         decimals_append (f s) (flat_map f rs) s.name
-            ∙ ap (λ l. told_decimals (f s) s.name ++ l) rest.1
-            ∙ append-nil (told_decimals (f s) s.name),
+            ∙ ap (λ l. bare_decimals (f s) s.name ++ l) rest.1
+            ∙ append-nil (bare_decimals (f s) s.name),
       )
   own_of (s ∷ rs) (suc i) r d at =
       let here =
       none_for s.name r.name (f s) (own s) (not_at s.name (map (λ k. k.name) rs) i r.name d.0 (get_map (λ k. k.name) rs i r at)) in
       let rest = own_of rs i r d.1 at in (
-        for_append (f s) (flat_map f rs) r.name ∙ ap (λ o. option_or o (told_for (flat_map f rs) r.name)) here.0 ∙ rest.0,
-        decimals_append (f s) (flat_map f rs) r.name ∙ ap (λ l. l ++ told_decimals (flat_map f rs) r.name) here.1 ∙ rest.1,
+        for_append (f s) (flat_map f rs) r.name ∙ ap (λ o. option_or o (bare_for (flat_map f rs) r.name)) here.0 ∙ rest.0,
+        decimals_append (f s) (flat_map f rs) r.name ∙ ap (λ l. l ++ bare_decimals (flat_map f rs) r.name) here.1 ∙ rest.1,
       )
 
 -- ---- one row
 
-abbrev pub rhs_told : Row → List Told
-rhs_told r = flat_map tells (rhs_line r)
+abbrev pub rhs_bare : Row → List BareEntry
+rhs_bare r = flat_map listed (rhs_line r)
 
-abbrev pub range_told : Row → List Told
-range_told r = flat_map tells (range_line r)
+abbrev pub range_bare : Row → List BareEntry
+range_bare r = flat_map listed (range_line r)
 
-pub when_row : (t : Bool) (owner name text : List ℕ) → AreOfRow name (flat_map tells (when t (triple owner name text)))
+pub when_row : (t : Bool) (owner name text : List ℕ) → AreOfRow name (flat_map listed (when t (triple owner name text)))
 when_row true owner name text = (refl, tt)
 when_row false owner name text = tt
 
-pub rhs_own : (r : Row) → AreOfRow r.name (rhs_told r)
+pub rhs_own : (r : Row) → AreOfRow r.name (rhs_bare r)
 rhs_own r = by (right_side r)
   where
     by : (o : Option ℤ)
-        → AreOfRow r.name (flat_map tells (option_map_or (side_line r) o (triple (codes "RHS") r.name (codes "1e30") ∷ [])))
+        → AreOfRow r.name (flat_map listed (option_map_or (side_line r) o (triple (codes "RHS") r.name (codes "1e30") ∷ [])))
     by None = (refl, tt)
     by (Some b) = when_row (not (int_eq b (pos 0))) (codes "RHS") r.name (decimal_text b r.decimals)
 
-pub range_own : (r : Row) → AreOfRow r.name (range_told r)
+pub range_own : (r : Row) → AreOfRow r.name (range_bare r)
 range_own r = by r.low r.high
   where
     by : (o p : Option ℤ)
-        → AreOfRow r.name (flat_map tells (option_map_or (λ low. option_map_or (width_line r low) p []) o []))
+        → AreOfRow r.name (flat_map listed (option_map_or (λ low. option_map_or (width_line r low) p []) o []))
     by None p = tt
     by (Some low) None = tt
     by (Some low) (Some high) = when_row (not (int_eq low high)) (codes "RNG") r.name (decimal_text (high -ℤ low) r.decimals)
 
 -- what a line of an amount says: nothing for 0
 pub amount_for : (t : Bool) (owner name text : List ℕ)
-    → told_for (flat_map tells (when t (triple owner name text))) name ≡ (if t then Some (number_or_zero text) else None)
+    → bare_for (flat_map listed (when t (triple owner name text))) name ≡ (if t then Some (number_or_zero text) else None)
 amount_for true owner name text =
-    ap (λ u. option_map (λ (k : Told). number_or_zero k.text) (cond u (Some (record { owner = owner; row = name; text = text })) None))
+    ap (λ u. option_map (λ (k : BareEntry). number_or_zero k.text) (cond u (Some (record { owner = owner; row = name; text = text })) None))
     (text_self name)
 amount_for false owner name text = refl
 
@@ -131,7 +132,7 @@ amount_number b k small most = by (int_eq b (pos 0)) refl
 
 -- the sides that are read of a row
 abbrev pub read_sides : Row → Option ℤ × Option ℤ
-read_sides r = row_sides (kind_text r) r.decimals (unwrap_or (told_for (rhs_told r) r.name) no_number) (told_for (range_told r) r.name)
+read_sides r = row_sides (kind_text r) r.decimals (unwrap_or (bare_for (rhs_bare r) r.name) no_number) (bare_for (range_bare r) r.name)
 
 finite_plain : (kind : List ℕ) (k : ℕ) (n : Number) (v : ℤ) → is_large n ≡ false → units k n ≡ v
     → row_sides kind k n None ≡ plain_sides kind v
@@ -148,7 +149,7 @@ sides_of : (r : Row) (low high : Option ℤ) → r.decimals ≤ 9 → ForSome lo
     → read_sides (row_with r low high) ≡ (low, high)
 sides_of r None None most l h c =
     ap (λ u. row_sides (codes "L") r.decimals
-    (unwrap_or (option_map (λ (k : Told). number_or_zero k.text)
+    (unwrap_or (option_map (λ (k : BareEntry). number_or_zero k.text)
     (cond u (Some (record { owner = codes "RHS"; row = r.name; text = codes "1e30" })) None)) no_number) None) (text_self r.name)
 sides_of r (Some low) None most l h c =
     let small : unsigned_abs low < 2 ^ 64 = let s = l low refl in omega arith in
@@ -168,7 +169,7 @@ sides_of r None (Some high) most l h c =
     (number_or_zero (decimal_text high r.decimals)) else None) no_number) high given.1 given.0
 sides_of r (Some low) (Some high) most l h c =
     ap (λ o. row_sides (kind_text (row_with r (Some low) (Some high))) r.decimals (unwrap_or o no_number)
-    (told_for (range_told (row_with r (Some low) (Some high))) r.name)) (amount_for (not (int_eq high (pos 0))) (codes "RHS") r.name
+    (bare_for (range_bare (row_with r (Some low) (Some high))) r.name)) (amount_for (not (int_eq high (pos 0))) (codes "RHS") r.name
     (decimal_text high r.decimals))
     ∙ ap (λ o. row_sides (kind_text (row_with r (Some low) (Some high))) r.decimals given o)
     (amount_for (not (int_eq low high)) (codes "RNG") r.name (decimal_text (high -ℤ low) r.decimals))

@@ -20,17 +20,17 @@ use Rattle.ip_defs.proofs.ListLaws.{each_weaker, each_numbered}
 use Rattle.std.proofs.lemmas.List.{append-nil}
 use Rattle.ip_defs.specs.Lists.{Each}
 
--- only ASCII bytes pass
+-- only ASCII bytes meet the test
 abbrev IsLow : (ℕ → Bool) → Type 0
 IsLow test = (b : ℕ) → test b ≡ true → b < 128
 
-none_passes : (test : ℕ → Bool) (xs : List ℕ) → ((k : ℕ) → k < length xs → test (get_or xs k 0) ≡ false) → list_any test xs ≡ false
-none_passes test [] h = refl
-none_passes test (x ∷ xs) h = ap (λ t. t || list_any test xs) (h 0 (omega arith)) ∙ none_passes test xs (λ k l. h (suc k) (omega arith))
+none_meets : (test : ℕ → Bool) (xs : List ℕ) → ((k : ℕ) → k < length xs → test (get_or xs k 0) ≡ false) → list_any test xs ≡ false
+none_meets test [] h = refl
+none_meets test (x ∷ xs) h = ap (λ t. t || list_any test xs) (h 0 (omega arith)) ∙ none_meets test xs (λ k l. h (suc k) (omega arith))
 
 -- no byte of a longer character is ASCII
 none_inside : (test : ℕ → Bool) → IsLow test → (c : ℕ) → 128 ≤ c → list_any test (encode c) ≡ false
-none_inside test low c high = none_passes test (encode c) (λ k l. by k l (test (get_or (encode c) k 0)) refl)
+none_inside test low c high = none_meets test (encode c) (λ k l. by k l (test (get_or (encode c) k 0)) refl)
   where
     by : (k : ℕ) → k < length (encode c) → (t : Bool) → test (get_or (encode c) k 0) ≡ t → t ≡ false
     by k l true e =

@@ -1,11 +1,13 @@
 -- What examples say of a text, and the parts of their models.
-use Rattle.std.specs.Prelude.{◌≡◌, ℕ, List, Option, None, Some, ℤ}
+use Rattle.std.specs.Prelude.{◌≡◌, ℕ, List, map, Option, None, Some, ℤ}
 use Rattle.ip_defs.specs.declared.programs.Column.{Column}
 use Rattle.ip_defs.specs.declared.programs.Row.{Row}
 use Rattle.ip_defs.specs.declared.programs.Parts.{Parts}
 use Rattle.mps_defs.specs.Faults.{mps_fault, model_of}
+use Rattle.mps_defs.specs.Numbers.{number_of}
 use Rattle.mps_defs.specs.declared.reading.How.{How}
 use Rattle.mps_defs.specs.declared.reading.MpsError.{MpsError}
+use Rattle.mps_defs.specs.declared.reading.Number.{Number}
 
 -- nothing is asked for
 abbrev pub plain : How
@@ -31,6 +33,10 @@ model objective' decimals' constant' columns' rows' =
 abbrev pub Reads : List ℕ → How → Parts → Type 0
 Reads text how m = (mps_fault text how ≡ None) × (model_of text how ≡ m)
 
--- a text with its first fault
-abbrev pub Refuses : List ℕ → How → MpsError → Type 0
-Refuses text how fault = mps_fault text how ≡ Some fault
+-- the first faults of texts
+abbrev pub RefusesEach : List (List ℕ × How × MpsError) → Type 0
+RefusesEach cases = map (λ c. mps_fault c.0 c.1) cases ≡ map (λ c. Some c.2) cases
+
+-- the numbers that texts are
+abbrev pub ReadsNumbers : List (List ℕ × Option Number) → Type 0
+ReadsNumbers cases = map (λ c. number_of c.0) cases ≡ map (λ c. c.1) cases

@@ -1,5 +1,4 @@
 -- The rows of the program's own table, as rows of the table of commands.
-use Rattle.std.specs.Prelude.{}
 use Rattle.ips_words.specs.Commands.{Choice, Command, solve, check, ask, sweep, recheck, show, trial}
 use Rattle.ips_words.specs.declared.commands.Choice.{Choice as OwnChoice}
 use Rattle.ips_words.specs.declared.commands.Command.{Command as OwnCommand}

@@ -1,22 +1,13 @@
-use Rattle.std.proofs.Common.{◌≡◌, add-one, ◌∙◌, ◌++◌, ap, refl, length}
-use Rattle.std.specs.Prelude.{Some, slice_get, string_bytes}
-use Rattle.std.proofs.lemmas.Option.{slice_get_read}
+use Rattle.std.specs.Prelude.{string_bytes}
 use Rattle.mps_defs.specs.CanonicalText.{range_line}
-use Rattle.mps_printer.specs.Internal.Sections.{lines_text}
-use Rattle.mps_printer.proofs.LineLaws.{text_more, text_all}
+use Rattle.mps_printer.proofs.LineLaws.{lines_added, lines_complete}
 use Rattle.mps_printer.proofs.rows.push_ranges.Goals as goal
 
 pub loop-row-preserved : goal.loop-row-preserved
 loop-row-preserved c =
-    let rows = c.args.rows.now in
-    let row = c.row-item.result in
-    let i = c.loop-row.row-index in
-    let found : slice_get rows i ≡ Some row = slice_get_read rows (length rows) i row refl c.loop-row-test.true c.row-item.is in
-    rw add-one (c.in_ok-push_range.ensures
-    ∙ ap (λ bs. bs ++ lines_text (range_line row)) c.loop-row.invariant
-    ∙ text_more range_line (string_bytes c.args.text.now) rows i row found)
+    lines_added range_line (string_bytes c.args.text.now) c.args.rows.now c.loop-row.row-index _ c.loop-row-test.true
+    c.row-item.is c.loop-row.invariant c.in_ok-push_range.ensures
 
 pub returns : goal.returns
 returns c =
-    c.loop-row.invariant
-    ∙ ap (λ bs. string_bytes c.args.text.now ++ bs) (text_all range_line c.args.rows.now c.loop-row.row-index c.loop-row-test.false)
+    lines_complete range_line (string_bytes c.args.text.now) c.args.rows.now c.loop-row.row-index c.loop-row-test.false c.loop-row.invariant

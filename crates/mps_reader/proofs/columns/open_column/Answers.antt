@@ -1,20 +1,17 @@
-use Rattle.std.proofs.Common.{◌∙◌, ap, sym, subst, map, position, bytes_eq, string_bytes, inr}
+use Rattle.std.proofs.Common.{◌∙◌, ap, sym, subst, inr}
 use Rattle.ip_defs.specs.Lists.{first_of, when}
 use Rattle.mps_defs.specs.declared.reading.MpsError.TheVariants as Out
 use Rattle.mps_reader.specs.Internal.Taking.{IsColumnAdded, IsColumnOpen}
 use Rattle.mps_reader.proofs.ColumnLaws.{column_item}
 use Rattle.mps_reader.proofs.OpenLaws.{split_or_not, went_on, begun_faultless, begun, opened_at}
-use Rattle.mps_reader.proofs.PlaceLaws.{place_of_name}
+use Rattle.mps_reader.proofs.PlaceLaws.{placed}
 use Rattle.mps_reader.proofs.columns.open_column.Goals as goal
 
 pub returns-then-is_open : goal.returns-then-is_open
 returns-then-is_open c before fields h bounds none plain named =
     let table = c.args.columns.now in
     let number = c.in-Some.number in
-    let at =
-    ap (λ name. position (bytes_eq name) (map string_bytes table.names.keys)) named
-    ∙ sym (place_of_name table.names.keys c.args.name.now)
-    ∙ sym c.in-Some.ensures.index in
+    let at = placed table.names.keys c.args.name.now _ _ named c.in-Some.ensures.index in
     let is_open = sym c.if-is_open.ensures in (
       ap (λ b. when b (Out.SplitColumn c.args.line))
           (split_or_not before table c.args.line fields number _ h at is_open),
@@ -26,10 +23,7 @@ pub returns-else-is_open : goal.returns-else-is_open
 returns-else-is_open c before fields h bounds none plain named =
     let table = c.args.columns.now in
     let number = c.in-Some.number in
-    let at =
-    ap (λ name. position (bytes_eq name) (map string_bytes table.names.keys)) named
-    ∙ sym (place_of_name table.names.keys c.args.name.now)
-    ∙ sym c.in-Some.ensures.index in
+    let at = placed table.names.keys c.args.name.now _ _ named c.in-Some.ensures.index in
     inr (ap (λ b. first_of (when b (Out.SplitColumn c.args.line)))
     (split_or_not before table c.args.line fields number _ h at (sym c.if-is_open.ensures)))
 
@@ -37,10 +31,7 @@ pub returns-in_ok-add_column-in-None : goal.returns-in_ok-add_column-in-None
 returns-in_ok-add_column-in-None c before fields h bounds none plain named =
     let table = c.args.columns.now in
     let new = c.add_column.new.columns in
-    let at =
-    ap (λ name. position (bytes_eq name) (map string_bytes table.names.keys)) named
-    ∙ sym (place_of_name table.names.keys c.args.name.now)
-    ∙ sym c.in-None.ensures.index in
+    let at = placed table.names.keys c.args.name.now _ _ named c.in-None.ensures.index in
     let added = subst (λ name. IsColumnAdded name table new) (sym named) c.in_ok-add_column-in-None.ensures.added in (
       ap (λ b. when b (Out.SplitColumn c.args.line)) (begun_faultless before table c.args.line fields h at),
       subst (λ j. IsColumnOpen before (column_item c.args.line fields) j new) (sym c.in_ok-add_column-in-None.ensures.number)

@@ -1,9 +1,10 @@
 #!/usr/bin/env python3
-"""Writes the models of crates/ipsens_runs/data, and what the program must print for them, crates/ipsens_runs/stdout. The canonical text
-of the long model is made here from the same columns, and not by the program."""
+"""Writes the models of crates/ipsens_runs/data, and what that program must print, crates/ipsens_runs/stdout; and the same for the program
+itself, crates/ipsens, whose one run ends with status 4. The canonical text of the long model is made here from the same columns, and not by
+the program."""
 import os
 
-HERE = os.path.join(os.path.dirname(os.path.abspath(__file__)), "../crates/ipsens_runs")
+CRATES = os.path.join(os.path.dirname(os.path.abspath(__file__)), "../crates")
 
 MARKER = " M 'MARKER' '{}'\n"
 START, END = MARKER.format("INTORG"), MARKER.format("INTEND")
@@ -56,7 +57,7 @@ RUNS = [
     ("solve odd.mps --nodes 50", "budget nodes\nnodes 49\nskipped 0\nbest none\n", 4),
     ("solve odd.mps --depth 0", "budget depth\nnodes 1\nskipped 0\nbest none\n", 4),
     ("solve halves.mps", "optimum -2\nvalue x 1\nvalue y 1\nnodes 5\nskipped 0\n", 0),
-    ("solve halves.mps --pivots 1", "optimum -2\nvalue x 1\nvalue y 1\nnodes 9\nskipped 1\n", 0),
+    ("solve halves.mps --pivots 1", "optimum -2\nvalue x 1\nvalue y 1\nnodes 7\nskipped 3\n", 0),
     ("solve wide.mps", "refused model M15 column x upper\n", 3),
     ("solve wide.mps --box 50", "optimum -6000\nvalue x 3\nnodes 3\nskipped 0\n", 0),
     ("solve wide.mps --box 50 --digits 9", "refused model M17 cost 0\n", 3),
@@ -66,14 +67,24 @@ RUNS = [
 ]
 
 
+BUDGET = RUNS[1][1]
+
+
+def write(path, text):
+    os.makedirs(os.path.dirname(f"{CRATES}/{path}"), exist_ok=True)
+    with open(f"{CRATES}/{path}", "w") as file:
+        file.write(text)
+
+
 def main():
-    os.makedirs(f"{HERE}/data", exist_ok=True)
     for name, text in MODELS.items():
-        with open(f"{HERE}/data/{name}.mps", "w") as file:
-            file.write(text)
-    with open(f"{HERE}/stdout", "w") as file:
-        for words, text, status in RUNS:
-            file.write(f"$ ipsens {words}\n{text}status {status}\n")
+        write(f"ipsens_runs/data/{name}.mps", text)
+    write("ipsens_runs/stdout", "".join(f"$ ipsens {words}\n{text}status {status}\n" for words, text, status in RUNS))
+    write("ipsens/data/model.mps", THREE)
+    write("ipsens/data/odd.mps", ODD)
+    write("ipsens/args", "solve\nodd.mps\n--nodes\n50\n")
+    write("ipsens/stdout", BUDGET)
+    write("ipsens/status", "4\n")
 
 
 main()

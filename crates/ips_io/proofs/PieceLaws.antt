@@ -48,8 +48,8 @@ Reads files left name read = ForSome files (λ t. (rest : List ℕ) × (left ≡
 -- a piece goes from what is left to what was read
 pub reads_next : (files files' : Option Files) (left left' : Option (List ℕ)) (name read into : List ℕ) (n : ℕ) → files' ≡ files →
     Reads files left name read → Moves left left' n into → Reads files' left' name (read ++ take n into)
-reads_next files files' left left' name read into n same reads moves t told =
-    let before = reads t (sym same ∙ told) in
+reads_next files files' left left' name read into n same reads moves t known =
+    let before = reads t (sym same ∙ known) in
     let moved = moves before.0 before.1 in
     let whole = append_assoc read (take n into) (drop n before.0) in
     let piece = ap (λ xs. xs ++ drop n before.0) moved.bytes in
@@ -59,17 +59,17 @@ reads_next files files' left left' name read into n same reads moves t told =
 -- where nothing is left, the file is what was read
 pub reads_end : (files files' : Option Files) (left left' : Option (List ℕ)) (name read into : List ℕ) (n : ℕ) → n ≡ 0 → files' ≡ files →
     Reads files left name read → Moves left left' n into → IsWhole files' name read
-reads_end files files' left left' name read into n none same reads moves t told =
-    let before = reads t (sym same ∙ told) in
+reads_end files files' left left' name read into n none same reads moves t known =
+    let before = reads t (sym same ∙ known) in
     let moved = moves before.0 before.1 in
     let over = moved.ended.0 none in
     before.2 ∙ ap Some (ap (λ xs. read ++ xs) over ∙ append-nil read)
 
--- where a piece passes what may still be read, the file is too long
+-- where a piece exceeds what may still be read, the file is too long
 pub reads_beyond : (files files' : Option Files) (left left' : Option (List ℕ)) (name read into : List ℕ) (n most : ℕ) → n ≤ length into →
     most < length read + n → files' ≡ files → Reads files left name read → Moves left left' n into → IsTooLong files' name most
-reads_beyond files files' left left' name read into n most within beyond same reads moves t told =
-    let before = reads t (sym same ∙ told) in
+reads_beyond files files' left left' name read into n most within beyond same reads moves t known =
+    let before = reads t (sym same ∙ known) in
     let moved = moves before.0 before.1 in
     let piece = length-take-le n into within in
     let lengths = ap length moved.bytes in

@@ -18,6 +18,6 @@ with_file (f ∷ fs) name bytes = if bytes_eq f.0 name then (f.0, bytes) ∷ fs 
 abbrev pub size_of : Files → ℕ
 size_of fs = sum_by (λ f. length f.0 + length f.1) fs
 
--- the table does not pass the room
+-- the table does not exceed the room
 abbrev pub IsWithinRoom : ℕ → ℕ → Files → Type 0
 IsWithinRoom most_files room fs = (length fs ≤ most_files) × (size_of fs ≤ room)

@@ -31,7 +31,8 @@ impl Model for BegunNames {
 
     ghost view = { λ b. if b.are_known then Some (texts_of b.lengths.items b.buffer.items) else None };
 
-    ghost invariant = { λ b. (total_of b.lengths.items ≡ vec_len b.buffer) × (vec_len b.buffer ≤ 255 * vec_len b.lengths) × (vec_len b.lengths ≤ 8) × (8 ≤ vec_capacity b.lengths) × (2040 ≤ vec_capacity b.buffer) };
+    ghost invariant = { λ b. (total_of b.lengths.items ≡ vec_len b.buffer) × (vec_len b.buffer ≤ 255 * vec_len b.lengths) × (vec_len
+        b.lengths ≤ 8) × (8 ≤ vec_capacity b.lengths) × (2040 ≤ vec_capacity b.buffer) };
 }
 
 impl BegunNames {

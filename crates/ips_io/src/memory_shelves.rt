@@ -41,7 +41,18 @@ impl Model for MemShelf {
 
     ghost Value = { ShelfState };
 
-    ghost view = { λ s. record { files = s.table.files; names = s.names; left = option_map (part_of s.table.buffer) s.begun; most_files = s.table.most_files; room = s.table.room; piece = s.piece; calls = s.plan; faults = s.faults; save_faults = s.save_faults } };
+    ghost view = { λ s. record {
+      files = s.table.files;
+      names = s.names;
+      left = option_map (part_of s.table.buffer) s.begun;
+      most_files =
+          s.table.most_files;
+      room = s.table.room;
+      piece = s.piece;
+      calls = s.plan;
+      faults = s.faults;
+      save_faults = s.save_faults;
+    } };
 
     ghost invariant = { λ s. (ForSome s.begun (λ p. p.start + p.length ≤ length s.table.buffer)) × (0 < s.piece) };
 }
@@ -50,7 +61,17 @@ impl Model for MemShelf {
 /// `piece` bytes.
 pub fn mem_shelf(alloc: Global, files: u32, bytes: u64, piece: u64) -> Result<MemShelf, Memory>
     requires { 0 < piece }
-    ensures { IfOk result (λ s. s ≡ record { files = []; names = Some []; left = None; most_files = files; room = bytes; piece = piece; calls = record { made = 0; failing = [] }; faults = 0; save_faults = 0 }) }
+    ensures { IfOk result (λ s. s ≡ record {
+      files = [];
+      names = Some [];
+      left = None;
+      most_files = files;
+      room = bytes;
+      piece = piece;
+      calls = record { made = 0; failing = [] };
+      faults = 0;
+      save_faults = 0;
+    }) }
 {
     let table = match Table::new(alloc, files, bytes) {
         Ok(table) => table,
@@ -76,7 +97,7 @@ pub fn mem_shelf(alloc: Global, files: u32, bytes: u64, piece: u64) -> Result<Me
 
 impl MemShelf {
     /// Puts a file into the table, in place of one of the same name. It is not counted as a call. False, and nothing changed,
-    /// exactly where the new table passes the room.
+    /// exactly where the new table exceeds the room.
     pub fn add(&mut self, name: &str, bytes: &[u8]) -> bool
         requires { self.old.left ≡ None }
         ensures fits { IsTrue result ↔ IsWithinRoom self.old.most_files self.old.room (with_file self.old.files name.now bytes.now) }
@@ -91,7 +112,12 @@ impl MemShelf {
     /// eight are listed.
     pub fn fail_at(&mut self, call: u64) -> bool
         ensures room { IsTrue result ↔ (length self.old.calls.failing < 8) }
-        ensures listed { OnTrue result (self.new ≡ record self.old { calls = record self.old.calls { failing = self.old.calls.failing ++ call ∷ [] } }) }
+        ensures listed { OnTrue result (self.new ≡ record self.old {
+          calls = record self.old.calls {
+            failing = self.old.calls.failing ++
+                call ∷ [];
+          };
+        }) }
         ensures full { OnFalse result (self.new ≡ self.old) }
     {
         self.plan.fail_at(call)
@@ -185,7 +211,7 @@ impl Shelf for MemShelf {
         }
     }
 
-    /// Puts a file into the table. Fails where the call is listed or the table would pass its room, and then changes no file.
+    /// Puts a file into the table. Fails where the call is listed or the table would exceed its room, and then changes no file.
     fn save(&mut self, name: &str, bytes: &[u8]) -> Result<(), Failed>
         ensures begun { is_some self.new.left ≡ false }
         ensures names { self.new.names ≡ self.old.names }
@@ -193,8 +219,10 @@ impl Shelf for MemShelf {
         ensures saved { OnOk result (IsWhole (Some self.new.files) name.now bytes.now) }
         ensures cause { HasCause (shown_count self.old.save_faults) (shown_count self.new.save_faults) result }
         ensures faults { shown_count self.new.faults ≡ shown_count self.old.faults }
-        ensures answers { IsOk result ↔ ((is_due self.old.calls ≡ false) × IsWithinRoom self.old.most_files self.old.room (with_file self.old.files name.now bytes.now)) }
-        ensures state { MatchResult result (λ _. self.new ≡ after_save self.old name.now bytes.now) (λ _. self.new ≡ after_failed_save self.old) }
+        ensures answers { IsOk result ↔ ((is_due self.old.calls ≡ false) × IsWithinRoom self.old.most_files self.old.room (with_file
+            self.old.files name.now bytes.now)) }
+        ensures state { MatchResult result (λ _. self.new ≡ after_save self.old name.now bytes.now) (λ _. self.new ≡ after_failed_save
+            self.old) }
     {
         self.begun = None;
         if !self.plan.count() && self.table.put(name, bytes) {

@@ -37,7 +37,14 @@ impl Model for MemSink {
 /// A sink that has taken nothing, with room for `bytes` bytes in all, of which a call takes at most `piece`.
 pub fn mem_sink(alloc: Global, bytes: u64, piece: u64) -> Result<MemSink, Memory>
     requires { 0 < piece }
-    ensures { IfOk result (λ s. s ≡ record { taken = []; room = bytes; piece = piece; calls = record { made = 0; failing = [] }; faults = 0 }) }
+    ensures { IfOk result (λ s. s ≡ record {
+      taken = [];
+      room = bytes;
+      piece = piece;
+      calls = record { made = 0; failing = [] };
+      faults =
+          0;
+    }) }
 {
     let plan = match Plan::new(alloc) {
         Ok(plan) => plan,
@@ -66,7 +73,12 @@ impl MemSink {
     /// Lists a call of `write` that is to fail, by its number from 1. False, and nothing changed, exactly where eight are listed.
     pub fn fail_at(&mut self, call: u64) -> bool
         ensures room { IsTrue result ↔ (length self.old.calls.failing < 8) }
-        ensures listed { OnTrue result (self.new ≡ record self.old { calls = record self.old.calls { failing = self.old.calls.failing ++ call ∷ [] } }) }
+        ensures listed { OnTrue result (self.new ≡ record self.old {
+          calls = record self.old.calls {
+            failing = self.old.calls.failing ++
+                call ∷ [];
+          };
+        }) }
         ensures full { OnFalse result (self.new ≡ self.old) }
     {
         self.plan.fail_at(call)

@@ -1,3 +1,5 @@
+//! Files one after another in a buffer: the search for a name, and the change of a content.
+
 ghost use Rattle.std.specs.Prelude.{◌≡◌, ◌↔◌, ◌+◌, ◌-◌, ◌<◌, ◌≤◌, ◌++◌, ◌∷◌, [], length, vec_len, vec_capacity, IsTrue};
 ghost use Rattle.std.specs.Bool.{OnTrue, OnFalse};
 ghost use Rattle.ips_io.specs.Places.{edited, place_of, resized, total};
@@ -68,7 +70,7 @@ pub(crate) fn replace(buffer: &mut Vec<u8>, part: Part, bytes: &[u8])
     buffer.rotate_left(after);
 }
 
-/// Gives a file another content, within a room of so many bytes. False, and nothing changed, exactly where it does not fit.
+/// Gives a file another content, within a room of that number of bytes. False, and nothing changed, exactly where it does not fit.
 pub(crate) fn change(
     files: &mut Vec<Lengths>,
     buffer: &mut Vec<u8>,
@@ -106,7 +108,7 @@ fn resize(files: &mut [Lengths], index: usize, content: usize)
     files[index] = Lengths { name, content };
 }
 
-/// Adds a file behind the others, within a number of files and a room of so many bytes. False, and nothing changed, exactly where
+/// Adds a file behind the others, within a number of files and of bytes. False, and nothing changed, exactly where
 /// it does not fit.
 pub(crate) fn add(
     files: &mut Vec<Lengths>,
@@ -122,7 +124,8 @@ pub(crate) fn add(
     requires reserved { room ≤ vec_capacity buffer.old }
     ensures fits { IsTrue result ↔ ((vec_len files.old < most_files) × (vec_len buffer.old + (length name.now + length bytes.now) ≤ room)) }
     ensures buffer { OnTrue result (buffer.new.items ≡ (buffer.old.items ++ name.now) ++ bytes.now) }
-    ensures files { OnTrue result (files.new.items ≡ files.old.items ++ record { name = length name.now; content = length bytes.now } ∷ []) }
+    ensures files { OnTrue result (files.new.items ≡ files.old.items ++ record { name = length name.now; content = length bytes.now } ∷
+        []) }
     ensures same_buffer { OnFalse result (buffer.new.items ≡ buffer.old.items) }
     ensures same_files { OnFalse result (files.new.items ≡ files.old.items) }
     ensures buffer_room { vec_capacity buffer.old ≤ vec_capacity buffer.new }

@@ -1,3 +1,5 @@
+//! A table of files in memory that is reserved.
+
 ghost use Rattle.std.specs.Prelude.{◌≡◌, ◌↔◌, ◌+◌, ◌≤◌, [], length, option_map, IfOk, IfSome, IsTrue};
 ghost use Rattle.std.specs.Bool.{OnTrue, OnFalse};
 ghost use Rattle.ips_io.specs.Files.{file_of};
@@ -25,13 +27,19 @@ impl Model for Table {
 
     ghost Value = { TableState };
 
-    ghost view = { λ t. record { files = files_of t.lengths.items t.buffer.items; buffer = t.buffer.items; most_files = t.most_files; room = t.room } };
+    ghost view = { λ t. record {
+      files = files_of t.lengths.items t.buffer.items;
+      buffer = t.buffer.items;
+      most_files = t.most_files;
+      room = t.room;
+    } };
 
-    ghost invariant = { λ t. (total t.lengths.items ≡ vec_len t.buffer) × (vec_len t.lengths ≤ t.most_files) × (t.most_files ≤ vec_capacity t.lengths) × (vec_len t.buffer ≤ t.room) × (t.room ≤ vec_capacity t.buffer) };
+    ghost invariant = { λ t. (total t.lengths.items ≡ vec_len t.buffer) × (vec_len t.lengths ≤ t.most_files) × (t.most_files ≤
+        vec_capacity t.lengths) × (vec_len t.buffer ≤ t.room) × (t.room ≤ vec_capacity t.buffer) };
 }
 
 impl Table {
-    /// A table of no file, with room for so many files and so many bytes of names and contents together.
+    /// A table of no file, with room for this number of files, and of bytes of names and contents together.
     pub(crate) fn new(alloc: Global, files: u32, bytes: u64) -> Result<Table, Memory>
         ensures { IfOk result (λ t. t ≡ record { files = []; buffer = []; most_files = files; room = bytes }) }
     {
@@ -73,7 +81,7 @@ impl Table {
     }
 
     /// Puts a file into the table, in place of the first one of its name. False, and nothing changed, exactly where the table
-    /// would pass its room.
+    /// would exceed its room.
     pub(crate) fn put(&mut self, name: &str, bytes: &[u8]) -> bool
         ensures fits { IsTrue result ↔ IsWithinRoom self.old.most_files self.old.room (with_file self.old.files name.now bytes.now) }
         ensures files { OnTrue result (self.new.files ≡ with_file self.old.files name.now bytes.now) }

@@ -2,8 +2,8 @@
 ghost use Rattle.std.specs.Prelude.{◌<◌};
 
 use crate::{
-    Failed, MemShelf, ReadError, Shelf, file_shelf, mem_shelf, mem_sink, out_sink,
-    read_all, write_all,
+    Failed, MemShelf, ReadError, Shelf, file_shelf, mem_shelf, mem_sink, out_sink, read_all,
+    write_all,
 };
 use ip_defs::Memory;
 use std::alloc::{AllocError, Global};

@@ -1,4 +1,4 @@
--- Files that are read agree with the table that is told, one after another.
+-- Files that are read agree with the table that is known, one after another.
 use Rattle.std.specs.Prelude.{◌≡◌, ℕ, ◌+◌, ◌<◌, List, [], ◌∷◌, length, replicate, Option, Some, None}
 use Rattle.std.specs.Option.{MatchOption}
 use Rattle.std.proofs.Common.{refl, arith, sym, ◌∙◌}

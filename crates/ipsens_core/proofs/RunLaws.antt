@@ -169,28 +169,28 @@ model_owed name how Owed before after m a read owed =
     }
 
 -- an error that is not want of memory is the first fault
-pub told_first : (o : Option MpsError) (e : MpsError) → IsFirst o e → (e ≡ Out.Memory → ⊥) → o ≡ Some e
-told_first o Out.NotUtf8 h some = h
-told_first o (Out.SectionOrder a) h some = h
-told_first o (Out.UnknownSection a) h some = h
-told_first o (Out.FieldCount a) h some = h
-told_first o (Out.RowKind a) h some = h
-told_first o (Out.TwiceRow a) h some = h
-told_first o (Out.UnknownRow a) h some = h
-told_first o (Out.SplitColumn a) h some = h
-told_first o (Out.TwiceEntry a) h some = h
-told_first o (Out.Number a) h some = h
-told_first o (Out.Marker a) h some = h
-told_first o (Out.BoundKind a) h some = h
-told_first o (Out.UnknownColumn a) h some = h
-told_first o (Out.Continuous a) h some = h
-told_first o (Out.NoBound a b) h some = h
-told_first o (Out.NegativeUpper a) h some = h
-told_first o (Out.Limit a) h some = h
-told_first o Out.NoObjective h some = h
-told_first o Out.NoEnd h some = h
-told_first o (Out.Digits a) h some = h
-told_first o Out.Memory h some = absurd (some refl)
+pub named_first : (o : Option MpsError) (e : MpsError) → IsFirst o e → (e ≡ Out.Memory → ⊥) → o ≡ Some e
+named_first o Out.NotUtf8 h some = h
+named_first o (Out.SectionOrder a) h some = h
+named_first o (Out.UnknownSection a) h some = h
+named_first o (Out.FieldCount a) h some = h
+named_first o (Out.RowKind a) h some = h
+named_first o (Out.TwiceRow a) h some = h
+named_first o (Out.UnknownRow a) h some = h
+named_first o (Out.SplitColumn a) h some = h
+named_first o (Out.TwiceEntry a) h some = h
+named_first o (Out.Number a) h some = h
+named_first o (Out.Marker a) h some = h
+named_first o (Out.BoundKind a) h some = h
+named_first o (Out.UnknownColumn a) h some = h
+named_first o (Out.Continuous a) h some = h
+named_first o (Out.NoBound a b) h some = h
+named_first o (Out.NegativeUpper a) h some = h
+named_first o (Out.Limit a) h some = h
+named_first o Out.NoObjective h some = h
+named_first o Out.NoEnd h some = h
+named_first o (Out.Digits a) h some = h
+named_first o Out.Memory h some = absurd (some refl)
 
 -- ---- written answers
 
@@ -209,9 +209,9 @@ meets : (P : Reads → Answer → Type 0) (before after : Option Files) (taken t
     (text : List ℕ) (result : Status)
     → IsShownAt status → IsOwed P before after (says status text) → Writes taken taken' f f' status text result →
     RunMeets P (shows before after taken taken') result
-meets P before after taken taken' f f' status text result told owed' (inl w) =
+meets P before after taken taken' f f' status text result shown owed' (inl w) =
     subst (RunMeets P (shows before after taken taken')) (sym w.0)
-    (shown_whole P (shows before after taken taken') status told (record {
+    (shown_whole P (shows before after taken taken') status shown (record {
       answer = says status text;
       read = after;
       owed = owed';
@@ -219,7 +219,7 @@ meets P before after taken taken' f f' status text result told owed' (inl w) =
       text = w.2;
       saved = refl;
     }))
-meets P before after taken taken' f f' status text result told owed' (inr w) =
+meets P before after taken taken' f f' status text result shown owed' (inr w) =
     subst (RunMeets P (shows before after taken taken')) (sym w.0) (record {
       answer = says status text;
       read = after;

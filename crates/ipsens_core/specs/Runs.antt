@@ -73,7 +73,7 @@ pub record Outside : Type 0 where
   pub taken : Option (List ℕ)
   pub taken_after : Option (List ℕ)
 
--- the outside of a call, by what is told of it
+-- the outside of a call, by what is known of it
 abbrev pub shows : Option Files → Option Files → Option (List ℕ) → Option (List ℕ) → Outside
 shows files files_after taken taken_after = record { files = files; files_after = files_after; taken = taken; taken_after = taken_after }
 

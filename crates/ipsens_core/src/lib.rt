@@ -2,17 +2,17 @@
 #![tactic(auto)]
 
 mod answers;
-mod messages;
+mod command_lines;
 mod models;
-mod runs;
+mod printed_texts;
 mod show;
 mod solve;
 mod statuses;
 #[cfg(test)]
 mod tests;
 
+pub use command_lines::run;
 pub use ips_words::{Request, WordsError, request};
-pub use runs::run;
 pub use show::show_at;
 pub use solve::solve_at;
 pub use statuses::{Status, code, complaint, report};

@@ -9,7 +9,7 @@ ghost use Rattle.ipsens_core.specs.RefusalTexts.{refusal_text};
 ghost use Rattle.ipsens_core.specs.Internal.Made.{IsModelFile, IsModelText, IsRefusalOf, IsWithoutModel};
 
 use crate::answers::{Made, Stop};
-use crate::messages::{TOO_LONG, refusal_line};
+use crate::printed_texts::{TOO_LONG, refusal_line};
 use crate::statuses::Status;
 use ip_defs::Name;
 use ip_model::IntModel;

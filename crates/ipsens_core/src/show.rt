@@ -10,8 +10,8 @@ ghost use Rattle.ipsens_core.specs.Runs.{AnswersRequest, OneRose, RunMeets, file
 ghost use Rattle.ipsens_core.specs.Show.{AnswersShow, IsShow, IsShown};
 
 use crate::answers::{Made, Stop, send};
-use crate::messages::UNPRINTABLE;
 use crate::models::{read_model, without_model};
+use crate::printed_texts::UNPRINTABLE;
 use crate::statuses::Status;
 use ip_defs::{Memory, Name};
 use ip_model::IntModel;
@@ -61,11 +61,14 @@ pub fn show_at<S: Shelf, K: Sink>(
     out: &mut K,
 ) -> Status
     requires command { IsShow request.now }
-    ensures answer { RunMeets (AnswersRequest request.now) (shows (S.files shelf.old) (S.files shelf.new) (K.taken out.old) (K.taken out.new)) result }
+    ensures answer { RunMeets (AnswersRequest request.now) (shows (S.files shelf.old) (S.files shelf.new) (K.taken out.old) (K.taken
+        out.new)) result }
     ensures read_cause { result ≡ Status.ReadFault → Rose (S.faults shelf.old) (S.faults shelf.new) }
     ensures no_read_fault { result ≢ Status.ReadFault → S.faults shelf.new ≡ S.faults shelf.old }
-    ensures write_cause { result ≡ Status.WriteFault → OneRose (S.save_faults shelf.old) (S.save_faults shelf.new) (K.faults out.old) (K.faults out.new) }
-    ensures no_write_fault { result ≢ Status.WriteFault → (S.save_faults shelf.new ≡ S.save_faults shelf.old) × (K.faults out.new ≡ K.faults out.old) }
+    ensures write_cause { result ≡ Status.WriteFault → OneRose (S.save_faults shelf.old) (S.save_faults shelf.new) (K.faults out.old)
+        (K.faults out.new) }
+    ensures no_write_fault { result ≢ Status.WriteFault → (S.save_faults shelf.new ≡ S.save_faults shelf.old) × (K.faults out.new ≡
+        K.faults out.old) }
     ensures begun { Began (S.begun_names shelf.old) (S.begun_names shelf.new) (files_named request.now) }
     ensures no_usage { result ≡ Status.Usage → ⊥ }
 {

@@ -15,8 +15,8 @@ ghost use Rattle.ipsens_core.specs.Runs.{AnswersRequest, OneRose, RunMeets, file
 ghost use Rattle.ipsens_core.specs.Solve.{AnswersSolve, HasOutcome, IsSolve, limits_for};
 
 use crate::answers::{Made, Stop, send};
-use crate::messages::outcome_text;
 use crate::models::{read_model, without_model};
+use crate::printed_texts::outcome_text;
 use crate::statuses::Status;
 use branching::{Limits, Outcome, Steps, solve};
 use ip_defs::{Memory, Name};
@@ -55,7 +55,8 @@ fn searched<L: Ledger>(
 fn solved(alloc: Global, model: &IntModel, asked: Limits) -> Result<Made, Memory>
     requires limits { AreLimits asked.nodes asked.depth asked.pivots }
     requires uncrossed { first_crossed model.now ≡ None }
-    ensures outcome { IfOk result (λ r. HasOutcome model.now (limits_for model.now asked.nodes asked.depth asked.pivots) (says r.0 r.1.items)) }
+    ensures outcome { IfOk result (λ r. HasOutcome model.now (limits_for model.now asked.nodes asked.depth asked.pivots) (says r.0
+        r.1.items)) }
 {
     let parts = model.parts();
     let limits = Limits {
@@ -77,7 +78,8 @@ fn answer<S: Shelf>(
 ) -> Result<Made, Stop>
     requires how { IsHow how }
     requires limits { AreLimits asked.nodes asked.depth asked.pivots }
-    ensures made { IfOk result (IsMade (AnswersSolve name.now how asked.nodes asked.depth asked.pivots) (S.files shelf.old) (S.files shelf.new)) }
+    ensures made { IfOk result (IsMade (AnswersSolve name.now how asked.nodes asked.depth asked.pivots) (S.files shelf.old) (S.files
+        shelf.new)) }
     ensures keeps { Keeps (S.files shelf.old) (S.files shelf.new) }
     ensures names { Began (S.begun_names shelf.old) (S.begun_names shelf.new) (name.now ∷ []) }
     ensures saves { S.save_faults shelf.new ≡ S.save_faults shelf.old }
@@ -101,11 +103,14 @@ pub fn solve_at<S: Shelf, K: Sink>(
     out: &mut K,
 ) -> Status
     requires command { IsSolve request.now }
-    ensures answer { RunMeets (AnswersRequest request.now) (shows (S.files shelf.old) (S.files shelf.new) (K.taken out.old) (K.taken out.new)) result }
+    ensures answer { RunMeets (AnswersRequest request.now) (shows (S.files shelf.old) (S.files shelf.new) (K.taken out.old) (K.taken
+        out.new)) result }
     ensures read_cause { result ≡ Status.ReadFault → Rose (S.faults shelf.old) (S.faults shelf.new) }
     ensures no_read_fault { result ≢ Status.ReadFault → S.faults shelf.new ≡ S.faults shelf.old }
-    ensures write_cause { result ≡ Status.WriteFault → OneRose (S.save_faults shelf.old) (S.save_faults shelf.new) (K.faults out.old) (K.faults out.new) }
-    ensures no_write_fault { result ≢ Status.WriteFault → (S.save_faults shelf.new ≡ S.save_faults shelf.old) × (K.faults out.new ≡ K.faults out.old) }
+    ensures write_cause { result ≡ Status.WriteFault → OneRose (S.save_faults shelf.old) (S.save_faults shelf.new) (K.faults out.old)
+        (K.faults out.new) }
+    ensures no_write_fault { result ≢ Status.WriteFault → (S.save_faults shelf.new ≡ S.save_faults shelf.old) × (K.faults out.new ≡
+        K.faults out.old) }
     ensures begun { Began (S.begun_names shelf.old) (S.begun_names shelf.new) (files_named request.now) }
     ensures no_usage { result ≡ Status.Usage → ⊥ }
 {

@@ -1,4 +1,4 @@
--- What reading the files of a command and making its answer come to, before anything is written.
+-- How reading the files of a command and making its answer end, before anything is written.
 use Rattle.std.specs.declared.alloc.Global.{Global}
 use Rattle.std.specs.Prelude.{◌≡◌, ◌⊎◌, ◌≤◌, ℕ, List, [], ◌∷◌, length, Vec, Option, Some, None, Result, Ok, Err, codes}
 use Rattle.ip_defs.specs.declared.programs.Parts.{Parts}
@@ -35,7 +35,7 @@ IsRefusalOf why (No.Refused text) = text.items ≡ refused_model why
 IsRefusalOf why No.ReadFault = ⊥
 IsRefusalOf why No.Memory = Unit {0}
 
--- what a model text comes to: its model, or the refusal of its first fault
+-- how understanding a model text ends: with its model, or the refusal of its first fault
 abbrev pub IsModelText : List ℕ → How → Result Parts NoModel → Type 0
 IsModelText bytes how (Ok m) = (mps_fault bytes how ≡ None) × (m ≡ model_of bytes how)
 IsModelText bytes how (Err (No.Refused text)) = (e : MpsError) × (mps_fault bytes how ≡ Some e)
@@ -55,7 +55,7 @@ pub record IsModelRead (before after : Option Files) (name : List ℕ) (how : Ho
 abbrev pub IsFileRefused : Option Files → Option Files → List ℕ → How → List ℕ → Type 0
 IsFileRefused before after name how text = IsOwed (ReadsModel name how (λ m rs a. ⊥)) before after (says Refused text)
 
--- what reading a model file comes to: its model, or the text of its refusal
+-- how reading a model file ends: with its model, or the text of its refusal
 abbrev pub IsModelFile : Option Files → Option Files → List ℕ → How → Result Parts NoModel → Type 0
 IsModelFile before after name how (Ok m) = IsModelRead before after name how m
 IsModelFile before after name how (Err (No.Refused text)) = IsFileRefused before after name how text.items

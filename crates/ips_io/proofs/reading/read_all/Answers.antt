@@ -17,11 +17,11 @@ loop-bytes-preserved g c = record {
   names = λ now is. c.loop-bytes.invariant.names now (sym c.in-Ok-read.ensures.names ∙ is);
   faults = c.in-Ok-read.ensures.cause.stands ∙ c.loop-bytes.invariant.faults;
   saves = c.in-Ok-read.ensures.saves ∙ c.loop-bytes.invariant.saves;
-  files = λ t told. c.loop-bytes.invariant.files t (sym c.in-Ok-read.ensures.files ∙ told);
-  unknown = λ t told lost. c.loop-bytes.invariant.unknown t told (sym c.in-Ok-read.ensures.files ∙ lost);
+  files = λ t known. c.loop-bytes.invariant.files t (sym c.in-Ok-read.ensures.files ∙ known);
+  unknown = λ t known lost. c.loop-bytes.invariant.unknown t known (sym c.in-Ok-read.ensures.files ∙ lost);
   room = within_limit _ _ _ _ _ c.read.new.into c.in-Ok-extend_from_slice.ensures.len c.if-n-room.false c.len.ensures
       c.loop-bytes.invariant.room;
-  content = λ t told.
-      let here = reads_next _ _ _ _ _ _ _ _ c.in-Ok-read.ensures.files c.loop-bytes.invariant.content c.in-Ok-read.ensures.bytes t told in
+  content = λ t known.
+      let here = reads_next _ _ _ _ _ _ _ _ c.in-Ok-read.ensures.files c.loop-bytes.invariant.content c.in-Ok-read.ensures.bytes t known in
       (here.0, here.1, here.2 ∙ ap (λ xs. Some (xs ++ here.0)) (sym c.in-Ok-extend_from_slice.ensures.items));
 }

@@ -5,11 +5,11 @@ use Rattle.ips_io.proofs.ShelfLaws.{moved_part, rest_of_part}
 use Rattle.ips_io.proofs.memory_shelves.MemShelfShelf.read.Goals as goal
 
 pub returns-clause-bytes : goal.returns-clause-bytes
-returns-clause-bytes c old told =
+returns-clause-bytes c old known =
     let b = c.self.inside.table.buffer in
     let part = c.in-Some.part in
     let n = c.min-n.result in
-    let here : Some (part_of b part) ≡ Some old = sym (ap (option_map (part_of b)) c.in-Some.is) ∙ ap (λ v. v.left) c.self.view_is ∙ told in
+    let here : Some (part_of b part) ≡ Some old = sym (ap (option_map (part_of b)) c.in-Some.is) ∙ ap (λ v. v.left) c.self.view_is ∙ known in
     let same : part_of b part ≡ old = cc in
     let within = c.self.invariant.0 part c.in-Some.is in
     let piece = c.self.invariant.1 in

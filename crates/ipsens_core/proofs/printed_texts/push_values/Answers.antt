@@ -8,7 +8,7 @@ use Rattle.std.proofs.lemmas.Option.{slice_get_read}
 use Rattle.ipsens_core.specs.AnswerTexts.{value_line}
 use Rattle.ip_defs.specs.Program.{at}
 use Rattle.ipsens_core.proofs.TextLaws.{values_more, values_all}
-use Rattle.ipsens_core.proofs.messages.push_values.Goals as goal
+use Rattle.ipsens_core.proofs.printed_texts.push_values.Goals as goal
 
 pub loop-j-preserved : goal.loop-j-preserved
 loop-j-preserved c =

@@ -2,7 +2,7 @@ use Rattle.std.proofs.Common.{ap, Err}
 use Rattle.std.specs.Prelude.{map, string_bytes}
 use Rattle.ipsens_core.specs.Runs.{AnswersRequest, IsRunOf}
 use Rattle.ipsens_core.proofs.RunLaws.{began_asked, meets_more, request_run, usage_meets}
-use Rattle.ipsens_core.proofs.runs.run.Goals as goal
+use Rattle.ipsens_core.proofs.command_lines.run.Goals as goal
 
 pub returns-in-Err-Usage-clause-answer : goal.returns-in-Err-Usage-clause-answer
 returns-in-Err-Usage-clause-answer g c =

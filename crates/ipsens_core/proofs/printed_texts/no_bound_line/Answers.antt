@@ -1,7 +1,7 @@
 use Rattle.std.proofs.Common.{◌≡◌, subst}
 use Rattle.std.specs.Prelude.{IfOk, List, ℕ, string_bytes}
 use Rattle.ipsens_core.proofs.TextLaws.{no_lower_is, no_upper_is}
-use Rattle.ipsens_core.proofs.messages.no_bound_line.Goals as goal
+use Rattle.ipsens_core.proofs.printed_texts.no_bound_line.Goals as goal
 
 pub returns-in-Lower : goal.returns-in-Lower
 returns-in-Lower c = rw c.in-Lower.is (subst (λ (bs : List ℕ). IfOk c.no_lower_line.result (λ s. string_bytes s ≡ bs))

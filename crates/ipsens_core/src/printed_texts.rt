@@ -1,3 +1,5 @@
+//! The printed texts of outcomes and of refusals.
+
 ghost use Rattle.std.specs.Prelude.{◌≡◌, ◌≢◌, ◌≤◌, ◌++◌, IfOk, OnOk, Some, codes, decimal, flat_map, length, string_bytes, zip};
 ghost use Rattle.std.specs.Fmt.{signed_decimal};
 ghost use Rattle.std.specs.Option.{ForSome};
@@ -82,7 +84,8 @@ fn cost_line(alloc: Global, word: &str, cost: i128, decimals: u8) -> Result<Stri
 /// The text of a point and its cost, after a word.
 fn point_text(alloc: Global, word: &str, model: &IntModel, point: &Point) -> Result<String, Memory>
     requires { length point.now ≡ length model.now.columns }
-    ensures { IfOk result (λ s. string_bytes s ≡ word.now ++ amount_text model.now (cost_of model.now point.now) ++ newline ++ value_lines model.now point.now) }
+    ensures { IfOk result (λ s. string_bytes s ≡ word.now ++ amount_text model.now (cost_of model.now point.now) ++ newline ++
+        value_lines model.now point.now) }
 {
     let cost = cost(model, point);
     let parts = model.parts();
@@ -158,7 +161,8 @@ fn stop_text(
     best: &Option<Point>,
 ) -> Result<String, Memory>
     requires { ForSome best.now (λ x. length x ≡ length model.now.columns) }
-    ensures { IfOk result (λ s. string_bytes s ≡ codes "budget " ++ limit_word what ++ newline ++ counts.now ++ best_lines model.now best.now) }
+    ensures { IfOk result (λ s. string_bytes s ≡ codes "budget " ++ limit_word what ++ newline ++ counts.now ++ best_lines model.now
+        best.now) }
 {
     let mut text = limit_stop_text(alloc, what)?;
     text.push_str(counts)?;
@@ -268,7 +272,8 @@ fn no_bound_line(alloc: Global, column: &str, side: Side) -> Result<String, Allo
 }
 
 fn limit_line(alloc: Global, limit: &Limit) -> Result<String, AllocError>
-    ensures { IfOk result (λ s. string_bytes s ≡ refused_model (codes "M17 " ++ what_text limit.now.what ++ codes " " ++ decimal limit.now.index)) }
+    ensures { IfOk result (λ s. string_bytes s ≡ refused_model (codes "M17 " ++ what_text limit.now.what ++ codes " " ++ decimal
+        limit.now.index)) }
 {
     let what = what_word(limit.what);
     let index = limit.index;

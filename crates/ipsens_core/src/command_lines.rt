@@ -18,13 +18,17 @@ use std::alloc::Global;
 /// whole text is made, then it is written. No failure of the shelf or the sink is hidden: each ends the run with its status. No file is
 /// begun but those that the words name, in their order.
 pub fn run<S: Shelf, K: Sink>(alloc: Global, words: &[String], shelf: &mut S, out: &mut K) -> Status
-    ensures answer { RunMeets (IsRunOf (map string_bytes words.now)) (shows (S.files shelf.old) (S.files shelf.new) (K.taken out.old) (K.taken out.new)) result }
+    ensures answer { RunMeets (IsRunOf (map string_bytes words.now)) (shows (S.files shelf.old) (S.files shelf.new) (K.taken out.old)
+        (K.taken out.new)) result }
     ensures usage { result ≡ Status.Usage → request_of (map string_bytes words.now) ≡ None }
-    ensures no_request { request_of (map string_bytes words.now) ≡ None → (result ≡ Status.Usage) ⊎ ((result ≡ Status.WriteFault) ⊎ (result ≡ Status.Memory)) }
+    ensures no_request { request_of (map string_bytes words.now) ≡ None → (result ≡ Status.Usage) ⊎ ((result ≡ Status.WriteFault) ⊎
+        (result ≡ Status.Memory)) }
     ensures read_cause { result ≡ Status.ReadFault → Rose (S.faults shelf.old) (S.faults shelf.new) }
     ensures no_read_fault { result ≢ Status.ReadFault → S.faults shelf.new ≡ S.faults shelf.old }
-    ensures write_cause { result ≡ Status.WriteFault → OneRose (S.save_faults shelf.old) (S.save_faults shelf.new) (K.faults out.old) (K.faults out.new) }
-    ensures no_write_fault { result ≢ Status.WriteFault → (S.save_faults shelf.new ≡ S.save_faults shelf.old) × (K.faults out.new ≡ K.faults out.old) }
+    ensures write_cause { result ≡ Status.WriteFault → OneRose (S.save_faults shelf.old) (S.save_faults shelf.new) (K.faults out.old)
+        (K.faults out.new) }
+    ensures no_write_fault { result ≢ Status.WriteFault → (S.save_faults shelf.new ≡ S.save_faults shelf.old) × (K.faults out.new ≡
+        K.faults out.old) }
     ensures begun { BeganFirst (S.begun_names shelf.old) (S.begun_names shelf.new) (files_asked (map string_bytes words.now)) }
 {
     let request = match request(alloc, words) {

@@ -4,7 +4,7 @@ use Rattle.std.specs.Fmt.{signed_decimal}
 use Rattle.std.specs.Int.{w64}
 use Rattle.std.proofs.lemmas.Int.{ints}
 use Rattle.ipsens_core.proofs.TextLaws.{value_text_is}
-use Rattle.ipsens_core.proofs.messages.value_text.Goals as goal
+use Rattle.ipsens_core.proofs.printed_texts.value_text.Goals as goal
 
 pub returns : goal.returns
 returns c =

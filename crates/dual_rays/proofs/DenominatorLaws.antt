@@ -2,8 +2,8 @@
 use Rattle.std.specs.Prelude.{◌≡◌, ℕ, zero, suc, ◌+◌, ◌*◌, ◌/◌, ◌<◌, ◌≤◌, List, [], ◌∷◌, ◌++◌, length, take, drop, slice_index_or}
 use Rattle.std.specs.Int.{◌∣◌}
 use Rattle.std.proofs.Common.{arith, refl, ap, sym, ◌∙◌, subst}
-use Rattle.std.proofs.Math.Nat.{dvd-mul_left, dvd-mul_right, mul-dvd-mul_left, mul-div_cancel', le_of_dvd, one-dvd, pos_of_dvd_of_pos,
-    dvd_of_mul-dvd-mul_left}
+use Rattle.std.proofs.Math.Nat.{dvd-mul_left, dvd-mul_right, mul-dvd-mul_left, mul-div_cancel', le_of_dvd, one-dvd, pos_of_dvd_of_pos}
+use Rattle.std.proofs.Math.Nat.{dvd_of_mul-dvd-mul_left}
 use Rattle.std.proofs.lemmas.List.{take_more, map-append, take-append-drop}
 use Rattle.std.proofs.lemmas.Nat.Gcd.{dvd_trans, dvd_antisymm, dvd-zero}
 use Rattle.frac128.specs.Gcd.{gcd}
@@ -56,7 +56,7 @@ pub lcm-positive : (a b : ℕ) → 0 < a → 0 < b → 0 < lcm a b
 lcm-positive (suc a) (suc b) p q =
     let all : 0 < suc a * suc b = omega arith in
     pos_of_dvd_of_pos (lcm-least (suc a) (suc b) (suc a * suc b) (omega arith) (dvd-mul_right (suc a) (suc b))
-        (dvd-mul_left (suc b) (suc a))) all
+    (dvd-mul_left (suc b) (suc a))) all
 lcm-positive zero b p q = absurd (omega arith)
 lcm-positive (suc a) zero p q = absurd (omega arith)
 
@@ -92,7 +92,8 @@ denominator-divides (p ∷ ps) (suc k) l = dvd_trans (suc (number_at ps k).less)
     (lcm-second (suc p.less) (common_denominator ps))
 
 -- it divides each number that all denominators divide
-pub denominator-least : (ps : List Rational) (m : ℕ) → ((k : ℕ) → k < length ps → suc (number_at ps k).less ∣ m) → common_denominator ps ∣ m
+pub denominator-least : (ps : List Rational) (m : ℕ) → ((k : ℕ) → k < length ps → suc (number_at ps k).less ∣ m) →
+    common_denominator ps ∣ m
 denominator-least [] m h = one-dvd m
 denominator-least (p ∷ ps) m h = lcm-least (suc p.less) (common_denominator ps) m (denominator-positive ps) (h 0 (omega arith))
     (denominator-least ps m (λ k l. h (suc k) (omega arith)))
@@ -119,12 +120,12 @@ pub denominator-next : (xs : List Fraction) (i : ℕ) (x : Fraction) (d q : ℕ)
     d ≡ suc (value_of x).less → q ≡ common_denominator (values (take i xs)) → lcm d q ≡ common_denominator (values (take (i + 1) xs))
 denominator-next xs i x d q l is e f =
     let here : values (take (i + 1) xs) ≡ values (take i xs) ++ value_of x ∷ [] = ap values (take_more xs i x l)
-            ∙ map-append value_of (take i xs) (slice_index_or xs i x ∷ []) ∙ ap (λ y. values (take i xs) ++ value_of y ∷ []) (sym is) in
+    ∙ map-append value_of (take i xs) (slice_index_or xs i x ∷ []) ∙ ap (λ y. values (take i xs) ++ value_of y ∷ []) (sym is) in
     ap (λ z. lcm z q) e ∙ ap (lcm (suc (value_of x).less)) f ∙ sym (ap common_denominator here
-        ∙ denominator-more (values (take i xs)) (value_of x))
+    ∙ denominator-more (values (take i xs)) (value_of x))
 
 pub denominator-prefix : (xs : List Fraction) (i : ℕ) → common_denominator (values (take i xs)) ≤ common_denominator (values xs)
 denominator-prefix xs i =
     subst (λ ys. common_denominator (values (take i xs)) ≤ common_denominator ys) (sym (map-append value_of (take i xs) (drop i xs))
-        ∙ ap values (take-append-drop i xs))
+    ∙ ap values (take-append-drop i xs))
     (denominator-grows (values (take i xs)) (values (drop i xs)))

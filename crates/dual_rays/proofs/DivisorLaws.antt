@@ -1,6 +1,6 @@
 -- Greatest common divisors of lists of whole numbers, and lists without one.
-use Rattle.std.specs.Prelude.{◌≡◌, ◌≢◌, ℕ, zero, suc, ◌*◌, ◌/◌, ◌<◌, List, [], ◌∷◌, length, map, ℤ, pos, negsuc, ◌*ℤ◌, int_div,
-    unsigned_abs}
+use Rattle.std.specs.Prelude.{◌≡◌, ◌≢◌, ℕ, zero, suc, ◌*◌, ◌/◌, ◌<◌, List, [], ◌∷◌, length, map, ℤ, pos, negsuc, ◌*ℤ◌, int_div}
+use Rattle.std.specs.Prelude.{unsigned_abs}
 use Rattle.std.specs.Int.{◌∣◌}
 use Rattle.std.proofs.Common.{arith, refl, ap, sym, ◌∙◌, subst}
 use Rattle.std.proofs.lemmas.Int.{ints, unsigned_abs-mul}
@@ -60,7 +60,7 @@ pub primitive-divisor : (zs : List ℤ) → 0 < common_divisor zs → common_div
 primitive-divisor zs p =
     let g = common_divisor zs in
     let is : g * common_divisor (primitive zs) ≡ g * 1 = sym (divisor-scale g (primitive zs) p)
-            ∙ ap common_divisor (quotients-back g zs (λ k l. divisor-divides zs k l)) ∙ omega arith in
+    ∙ ap common_divisor (quotients-back g zs (λ k l. divisor-divides zs k l)) ∙ omega arith in
     sym (mul-div_cancel_left (common_divisor (primitive zs)) p) ∙ ap (λ n. n / g) is ∙ mul-div_cancel_left 1 p
 
 pub cancel-factor : (q : ℕ) (x y : ℤ) → 0 < q → pos q *ℤ x ≡ pos q *ℤ y → x ≡ y
@@ -71,7 +71,7 @@ cancel-factor (suc q) x y p e = cancel q x y e
 product_back : (g : ℕ) (z : ℤ) → 0 < g → int_div (pos g *ℤ z) (pos g) ≡ z
 product_back g z p =
     let divides : g ∣ unsigned_abs (pos g *ℤ z) = subst (λ n. g ∣ n) (sym (unsigned_abs-mul (pos g) z))
-            (dvd-mul_right g (unsigned_abs z)) in
+    (dvd-mul_right g (unsigned_abs z)) in
     cancel-factor g (int_div (pos g *ℤ z) (pos g)) z p (divided-is g (pos g *ℤ z) divides)
 
 products-back : (g : ℕ) (zs : List ℤ) → 0 < g → map (λ z. int_div z (pos g)) (map (λ z. pos g *ℤ z) zs) ≡ zs
@@ -96,7 +96,7 @@ pub primitive-same : (w q : ℕ) (zs vs : List ℤ) → 0 < w → 0 < q → map 
 primitive-same w q zs vs p r e one =
     let g = common_divisor zs in
     let product : w ≡ q * g = omega arith ∙ ap (λ n. w * n) (sym one) ∙ sym (divisor-scale w vs p) ∙ ap common_divisor e
-            ∙ divisor-scale q zs r in
+    ∙ divisor-scale q zs r in
     let is : zs ≡ map (λ z. pos g *ℤ z) vs = sym (products-back q zs r)
     ∙ ap (map (λ z. int_div z (pos q))) (sym e ∙ ap (λ n. map (λ z. pos n *ℤ z) vs) product ∙ scale_twice q g vs)
     ∙ products-back q (map (λ z. pos g *ℤ z) vs) r in

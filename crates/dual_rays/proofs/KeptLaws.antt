@@ -1,6 +1,6 @@
 -- The rows that a certificate keeps: in order, none with 0, and read by row they are what was given.
-use Rattle.std.specs.Prelude.{◌≡◌, ◌≢◌, ℕ, zero, suc, ◌+◌, ◌^◌, ◌<◌, ◌≤◌, ◌==◌, not, Bool, true, false, cond, List, [], ◌∷◌, length,
-    filter, ℤ, pos, unsigned_abs}
+use Rattle.std.specs.Prelude.{◌≡◌, ◌≢◌, ℕ, zero, suc, ◌+◌, ◌^◌, ◌<◌, ◌≤◌, ◌==◌, not, Bool, true, false, cond, List, [], ◌∷◌, length}
+use Rattle.std.specs.Prelude.{filter, ℤ, pos, unsigned_abs}
 use Rattle.std.specs.List.{enumerate_from, list_any}
 use Rattle.std.proofs.Common.{arith, refl, ap, sym, ◌∙◌}
 use Rattle.std.proofs.lemmas.Int.{ints}
@@ -49,8 +49,11 @@ from_cons n rows z ps l present' f = record {
 kept_from : (n rows : ℕ) (zs : List ℤ) → n + length zs ≤ rows → AreFrom n rows (kept n zs)
 kept_from n rows [] l = record {
   least = λ i m. absurd (omega arith);
-  ordered = record { rising = λ i k h m. absurd (omega arith); within = λ i m. absurd (omega arith);
-      present = λ i m. absurd (omega arith) };
+  ordered = record {
+    rising = λ i k h m. absurd (omega arith);
+    within = λ i m. absurd (omega arith);
+    present = λ i m. absurd (omega arith);
+  };
 }
 kept_from n rows (z ∷ zs) l = by (unsigned_abs z == 0) refl (kept_from (n + 1) rows zs (omega arith))
   where

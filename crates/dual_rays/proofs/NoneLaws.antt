@@ -1,6 +1,7 @@
 -- Where prices and rays have no certificate, none within the limits has multiples of them.
-use Rattle.std.specs.Prelude.{◌≡◌, ◌≢◌, ℕ, zero, suc, ◌*◌, ◌/◌, ◌^◌, ◌<◌, ◌≤◌, ◌==◌, nat_lt, Bool, true, false, cond, if◌then◌else◌, List,
-    [], ◌∷◌, length, map, None, Some, option_map, ℤ, pos, negsuc, ◌+ℤ◌, ◌*ℤ◌, ◌<ℤ◌, ◌≤ℤ◌, int_div, unsigned_abs}
+use Rattle.std.specs.Prelude.{◌≡◌, ◌≢◌, ℕ, zero, suc, ◌*◌, ◌/◌, ◌^◌, ◌<◌, ◌≤◌, ◌==◌, nat_lt, Bool, true, false, cond, if◌then◌else◌}
+use Rattle.std.specs.Prelude.{List, [], ◌∷◌, length, map, None, Some, option_map, ℤ, pos, negsuc, ◌+ℤ◌, ◌*ℤ◌, ◌<ℤ◌, ◌≤ℤ◌, int_div}
+use Rattle.std.specs.Prelude.{unsigned_abs}
 use Rattle.std.specs.Int.{◌∣◌}
 use Rattle.std.specs.List.{list_any}
 use Rattle.std.proofs.Common.{arith, refl, ap, sym, ◌∙◌, subst}
@@ -85,14 +86,14 @@ no-certificate xs e c cert positive multiples-are = by c.q positive cert.divisor
     by (pos (suc n)) p s h =
         let divides = makes-whole xs (suc n) (omega arith) (λ k l. (coefficient c.y k, sym (h k l))) in
         let product : common_denominator (values xs) * (suc n / common_denominator (values xs)) ≡ suc n =
-                mul-div_cancel' (common_denominator (values xs)) divides in
+        mul-div_cancel' (common_denominator (values xs)) divides in
         let times : 0 < suc n / common_denominator (values xs) =
-                positive_right (common_denominator (values xs)) (suc n / common_denominator (values xs)) (suc n) product (omega arith) in
+        positive_right (common_denominator (values xs)) (suc n / common_denominator (values xs)) (suc n) product (omega arith) in
         let small = le_of_dvd (omega arith) divides in
         fitting (common_denominator (values xs)) (multiples (values xs)) (omega (arith, ints)) (λ k l.
         let here : k < length xs = subst (λ j. k < j) (length-multiples (common_denominator (values xs)) xs) l in
         let is = proportional (common_denominator (values xs)) (suc n / common_denominator (values xs)) (suc n) (numbers_of xs k)
-                (at (multiples (values xs)) k) (coefficient c.y k) product (multiple-is xs k here) (h k here) in
+        (at (multiples (values xs)) k) (coefficient c.y k) product (multiple-is xs k here) (h k here) in
         let least = grows (suc n / common_denominator (values xs)) (at (multiples (values xs)) k) (coefficient c.y k) times is in
         let most = coefficient_small (length xs) (2 ^ 36) c.y k cert.ordered cert.multipliers in
         omega arith) e
@@ -107,11 +108,11 @@ smaller us v w q p r one e k l =
     let divides : w ∣ q = subst (λ n. w ∣ n) all (divisor-greatest zs w (λ j m.
     let here : j < length us = subst (λ i. j < i) (length-map us (λ z. pos q *ℤ z)) m in
     let size : unsigned_abs (at zs j) ≡ w * unsigned_abs (v j) = ap unsigned_abs (get_or-map (λ z. pos q *ℤ z) us j (pos 0) (pos 0) here
-            ∙ sym (e j here)) ∙ unsigned_abs-mul (pos w) (v j) in
+    ∙ sym (e j here)) ∙ unsigned_abs-mul (pos w) (v j) in
     subst (λ n. w ∣ n) (sym size) (dvd-mul_right w (unsigned_abs (v j))))) in
     let product : w * (q / w) ≡ q = mul-div_cancel' w divides in
     let is : v k ≡ pos (q / w) *ℤ at us k = cancel-factor w (v k) (pos (q / w) *ℤ at us k) p (e k l
-            ∙ ap (λ n. pos n *ℤ at us k) (sym product) ∙ mul_assoc (pos w) (pos (q / w)) (at us k)) in
+    ∙ ap (λ n. pos n *ℤ at us k) (sym product) ∙ mul_assoc (pos w) (pos (q / w)) (at us k)) in
     grows (q / w) (at us k) (v k) (positive_right w (q / w) q product r) is
 
 -- a rational number times its denominator
@@ -122,7 +123,7 @@ times_bottom p =
     ap (mul (over (S p.less) 0)) (sym (over_parts p)) ∙ mul-over (S p.less) 0 p.numerator p.less
     ∙ same (S p.less *ℤ p.numerator) K p.numerator 0
     (combine whole (S p.less ∷ p.numerator ∷ S K ∷ []) ((minus (var 1), var 2, num (pos 1) ⊗ var 0) ∷ []) ((var 0 ⊗ var 1) ⊗ num (pos 1))
-        (var 1 ⊗ var 2) refl (both-is 0 p.less, tt))
+    (var 1 ⊗ var 2) refl (both-is 0 p.less, tt))
 
 -- whole numbers that are multiples of one number are in proportion
 cross_ratio : (a r p : Rational) (u v : ℤ) → of u ≡ mul r p → of v ≡ mul a p → (r.numerator *ℤ denominator a) *ℤ v
@@ -130,8 +131,11 @@ cross_ratio : (a r p : Rational) (u v : ℤ) → of u ≡ mul r p → of v ≡ m
 cross_ratio a r p u v first second = of-injective ((r.numerator *ℤ denominator a) *ℤ v) ((a.numerator *ℤ denominator r) *ℤ u)
     (of_mul (r.numerator *ℤ denominator a) v ∙ ap (λ z. mul z (of v)) (of_mul r.numerator (denominator a))
     ∙ combine rationals (of r.numerator ∷ of (denominator r) ∷ r ∷ of a.numerator ∷ of (denominator a) ∷ a ∷ of u ∷ of v ∷ p ∷ [])
-    ((minus (var 4 ⊗ var 7), var 1 ⊗ var 2, var 0) ∷ (var 1 ⊗ var 2 ⊗ var 8, var 4 ⊗ var 5, var 3) ∷ (minus (var 3 ⊗ var 1), var 6,
-        var 2 ⊗ var 8) ∷ (var 1 ⊗ var 2 ⊗ var 4, var 7, var 5 ⊗ var 8) ∷ [])
+    ((minus (var 4 ⊗ var 7), var 1 ⊗ var 2, var 0) ∷ (var 1 ⊗ var 2 ⊗ var 8, var 4 ⊗ var 5, var 3) ∷ (
+      minus (var 3 ⊗ var 1),
+      var 6,
+      var 2 ⊗ var 8,
+    ) ∷ (var 1 ⊗ var 2 ⊗ var 4, var 7, var 5 ⊗ var 8) ∷ [])
     ((var 0 ⊗ var 4) ⊗ var 7) ((var 3 ⊗ var 1) ⊗ var 6) refl
     (times_bottom r, (times_bottom a, (first, (second, tt))))
     ∙ ap (λ z. mul z (of u)) (sym (of_mul a.numerator (denominator r))) ∙ sym (of_mul (a.numerator *ℤ denominator r) u))
@@ -161,7 +165,7 @@ no-ray xs e c a cert positive multiples-are = fitting 0 (primitive (multiples (v
         let inner = inside xs k (here k l) in
         let none : at ws k ≡ pos 0 = divisor-none ws k inner f in
         let is : at (primitive ws) k ≡ pos 0 = at-primitive ws k inner ∙ ap (λ d. int_div (at ws k) (pos d)) f
-                ∙ ap (λ z. int_div z (pos 0)) none in
+        ∙ ap (λ z. int_div z (pos 0)) none in
         subst (λ z. unsigned_abs z ≤ 2 ^ 36) (sym is) (omega arith)
     by (suc g) f k l =
         let ws = multiples (values xs) in
@@ -170,8 +174,8 @@ no-ray xs e c a cert positive multiples-are = fitting 0 (primitive (multiples (v
         let q = unsigned_abs a.numerator * suc r.0.less in
         let one = primitive-divisor ws (subst (λ n. 0 < n) (sym f) (omega arith)) in
         let least = smaller (primitive ws) (coefficient c.y) w q (positive_both (unsigned_abs r.0.numerator) (suc a.less)
-                (size_up r.0.numerator r.1) (omega arith)) (positive_both (unsigned_abs a.numerator) (suc r.0.less)
-                (size_up a.numerator positive) (omega arith)) one
+        (size_up r.0.numerator r.1) (omega arith)) (positive_both (unsigned_abs a.numerator) (suc r.0.less)
+        (size_up a.numerator positive) (omega arith)) one
         (λ j m. ap (λ z. z *ℤ coefficient c.y j) (positive_times r.0.numerator a.less r.1)
         ∙ cross_ratio a r.0 (numbers_of xs j) (at (primitive ws) j) (coefficient c.y j) (r.2 j (here j m)) (multiples-are j (here j m))
         ∙ ap (λ z. z *ℤ at (primitive ws) j) (sym (positive_times a.numerator r.0.less positive))) k l in

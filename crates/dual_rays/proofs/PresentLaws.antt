@@ -1,6 +1,6 @@
 -- The multipliers of a certificate by row: one more at a time, in order, and read by row.
-use Rattle.std.specs.Prelude.{◌≡◌, ℕ, ◌+◌, ◌^◌, ◌<◌, ◌||◌, true, false, if◌then◌else◌, List, [], ◌∷◌, ◌++◌, length, map, filter, take,
-    slice_index_or, None, Some, ℤ, pos}
+use Rattle.std.specs.Prelude.{◌≡◌, ℕ, ◌+◌, ◌^◌, ◌<◌, ◌||◌, true, false, if◌then◌else◌, List, [], ◌∷◌, ◌++◌, length, map, filter, take}
+use Rattle.std.specs.Prelude.{slice_index_or, None, Some, ℤ, pos}
 use Rattle.std.specs.List.{enumerate_from, list_any}
 use Rattle.std.proofs.Common.{arith, ap, sym, ◌∙◌, subst}
 use Rattle.std.proofs.lemmas.List.{take_more, map-append, length-map, get_or-map, length-take-le}
@@ -18,7 +18,7 @@ pub present-more : (zs : List ℤ) (z : ℤ) (k : ℕ) → k ≡ length zs → p
 present-more zs z k e =
     ap (filter is_present) (enumerate-append 0 zs (z ∷ []) ∙ ap (λ k. enumerate_from 0 zs ++ enumerate_from k (z ∷ [])) (omega arith))
     ∙ filter-append is_present (enumerate_from 0 zs) ((length zs, z) ∷ []) ∙ ap (λ (k : ℕ). present zs
-        ++ filter is_present ((k, z) ∷ [])) (sym e)
+    ++ filter is_present ((k, z) ∷ [])) (sym e)
 
 -- the multiples of fractions, one more at a time
 pub multiples-next : (q : ℕ) (xs : List Fraction) (i : ℕ) (x : Fraction) → i < length xs → x ≡ slice_index_or xs i x →
@@ -57,7 +57,7 @@ pub present-next : (q : ℕ) (xs : List Fraction) (i : ℕ) (x : Fraction) (z : 
 present-next q xs i x z k ys l is same here kept =
     let zs = map (multiple q) (values (take i xs)) in
     let size : length zs ≡ i = length-map (values (take i xs)) (multiple q) ∙ length-map (take i xs) value_of
-            ∙ length-take-le i xs (omega arith) in
+    ∙ length-take-le i xs (omega arith) in
     ap (λ ws. ws ++ filter is_present ((k, z) ∷ [])) kept
     ∙ sym (present-more zs z k (here ∙ sym size))
     ∙ ap (λ w. present (zs ++ w ∷ [])) same

@@ -1,6 +1,6 @@
 -- What the certificate of prices is.
-use Rattle.std.specs.Prelude.{◌≡◌, ℕ, zero, suc, ◌*◌, ◌/◌, ◌^◌, ◌<◌, ◌≤◌, nat_lt, Bool, true, false, if◌then◌else◌, List, [], ◌∷◌, length,
-    map, None, Some, option_map, ℤ, pos, negsuc, ◌*ℤ◌, ◌≤ℤ◌, ◌<ℤ◌, unsigned_abs}
+use Rattle.std.specs.Prelude.{◌≡◌, ℕ, zero, suc, ◌*◌, ◌/◌, ◌^◌, ◌<◌, ◌≤◌, nat_lt, Bool, true, false, if◌then◌else◌, List, [], ◌∷◌}
+use Rattle.std.specs.Prelude.{length, map, None, Some, option_map, ℤ, pos, negsuc, ◌*ℤ◌, ◌≤ℤ◌, ◌<ℤ◌, unsigned_abs}
 use Rattle.std.specs.Int.{◌∣◌}
 use Rattle.std.specs.List.{list_any}
 use Rattle.std.proofs.Common.{arith, refl, ap, sym, ◌∙◌, subst}
@@ -39,7 +39,8 @@ pub certificate-made : (q : ℕ) (zs : List ℤ) (c : Cert) → certificate_of q
 certificate-made q zs c e = by (nat_lt (2 ^ 36) q) (list_any (exceeds (2 ^ 36)) zs) refl refl e
   where
     by : (s t : Bool) → nat_lt (2 ^ 36) q ≡ s → list_any (exceeds (2 ^ 36)) zs ≡ t →
-        (if s then None else option_map (λ y. record { q = pos q; y = y }) (if t then None else Some (present zs))) ≡ Some c → IsMade q zs c
+        (if s then None else option_map (λ y. record { q = pos q; y = y }) (if t then None else Some (present zs))) ≡ Some c →
+        IsMade q zs c
     by true t f g h = absurd cc
     by false true f g h = absurd cc
     by false false f g h =
@@ -91,9 +92,9 @@ pub whole-divides : (n : ℕ) (p : Rational) → 0 < n → IsWhole (mul (of (pos
 whole-divides n p positive (z, e) =
     let cross = whole_multiple_cross z p (pos n) (sym e) in
     let sizes : unsigned_abs z * suc p.less ≡ unsigned_abs p.numerator * n = sym (unsigned_abs-mul z (pos (suc p.less)))
-            ∙ ap unsigned_abs cross ∙ unsigned_abs-mul p.numerator (pos n) in
+    ∙ ap unsigned_abs cross ∙ unsigned_abs-mul p.numerator (pos n) in
     euclid (suc p.less) (unsigned_abs p.numerator) n positive p.lowest (subst (λ m. suc p.less ∣ m) sizes
-        (dvd-mul_left (suc p.less) (unsigned_abs z)))
+    (dvd-mul_left (suc p.less) (unsigned_abs z)))
 
 -- what makes all numbers whole is a multiple of their least common denominator
 pub makes-whole : (xs : List Fraction) (n : ℕ) → 0 < n → MakesWhole xs (pos n) → common_denominator (values xs) ∣ n

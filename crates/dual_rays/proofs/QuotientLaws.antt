@@ -1,6 +1,6 @@
 -- Quotients of fractions that are wide, as those of their rational numbers.
-use Rattle.std.specs.Prelude.{◌≡◌, ◌≢◌, suc, ◌^◌, ◌≤◌, Bool, true, false, if◌then◌else◌, Option, Some, None, Err, ℤ, pos, ◌*ℤ◌, ◌<ℤ◌,
-    int_div, unsigned_abs}
+use Rattle.std.specs.Prelude.{◌≡◌, ◌≢◌, suc, ◌^◌, ◌≤◌, Bool, true, false, if◌then◌else◌, Option, Some, None, Err, ℤ, pos, ◌*ℤ◌, ◌<ℤ◌}
+use Rattle.std.specs.Prelude.{int_div, unsigned_abs}
 use Rattle.std.proofs.Common.{refl, ap, sym, ◌∙◌, subst, inl, inr}
 use borrow.Author.Tests.{ltb-false}
 use Rattle.frac128.specs.declared.fraction.Wide.{Wide}
@@ -10,7 +10,7 @@ use Rattle.frac128.specs.Values.{value_of}
 use Rattle.frac128.proofs.Fractions.{lowest-is, product_is}
 use Rattle.frac128.proofs.FractionLaws.{product-positive, product-lowest, product-equal, reciprocal-value, reciprocal-proper}
 use Rattle.dual_rays.specs.Internal.Quotients.{IsWide}
-use Rattle.frac128.proofs.SignLaws.{size_of_S}
+use Rattle.frac128.proofs.SignLaws.{absolute_of_S}
 
 -- ---- wide products
 within-none : (z : ℤ) → within z ≡ None → 2 ^ 127 ≤ unsigned_abs z
@@ -40,7 +40,7 @@ wide-product x y w p q e =
     let positive : pos 0 <ℤ d = product-positive x.num x.den y.num y.den p q in
     let parts = lowest-is n d positive (product-lowest x.num x.den y.num y.den p q) in
     let is = product_is x.num x.den y.num y.den n d p.positive q.positive positive (product-equal x.num x.den y.num y.den p q) in
-    subst IsWide is (wide-lowest n d parts.0 (sym (ap unsigned_abs parts.1) ∙ size_of_S (rational n d).less) w e)
+    subst IsWide is (wide-lowest n d parts.0 (sym (ap unsigned_abs parts.1) ∙ absolute_of_S (rational n d).less) w e)
 
 pub wide-quotient : (x y : Fraction) (w : Wide) → IsFraction x.num x.den → IsFraction y.num y.den → y.num ≢ pos 0 → quotient_of x y ≡ Err w
     → IsWide (quotient (value_of x) (value_of y))

@@ -1,6 +1,6 @@
 -- How the certificate of a ray is found from the ray divided by the absolute value of its first number that is not 0.
-use Rattle.std.specs.Prelude.{◌≡◌, ℕ, zero, suc, ◌+◌, ◌*◌, ◌/◌, ◌^◌, ◌<◌, ◌≤◌, nat_lt, Bool, true, false, if◌then◌else◌, List, [], ◌∷◌,
-    length, map, filter, Option, None, Some, option_map, ℤ, pos, ◌*ℤ◌, int_div, unsigned_abs}
+use Rattle.std.specs.Prelude.{◌≡◌, ℕ, zero, suc, ◌+◌, ◌*◌, ◌/◌, ◌^◌, ◌<◌, ◌≤◌, nat_lt, Bool, true, false, if◌then◌else◌, List, [], ◌∷◌}
+use Rattle.std.specs.Prelude.{length, map, filter, Option, None, Some, option_map, ℤ, pos, ◌*ℤ◌, int_div, unsigned_abs}
 use Rattle.std.specs.Int.{◌∣◌}
 use Rattle.std.specs.List.{enumerate_from, list_any}
 use Rattle.std.proofs.Common.{arith, refl, ap, sym, ◌∙◌, subst, inl, inr}
@@ -16,7 +16,7 @@ use Rattle.frac128.specs.Fractions.{Fraction}
 use Rattle.frac128.specs.Rationals.{Rational, quotient, of, absolute}
 use Rattle.dual_rays.specs.Multiples.{common_denominator, common_divisor, multiple, multiples, primitive}
 use Rattle.dual_rays.specs.Certificates.{is_present, present, certificate_of, values, certificate_of_prices, certificate_of_ray}
-use Rattle.dual_rays.specs.Internal.Quotients.{first_size, number_at, IsWide, AreQuotients}
+use Rattle.dual_rays.specs.Internal.Quotients.{first_absolute, number_at, IsWide, AreQuotients}
 use Rattle.dual_rays.proofs.DenominatorLaws.{denominator-positive, denominator-divides}
 use Rattle.dual_rays.proofs.FirstLaws.{IsFirst, first-is, first-none}
 use Rattle.dual_rays.proofs.UnitLaws.{primitive-unit, unit-multiple, positive_right}
@@ -48,12 +48,12 @@ certificate_of_zeros ps =
     ap (λ t. option_map (certificate 0) (if t then None else Some (present (map (λ p. pos 0) ps)))) (none_above ps)
     ∙ ap (λ ys. Some (certificate 0 ys)) (none_present 0 ps)
 
-pub zero-ray : (xs : List Fraction) → first_size (values xs) ≡ None → Some (record { q = pos 0; y = [] }) ≡ certificate_of_ray xs
+pub zero-ray : (xs : List Fraction) → first_absolute (values xs) ≡ None → Some (record { q = pos 0; y = [] }) ≡ certificate_of_ray xs
 zero-ray xs e =
     let ps = values xs in
     let zeros = all_zeros (common_divisor (multiples ps)) (multiple (common_denominator ps)) ps (λ k l. let z = first-none ps k e l in
-            let none : pos 0 *ℤ pos (common_denominator ps / suc (number_at ps k).less) ≡ pos 0 = omega (arith, ints) in
-            ap (λ t. t *ℤ pos (common_denominator ps / suc (number_at ps k).less)) z ∙ none) in
+    let none : pos 0 *ℤ pos (common_denominator ps / suc (number_at ps k).less) ≡ pos 0 = omega (arith, ints) in
+    ap (λ t. t *ℤ pos (common_denominator ps / suc (number_at ps k).less)) z ∙ none) in
     sym (ap (certificate_of 0) zeros ∙ certificate_of_zeros ps)
 
 -- ---- certificates without their divisor
@@ -88,7 +88,7 @@ grows_by : (a e : ℕ) → 0 < e → a ≤ a * e
 grows_by a zero p = absurd (omega arith)
 grows_by a (suc e) p = omega arith
 
-module _ (xs : List Fraction) (s : Rational) (e : first_size (values xs) ≡ Some s) where
+module _ (xs : List Fraction) (s : Rational) (e : first_absolute (values xs) ≡ Some s) where
   abbrev ps : List Rational
   ps = values xs
 
@@ -102,13 +102,13 @@ module _ (xs : List Fraction) (s : Rational) (e : first_size (values xs) ≡ Som
   is_first = first-is ps s e
 
   quotients_same : map (λ p. quotient p (absolute (number_at ps is_first.place))) ps ≡ rs
-  quotients_same = ap (λ z. map (λ p. quotient p z) ps) (sym is_first.size)
+  quotients_same = ap (λ z. map (λ p. quotient p z) ps) (sym is_first.absolute_value)
 
   same_multiples : primitive (multiples ps) ≡ multiples rs
   same_multiples = primitive-unit ps is_first.place is_first.within is_first.nonzero ∙ ap multiples quotients_same
 
-  unit_size : unsigned_abs (at (multiples rs) is_first.place) ≡ q
-  unit_size = subst (λ zs. unsigned_abs (at (multiples zs) is_first.place) ≡ common_denominator zs) quotients_same
+  unit_absolute : unsigned_abs (at (multiples rs) is_first.place) ≡ q
+  unit_absolute = subst (λ zs. unsigned_abs (at (multiples zs) is_first.place) ≡ common_denominator zs) quotients_same
       (unit-multiple ps is_first.place is_first.within is_first.nonzero)
 
   inside : (k : ℕ) → k < length ps → k < length (multiples rs)
@@ -117,7 +117,7 @@ module _ (xs : List Fraction) (s : Rational) (e : first_size (values xs) ≡ Som
   pub unit-ray : (ys : List Fraction) → values ys ≡ rs → without_divisor (certificate_of_prices ys) ≡ certificate_of_ray xs
   unit-ray ys f =
       ap (λ zs. without_divisor (certificate_of (common_denominator zs) (multiples zs))) f
-      ∙ same_divisor q (multiples rs) is_first.place (inside is_first.place is_first.within) unit_size
+      ∙ same_divisor q (multiples rs) is_first.place (inside is_first.place is_first.within) unit_absolute
       ∙ ap (certificate_of 0) (sym same_multiples)
 
   in_list : (k : ℕ) → k < length ps → k < length rs
@@ -134,12 +134,12 @@ module _ (xs : List Fraction) (s : Rational) (e : first_size (values xs) ≡ Som
       let b = suc (quotient (number_at ps k) s).less in
       positive_right b (q / b) q (mul-div_cancel' b (divides k l)) (denominator-positive rs)
 
-  multiple_size : (k : ℕ) → k < length ps → unsigned_abs (at (multiples rs) k)
+  multiple_absolute : (k : ℕ) → k < length ps → unsigned_abs (at (multiples rs) k)
       ≡ unsigned_abs (quotient (number_at ps k) s).numerator * (q / suc (quotient (number_at ps k) s).less)
-  multiple_size k l =
+  multiple_absolute k l =
       let r = quotient (number_at ps k) s in
       ap unsigned_abs (get_or-map (multiple q) rs k (of (pos 0)) (pos 0) (in_list k l) ∙ ap (multiple q) (number_is k l))
-          ∙ unsigned_abs-mul r.numerator (pos (q / suc r.less))
+      ∙ unsigned_abs-mul r.numerator (pos (q / suc r.less))
 
   -- a wide quotient makes a multiplier that exceeds the limit
   pub wide-ray : AreQuotients ps s None → None ≡ certificate_of_ray xs
@@ -147,9 +147,9 @@ module _ (xs : List Fraction) (s : Rational) (e : first_size (values xs) ≡ Som
     where
       by : IsWide (quotient (number_at ps k) s) → list_any (exceeds (2 ^ 36)) (multiples rs) ≡ true
       by (inl w) = list_any_at (exceeds (2 ^ 36)) (multiples rs) k (pos 0) (inside k l)
-          (lt-ltb (2 ^ 36) (unsigned_abs (at (multiples rs) k)) (let size = multiple_size k l in
-              let grows = grows_by (unsigned_abs (quotient (number_at ps k) s).numerator) (q / suc (quotient (number_at ps k) s).less)
-              (times_positive k l) in omega arith))
+          (lt-ltb (2 ^ 36) (unsigned_abs (at (multiples rs) k)) (let is = multiple_absolute k l in
+          let grows = grows_by (unsigned_abs (quotient (number_at ps k) s).numerator) (q / suc (quotient (number_at ps k) s).less)
+          (times_positive k l) in omega arith))
       by (inr w) = list_any_at (exceeds (2 ^ 36)) (multiples rs) is_first.place (pos 0) (inside is_first.place is_first.within)
-          (lt-ltb (2 ^ 36) (unsigned_abs (at (multiples rs) is_first.place)) (let size = unit_size in
-              let small = le_of_dvd (denominator-positive rs) (divides k l) in omega arith))
+          (lt-ltb (2 ^ 36) (unsigned_abs (at (multiples rs) is_first.place)) (let is = unit_absolute in
+          let small = le_of_dvd (denominator-positive rs) (divides k l) in omega arith))

@@ -24,8 +24,8 @@ use Rattle.dual_rays.proofs.DenominatorLaws.{denominator-positive}
 use Rattle.dual_rays.proofs.DivisorLaws.{divisor-divides, divisor-greatest, divisor-positive, divisor-none, primitive-divisor}
 use Rattle.dual_rays.proofs.KeptLaws.{present-at}
 use Rattle.dual_rays.proofs.PresentLaws.{multiple-at}
-use Rattle.dual_rays.proofs.PriceLaws.{IsMade, certificate-made, made-cert, made-multiplier, length-multiples, multiple-value,
-    denominator-at}
+use Rattle.dual_rays.proofs.PriceLaws.{IsMade, certificate-made, made-cert, made-multiplier, length-multiples, multiple-value}
+use Rattle.dual_rays.proofs.PriceLaws.{denominator-at}
 
 pub at-primitive : (zs : List ℤ) (k : ℕ) → k < length zs → at (primitive zs) k ≡ int_div (at zs k) (pos (common_divisor zs))
 at-primitive zs k l = get_or-map (λ z. int_div z (pos (common_divisor zs))) zs k (pos 0) (pos 0) l
@@ -37,11 +37,14 @@ quotient-value g q v p e =
     let first = both 0 p.less in
     let K = both g p.less in
     let product : over (pos (suc g) *ℤ v) 0 ≡ over (q *ℤ p.numerator) first = e ∙ ap (mul (over q 0)) (sym (over_parts p))
-            ∙ mul-over q 0 p.numerator p.less in
+    ∙ mul-over q 0 p.numerator p.less in
     same v 0 (q *ℤ p.numerator) K
     (combine whole (v ∷ S g ∷ S p.less ∷ q ∷ p.numerator ∷ S first ∷ S K ∷ [])
-    ((num (pos 1), (var 1 ⊗ var 0) ⊗ var 5, (var 3 ⊗ var 4) ⊗ num (pos 1)) ∷ (minus (var 1 ⊗ var 0), var 5, num (pos 1) ⊗ var 2) ∷ (var 0,
-        var 6, var 1 ⊗ var 2) ∷ [])
+    ((num (pos 1), (var 1 ⊗ var 0) ⊗ var 5, (var 3 ⊗ var 4) ⊗ num (pos 1)) ∷ (minus (var 1 ⊗ var 0), var 5, num (pos 1) ⊗ var 2) ∷ (
+      var 0,
+      var 6,
+      var 1 ⊗ var 2,
+    ) ∷ [])
     (var 0 ⊗ var 6) ((var 3 ⊗ var 4) ⊗ num (pos 1)) refl
     (crosswise (pos (suc g) *ℤ v) 0 (q *ℤ p.numerator) first product, (both-is 0 p.less, (both-is g p.less, tt))))
     ∙ sym (mul-over q g p.numerator p.less) ∙ ap (mul (over q g)) (over_parts p)
@@ -82,7 +85,7 @@ module _ (xs : List Fraction) where
     λ k l.
         let none : at ws k ≡ pos 0 = divisor-none ws k (inside k l) e in
         ap of (at-primitive ws k (inside k l) ∙ ap (λ d. int_div (at ws k) (pos d)) e ∙ ap (λ z. int_div z (pos 0)) none ∙ sym none)
-            ∙ multiple-is k l,
+        ∙ multiple-is k l,
   )
   ratio (suc g) e = (
     over (pos q) g,
@@ -91,7 +94,7 @@ module _ (xs : List Fraction) where
         let divides : suc g ∣ unsigned_abs (at ws k) = subst (λ d. d ∣ unsigned_abs (at ws k)) e (divisor-divides ws k (inside k l)) in
         ap of (at-primitive ws k (inside k l) ∙ ap (λ d. int_div (at ws k) (pos d)) e)
         ∙ quotient-value g (pos q) (int_div (at ws k) (pos (suc g))) (numbers_of xs k) (ap of (divided-is (suc g) (at ws k) divides)
-            ∙ multiple-is k l),
+        ∙ multiple-is k l),
   )
 
   module _ (c : Cert) (e : certificate_of_ray xs ≡ Some c) where
@@ -101,7 +104,7 @@ module _ (xs : List Fraction) where
     lowest : (n : ℕ) → IsPresent xs → ((k : ℕ) → k < length xs → n ∣ unsigned_abs (coefficient c.y k)) → n ≡ 1
     lowest n (k, l, nonzero) h =
         let present' : at ws k ≢ pos 0 = λ z. nonzero (no_zero q (numbers_of xs k) (denominator-positive (values xs)) (ap of (sym z)
-                ∙ multiple-is k l)) in
+        ∙ multiple-is k l)) in
         let one = primitive-divisor ws (divisor-positive ws k (inside k l) present') in
         let divides : n ∣ common_divisor (primitive ws) = divisor-greatest (primitive ws) n (λ j m.
         let here : j < length xs = subst (λ i. j < i) size m in

@@ -1,11 +1,12 @@
--- A ray over the size of one of its numbers: the multiples by the least common denominator have no common divisor.
-use Rattle.std.specs.Prelude.{◌≡◌, ◌≢◌, ℕ, zero, suc, ◌*◌, ◌/◌, ◌<◌, ◌≤◌, List, [], ◌∷◌, length, map, ℤ, pos, negsuc, neg_ℤ, ◌*ℤ◌, ◌<ℤ◌,
-    ◌≤ℤ◌, unsigned_abs}
+-- A ray divided by the absolute value of one of its numbers: the multiples by the least common denominator have no common divisor.
+use Rattle.std.specs.Prelude.{◌≡◌, ◌≢◌, ℕ, zero, suc, ◌*◌, ◌/◌, ◌<◌, ◌≤◌, List, [], ◌∷◌, length, map, ℤ, pos, negsuc, neg_ℤ, ◌*ℤ◌, ◌<ℤ◌}
+use Rattle.std.specs.Prelude.{◌≤ℤ◌, unsigned_abs}
 use Rattle.std.specs.Int.{◌∣◌}
 use Rattle.std.proofs.Common.{arith, refl, ap, sym, ◌∙◌, subst}
 use Rattle.std.proofs.lemmas.Int.{ints, unsigned_abs-mul}
 use Rattle.std.proofs.lemmas.List.{length-map, get_or-map}
-use Rattle.std.proofs.Math.Nat.{mul-div_cancel', div-one, dvd_of_mul-dvd-mul_left, mul-dvd-mul_left, le_of_dvd, pos_of_dvd_of_pos, mul_comm}
+use Rattle.std.proofs.Math.Nat.{mul-div_cancel', div-one, dvd_of_mul-dvd-mul_left, mul-dvd-mul_left, le_of_dvd}
+use Rattle.std.proofs.Math.Nat.{pos_of_dvd_of_pos, mul_comm}
 use Rattle.ring_laws.proofs.Normal.{num, var, ◌⊗◌, minus, combine, identity}
 use Rattle.ring_laws.proofs.Named.{ring2}
 use Rattle.ip_defs.specs.Program.{at}
@@ -31,9 +32,9 @@ of-injective x y e = let c = crosswise x 0 y 0 e in omega (arith, ints)
 turned : (p : Rational) → p.numerator <ℤ pos 0 → p ≡ neg (absolute p)
 turned p s = ring2 rationals (λ a b. a) (λ a b. minus (minus a)) refl p p ∙ ap neg (sym (absolute-down p s))
 
--- the size of a number that is not 0 has an inverse
-size-inverse : (p : Rational) → p.numerator ≢ pos 0 → mul (absolute p) (inverse (absolute p)) ≡ of (pos 1)
-size-inverse p n = inverse-is (absolute p) (by (sign_of p.numerator))
+-- the absolute value of a number that is not 0 has an inverse
+absolute-inverse : (p : Rational) → p.numerator ≢ pos 0 → mul (absolute p) (inverse (absolute p)) ≡ of (pos 1)
+absolute-inverse p n = inverse-is (absolute p) (by (sign_of p.numerator))
   where
     by : Sign p.numerator → absolute p ≢ of (pos 0)
     by (up s) = λ e. nonzero p n (sym (absolute-up p (omega (arith, ints))) ∙ e)
@@ -56,14 +57,16 @@ unit p n = by (sign_of p.numerator)
     by (none s) = absurd (n s)
     by (up s) =
         let is : quotient p (absolute p) ≡ of (pos 1) = ap (λ z. mul z (inverse (absolute p))) (sym (absolute-up p (omega (arith, ints))))
-                ∙ size-inverse p n in
+        ∙ absolute-inverse p n in
         (ap (λ (z : Rational). unsigned_abs z.numerator) is ∙ ap unsigned_abs one_top.0, ap (λ (z : Rational). z.less) is ∙ one_top.1)
     by (down s) =
         let is : quotient p (absolute p) ≡ of (negsuc 0) = ap (λ z. mul z (inverse (absolute p))) (turned p s)
-                ∙ ring2 rationals (λ a b. minus a ⊗ b) (λ a b. minus (a ⊗ b)) refl (absolute p) (inverse (absolute p))
-                ∙ ap neg (size-inverse p n) ∙ sym (of_neg (pos 1)) in
-        (ap (λ (z : Rational). unsigned_abs z.numerator) is ∙ ap unsigned_abs minus_one_top.0, ap (λ (z : Rational). z.less) is
-            ∙ minus_one_top.1)
+        ∙ ring2 rationals (λ a b. minus a ⊗ b) (λ a b. minus (a ⊗ b)) refl (absolute p) (inverse (absolute p))
+        ∙ ap neg (absolute-inverse p n) ∙ sym (of_neg (pos 1)) in (
+          ap (λ (z : Rational). unsigned_abs z.numerator) is ∙ ap unsigned_abs minus_one_top.0,
+          ap (λ (z : Rational). z.less) is
+              ∙ minus_one_top.1,
+        )
 
 up_size : (t : ℤ) (e : ℕ) → pos 0 ≤ℤ t → pos (unsigned_abs (t *ℤ pos e)) ≡ t *ℤ pos e
 up_size (pos n) e h = refl
@@ -74,8 +77,8 @@ down_size (pos n) e h = absurd (omega (arith, ints))
 down_size (negsuc n) e h = omega (arith, ints)
 
 -- the absolute value of a multiple is the multiple of the absolute value
-size-multiple : (q : ℕ) (p : Rational) → suc p.less ∣ q → of (pos (unsigned_abs (multiple q p))) ≡ mul (of (pos q)) (absolute p)
-size-multiple q p d = by (sign_of p.numerator)
+absolute-multiple : (q : ℕ) (p : Rational) → suc p.less ∣ q → of (pos (unsigned_abs (multiple q p))) ≡ mul (of (pos q)) (absolute p)
+absolute-multiple q p d = by (sign_of p.numerator)
   where
     by : Sign p.numerator → of (pos (unsigned_abs (p.numerator *ℤ pos (q / suc p.less)))) ≡ mul (of (pos q)) (absolute p)
     by (up s) = ap of (up_size p.numerator (q / suc p.less) (omega (arith, ints))) ∙ multiple-value q p d
@@ -97,7 +100,7 @@ common_factor : (d t b e : ℕ) → gcd t b ≡ 1 → 0 < e → d ∣ t * e → 
 common_factor d t b e one positive first second =
     let all : gcd (e * t) (e * b) ≡ e = gcd-mul e t b positive ∙ ap (λ n. e * n) one ∙ omega arith in
     subst (λ n. d ∣ n) all ((gcd-is (e * t) (e * b)).2 d (subst (λ n. d ∣ n) (mul_comm t e) first)
-        (subst (λ n. d ∣ n) (mul_comm b e) second))
+    (subst (λ n. d ∣ n) (mul_comm b e) second))
 
 quotient_one : (d q m : ℕ) → 0 < q → d * m ≡ q → q ≤ m → d ≡ 1
 quotient_one zero q m p e l = absurd (omega arith)
@@ -141,7 +144,7 @@ module _ (ps : List Rational) (i : ℕ) (l : i < length ps) (n : (number_at ps i
   divides k m = subst (λ (p : Rational). suc p.less ∣ q) (number_is k m) (denominator-divides rs k (inside k m))
 
   w_is : of (pos w) ≡ mul (of (pos (common_denominator ps))) s
-  w_is = size-multiple (common_denominator ps) (number_at ps i) (denominator-divides ps i l)
+  w_is = absolute-multiple (common_denominator ps) (number_at ps i) (denominator-divides ps i l)
 
   in_proportion : (k : ℕ) → k < length ps → pos w *ℤ multiple q (quotient (number_at ps k) s)
       ≡ pos q *ℤ multiple (common_denominator ps) (number_at ps k)
@@ -154,7 +157,7 @@ module _ (ps : List Rational) (i : ℕ) (l : i < length ps) (n : (number_at ps i
       (of_mul (pos w) (multiple q (quotient p s)) ∙ ap (mul (of (pos w))) first ∙ ap (λ z. mul z (mul (of (pos q)) (quotient p s))) w_is
       ∙ combine rationals (of (pos Q) ∷ s ∷ of (pos q) ∷ p ∷ inverse s ∷ [])
       ((var 0 ⊗ var 2 ⊗ var 3, var 1 ⊗ var 4, num (pos 1)) ∷ [])
-      ((var 0 ⊗ var 1) ⊗ (var 2 ⊗ (var 3 ⊗ var 4))) (var 2 ⊗ (var 0 ⊗ var 3)) refl (size-inverse (number_at ps i) n, tt)
+      ((var 0 ⊗ var 1) ⊗ (var 2 ⊗ (var 3 ⊗ var 4))) (var 2 ⊗ (var 0 ⊗ var 3)) refl (absolute-inverse (number_at ps i) n, tt)
       ∙ ap (mul (of (pos q))) (sym second) ∙ sym (of_mul (pos q) (multiple Q p)))
 
   -- the absolute value of the number's own multiple is the denominator
@@ -164,7 +167,7 @@ module _ (ps : List Rational) (i : ℕ) (l : i < length ps) (n : (number_at ps i
       let one = unit (number_at ps i) n in
       ap unsigned_abs (get_or-map (multiple q) rs i (of (pos 0)) (pos 0) (inside i l) ∙ ap (multiple q) (number_is i l))
       ∙ unsigned_abs-mul r.numerator (pos (q / suc r.less)) ∙ ap (λ z. z * (q / suc r.less)) one.0 ∙ ap (λ z. 1 * (q / suc z)) one.1
-          ∙ ap (λ z. 1 * z) (div-one q) ∙ omega arith
+      ∙ ap (λ z. 1 * z) (div-one q) ∙ omega arith
 
   abbrev d : ℕ
   d = common_divisor (multiples rs)
@@ -185,12 +188,12 @@ module _ (ps : List Rational) (i : ℕ) (l : i < length ps) (n : (number_at ps i
       let e = q / b in
       let product : b * e ≡ q = mul-div_cancel' b (denominator-divides rs k m) in
       let size : unsigned_abs (at (multiples rs) k) ≡ unsigned_abs p.numerator * e =
-              ap unsigned_abs (get_or-map (multiple q) rs k (of (pos 0)) (pos 0) m) ∙ unsigned_abs-mul p.numerator (pos e) in
+      ap unsigned_abs (get_or-map (multiple q) rs k (of (pos 0)) (pos 0) m) ∙ unsigned_abs-mul p.numerator (pos e) in
       let first : d ∣ unsigned_abs p.numerator * e = subst (λ z. d ∣ z) size (divisor-divides (multiples rs) k (within k m)) in
       let factor : d ∣ e = common_factor d (unsigned_abs p.numerator) b e p.lowest (positive_right b e q product (denominator-positive rs))
-              first (subst (λ z. d ∣ z) (sym product) d_divides) in
+      first (subst (λ z. d ∣ z) (sym product) d_divides) in
       let products : d * b ∣ d * (q / d) = subst (λ z. z ∣ d * (q / d)) (mul_comm b d) (subst (λ z. b * d ∣ z) (product
-              ∙ sym q_is) (mul-dvd-mul_left d b factor)) in
+      ∙ sym q_is) (mul-dvd-mul_left d b factor)) in
       dvd_of_mul-dvd-mul_left b (pos_of_dvd_of_pos d_divides (denominator-positive rs)) products
 
   lowest : d ≡ 1
@@ -203,12 +206,12 @@ module _ (ps : List Rational) (i : ℕ) (l : i < length ps) (n : (number_at ps i
       let Q = common_denominator ps in
       let e = Q / suc p.less in
       let right : 0 < e = positive_right (suc p.less) e Q (mul-div_cancel' (suc p.less) (denominator-divides ps i l))
-              (denominator-positive ps) in
+      (denominator-positive ps) in
       subst (λ z. 0 < z) (sym (unsigned_abs-mul p.numerator (pos e))) (positive_both (unsigned_abs p.numerator) e
-          (size_positive p.numerator n) right)
+      (size_positive p.numerator n) right)
 
   -- the least whole multiple of a ray is that of its numbers over the absolute value of one of them
   pub primitive-unit : primitive (multiples ps) ≡ multiples rs
   primitive-unit = primitive-same w q (multiples ps) (multiples rs) w_positive (denominator-positive rs)
       (map_same (λ z. pos w *ℤ z) (λ z. pos q *ℤ z) (multiple q) (multiple (common_denominator ps)) (λ p. quotient p s) ps in_proportion)
-          lowest
+      lowest

@@ -1,6 +1,6 @@
 -- The certificates of dual prices and of dual rays; none where a number exceeds the limit of certificates.
-use Rattle.std.specs.Prelude.{ℕ, ◌^◌, ◌==◌, nat_lt, Bool, not, if◌then◌else◌, List, map, filter, Option, None, Some, option_map, ℤ, pos,
-    unsigned_abs}
+use Rattle.std.specs.Prelude.{ℕ, ◌^◌, ◌==◌, nat_lt, Bool, not, if◌then◌else◌, List, map, filter, Option, None, Some, option_map, ℤ, pos}
+use Rattle.std.specs.Prelude.{unsigned_abs}
 use Rattle.std.specs.List.{enumerate_from, list_any}
 use Rattle.ip_defs.specs.Limits.{exceeds}
 use Rattle.ip_defs.specs.declared.certificates.Cert.{Cert}

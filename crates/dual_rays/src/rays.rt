@@ -4,7 +4,7 @@ ghost use Rattle.frac128.specs.Values.{value_of};
 ghost use Rattle.frac128.specs.Rationals.{quotient};
 ghost use Rattle.dual_rays.specs.Certificates.{certificate_of_ray, values};
 ghost use Rattle.dual_rays.specs.Meanings.{IsOfRay, BoundsByRay, HasNoRay};
-ghost use Rattle.dual_rays.specs.Internal.Quotients.{AreQuotients, IsWide, first_size as first_size_of};
+ghost use Rattle.dual_rays.specs.Internal.Quotients.{AreQuotients, IsWide, first_absolute as first_absolute_of};
 
 use crate::prices::certificate;
 use frac128::{Frac, Wide, div};
@@ -13,8 +13,8 @@ use lp_duality::Fracs;
 use std::alloc::Global;
 
 /// The absolute value of the first number that is not 0.
-fn first_size(ray: &[Frac]) -> Option<Frac>
-    ensures value { option_map value_of result ≡ first_size_of (values ray.now) }
+fn first_absolute(ray: &[Frac]) -> Option<Frac>
+    ensures value { option_map value_of result ≡ first_absolute_of (values ray.now) }
     ensures present { IfSome result (λ x. x.num ≢ pos 0) }
 {
     for number in ray {
@@ -26,25 +26,26 @@ fn first_size(ray: &[Frac]) -> Option<Frac>
 }
 
 /// A quotient, none where it is wide.
-fn over(x: Frac, size: Frac) -> Option<Frac>
-    requires { size.num ≢ pos 0 }
-    ensures { MatchOption result (IsWide (quotient (value_of x) (value_of size))) (λ r. value_of r ≡ quotient (value_of x) (value_of size)) }
+fn over(x: Frac, divisor: Frac) -> Option<Frac>
+    requires { divisor.num ≢ pos 0 }
+    ensures { MatchOption result (IsWide (quotient (value_of x) (value_of divisor)))
+        (λ r. value_of r ≡ quotient (value_of x) (value_of divisor)) }
 {
-    let _ = (x.num(), size.num());
-    match div(x, size) {
+    let _ = (x.num(), divisor.num());
+    match div(x, divisor) {
         Ok(quotient) => Some(quotient),
         Err(Wide) => None,
     }
 }
 
 /// Each number divided by the same divisor, none where a quotient is wide.
-fn quotients(alloc: Global, ray: &[Frac], size: Frac) -> Result<Option<Fracs>, Memory>
-    requires { size.num ≢ pos 0 }
-    ensures { IfOk result (AreQuotients (values ray.now) (value_of size)) }
+fn quotients(alloc: Global, ray: &[Frac], divisor: Frac) -> Result<Option<Fracs>, Memory>
+    requires { divisor.num ≢ pos 0 }
+    ensures { IfOk result (AreQuotients (values ray.now) (value_of divisor)) }
 {
     let mut quotients = Fracs::from_vec(Vec::with_capacity(alloc, ray.len())?);
     for number in ray {
-        match over(*number, size) {
+        match over(*number, divisor) {
             Some(quotient) => quotients.push(quotient)?,
             None => return Ok(None),
         }
@@ -58,8 +59,8 @@ fn ray_certificate(alloc: Global, ray: &[Frac]) -> Result<Option<Cert>, Memory>
     requires { length ray.now ≤ 1024 }
     ensures { IfOk result (λ c. c ≡ certificate_of_ray ray.now) }
 {
-    let size = match first_size(ray) {
-        Some(size) => size,
+    let divisor = match first_absolute(ray) {
+        Some(divisor) => divisor,
         None => {
             return Ok(Some(Cert {
                 q: 0,
@@ -67,7 +68,7 @@ fn ray_certificate(alloc: Global, ray: &[Frac]) -> Result<Option<Cert>, Memory>
             }));
         }
     };
-    let numbers = match quotients(alloc, ray, size)? {
+    let numbers = match quotients(alloc, ray, divisor)? {
         Some(numbers) => numbers,
         None => return Ok(None),
     };

@@ -1,19 +1,15 @@
 //! Certificates by hand.
-ghost use Rattle.std.specs.Prelude.{IsTrue};
-ghost use Rattle.ip_defs.specs.Limits.{IsArea};
-
 use crate::{Cert, Fracs, Memory, cert_of_prices, cert_of_ray};
 use frac128::{Frac, frac};
-use ip_defs::{Area, Bound, Coefs, Column, ColumnList, Name, Parts, Row, RowList};
-use ip_model::{IntModel, make, well_shaped};
+use ip_defs::{Area, Bound};
+use ip_model::IntModel;
 use leaf_cert::{cert_ok, leaf_bound, scratch};
-use std::alloc::{Alloc, Global};
+use sample_models::{half, is_box};
+use std::alloc::Global;
+use std::test::Fail;
 
-/// The greatest number that a certificate holds.
+/// The greatest absolute value of a certificate's numbers.
 const GREATEST: i64 = 1 << 36;
-
-/// The greatest size of a side of a column.
-const LARGEST_SIDE: u64 = 1 << 24;
 
 /// A fraction of two numbers, of which the second is not 0.
 fn fraction(num: i64, den: i64) -> Frac {
@@ -45,134 +41,146 @@ fn certificate(alloc: Global, is_ray: bool, numbers: &Fracs) -> Result<Option<Ce
     }
 }
 
-/// Whether a certificate has a divisor and multipliers.
-fn is_cert(cert: &Option<Cert>, want: Option<(i64, &[(u32, i64)])>) -> bool {
-    match (cert, want) {
-        (Some(cert), Some((q, y))) => cert.q == q && cert.y.as_slice() == y,
-        (None, None) => true,
-        _ => false,
+/// A certificate of two rows: its divisor and the multipliers of row 0 and row 1, 0 where a row is left out. None where there is no
+/// certificate, or one with another form.
+fn of_two_rows(cert: &Option<Cert>) -> Option<(i64, i64, i64)> {
+    let cert = match cert {
+        Some(cert) => cert,
+        None => return None,
+    };
+    let (mut first, mut second) = (0, 0);
+    for (row, multiplier) in cert.y.as_slice() {
+        if *row == 0 {
+            first = *multiplier;
+        } else if *row == 1 {
+            second = *multiplier;
+        } else {
+            return None;
+        }
     }
+    Some((cert.q, first, second))
+}
+
+/// The certificate of two fractions.
+fn certificate_of_two(
+    alloc: Global,
+    is_ray: bool,
+    first: (i64, i64),
+    second: (i64, i64),
+) -> Result<Option<(i64, i64, i64)>, Fail> {
+    let numbers = fractions(alloc, &[first, second])?;
+    Ok(of_two_rows(&certificate(alloc, is_ray, &numbers)?))
 }
 
 #[test]
-fn certificates_of_prices(rt: HostRuntime) -> Result<(), Memory> {
-    let alloc = rt.alloc();
-    let table: [(&[(i64, i64)], Option<(i64, &[(u32, i64)])>); 9] = [
-        (&[], Some((1, &[]))),
-        (&[(0, 1), (0, 1)], Some((1, &[]))),
-        (&[(-1, 2)], Some((2, &[(0, -1)]))),
-        (&[(1, 2), (0, 1), (-2, 3)], Some((6, &[(0, 3), (2, -4)]))),
-        (&[(5, 6), (3, 4)], Some((12, &[(0, 10), (1, 9)]))),
+fn certificates_of_prices(rt: HostRuntime) -> Result<(), Fail> {
+    let table = [
+        ((0, 1), (0, 1), Some((1, 0, 0))),
+        ((-1, 2), (0, 1), Some((2, -1, 0))),
+        ((1, 2), (-2, 3), Some((6, 3, -4))),
+        ((5, 6), (3, 4), Some((12, 10, 9))),
         // the greatest denominator, and one more
-        (&[(1, GREATEST)], Some((GREATEST, &[(0, 1)]))),
-        (&[(1, GREATEST + 1)], None),
+        ((1, GREATEST), (0, 1), Some((GREATEST, 1, 0))),
+        ((1, GREATEST + 1), (0, 1), None),
         // the greatest multiplier, and one more
-        (&[(-GREATEST, 1)], Some((1, &[(0, -GREATEST)]))),
-        (&[(GREATEST + 1, 1)], None),
+        ((0, 1), (-GREATEST, 1), Some((1, 0, -GREATEST))),
+        ((0, 1), (GREATEST + 1, 1), None),
     ];
-    for (prices, want) in table {
-        let numbers = fractions(alloc, prices)?;
-        let cert = certificate(alloc, false, &numbers)?;
-        assert!(rt; is_cert(&cert, want), "of {} prices", prices.len());
+    for (first, second, want) in table {
+        let got = certificate_of_two(rt.alloc(), false, first, second)?;
+        assert_eq!(rt; got, want, "{first:?} and {second:?}");
     }
     Ok(())
 }
 
 #[test]
-fn certificates_of_rays(rt: HostRuntime) -> Result<(), Memory> {
-    let alloc = rt.alloc();
-    let table: [(&[(i64, i64)], Option<(i64, &[(u32, i64)])>); 8] = [
-        (&[(2, 3), (-4, 3)], Some((0, &[(0, 1), (1, -2)]))),
-        (&[(0, 1), (6, 1), (9, 1)], Some((0, &[(1, 2), (2, 3)]))),
-        (&[(-7, 5)], Some((0, &[(0, -1)]))),
-        (&[(0, 1)], Some((0, &[]))),
-        (&[(-3, 4), (5, 6)], Some((0, &[(0, -9), (1, 10)]))),
+fn certificates_of_rays(rt: HostRuntime) -> Result<(), Fail> {
+    let table = [
+        ((2, 3), (-4, 3), Some((0, 1, -2))),
+        ((6, 1), (9, 1), Some((0, 2, 3))),
+        ((0, 1), (-7, 5), Some((0, 0, -1))),
+        ((0, 1), (0, 1), Some((0, 0, 0))),
+        ((-3, 4), (5, 6), Some((0, -9, 10))),
         // the greatest multiplier, and one more
-        (
-            &[(1, GREATEST), (1, 1)],
-            Some((0, &[(0, 1), (1, GREATEST)])),
-        ),
-        (&[(1, GREATEST + 1), (1, 1)], None),
-        (&[(GREATEST + 1, 1), (1, 1)], None),
+        ((1, GREATEST), (1, 1), Some((0, 1, GREATEST))),
+        ((1, GREATEST + 1), (1, 1), None),
+        ((GREATEST + 1, 1), (1, 1), None),
     ];
-    for (ray, want) in table {
-        let numbers = fractions(alloc, ray)?;
-        let cert = certificate(alloc, true, &numbers)?;
-        assert!(rt; is_cert(&cert, want), "of {} numbers", ray.len());
+    for (first, second, want) in table {
+        let got = certificate_of_two(rt.alloc(), true, first, second)?;
+        assert_eq!(rt; got, want, "{first:?} and {second:?}");
+    }
+    Ok(())
+}
+
+#[test]
+fn no_prices_and_three(rt: HostRuntime) -> Result<(), Fail> {
+    let alloc = rt.alloc();
+    let none = Fracs::from_vec(Vec::new(alloc));
+    let cert = certificate(alloc, false, &none)?;
+    assert_eq!(rt; of_two_rows(&cert), Some((1, 0, 0)));
+    let three = fractions(alloc, &[(1, 2), (0, 1), (-2, 3)])?;
+    let cert = certificate(alloc, false, &three)?;
+    let multipliers = cert.as_ref().map(|cert| cert.y.as_slice());
+    assert!(rt; multipliers == Some([(0, 3), (2, -4)].as_slice()));
+    Ok(())
+}
+
+/// A number of halves and, in the last place, a third.
+fn halves_and_a_third(alloc: Global, count: usize) -> Result<Fracs, Fail> {
+    let mut numbers = Vec::with_capacity(alloc, count)?;
+    for _ in 1..count {
+        numbers.push(frac(1, 2))?;
+    }
+    numbers.push(frac(1, 3))?;
+    Ok(Fracs::from_vec(numbers))
+}
+
+#[test]
+fn as_many_rows_as_a_model_may_have(rt: HostRuntime) -> Result<(), Fail> {
+    let alloc = rt.alloc();
+    let numbers = halves_and_a_third(alloc, 1024)?;
+    for (is_ray, divisor) in [(false, 6), (true, 0)] {
+        let cert = certificate(alloc, is_ray, &numbers)?;
+        let Some(cert) = cert else {
+            assert!(rt; false, "there is a certificate");
+            return Ok(());
+        };
+        let y = cert.y.as_slice();
+        assert_eq!(rt; (cert.q, y.len()), (divisor, 1024));
+        assert_eq!(rt; (y.first(), y.last()), (Some(&(0, 3)), Some(&(1023, 2))));
     }
     Ok(())
 }
 
 /// A ray whose numbers have more bits than a product of two of them, and whose multipliers are small.
 #[test]
-fn a_long_ray(rt: HostRuntime) -> Result<(), Memory> {
+fn a_long_ray(rt: HostRuntime) -> Result<(), Fail> {
     let alloc = rt.alloc();
     let long: i128 = (1 << 100) + 1;
     let ray = Fracs::from_vec(vec![in alloc; frac(3 * long, 7), frac(-6 * long, 7)]?);
     let cert = certificate(alloc, true, &ray)?;
-    assert!(rt; is_cert(&cert, Some((0, &[(0, 1), (1, -2)]))));
+    assert_eq!(rt; of_two_rows(&cert), Some((0, 1, -2)));
     let far = Fracs::from_vec(vec![in alloc; frac(long, 3), frac(7, long - 2)]?);
     let cert = certificate(alloc, true, &far)?;
-    assert!(rt; is_cert(&cert, None));
+    assert_eq!(rt; of_two_rows(&cert), None);
     Ok(())
 }
 
-/// Least -x where 2x <= 3, from 0 to 2.
-fn one_row(alloc: Global) -> Result<Option<IntModel>, Memory> {
-    let column = Column {
-        name: Name::new(String::new(alloc)),
-        cost: -1,
-        lo: 0,
-        hi: 2,
-    };
-    let row = Row {
-        name: Name::new(String::new(alloc)),
-        decimals: 0,
-        coefs: Coefs::from_vec(vec![in alloc; (0, 2)]?),
-        low: None,
-        high: Some(3),
-    };
-    let parts = Parts {
-        objective: Name::new(String::new(alloc)),
-        cost_decimals: 0,
-        constant: 0,
-        columns: ColumnList::from_vec(vec![in alloc; column]?),
-        rows: RowList::from_vec(vec![in alloc; row]?),
-    };
-    if !well_shaped(&parts) {
-        return Ok(None);
-    }
-    Ok(make(parts).ok())
-}
-
-/// Whether an area is one for so many columns.
-fn area_ok(area: &Area, columns: usize) -> bool
-    ensures { IsTrue result → IsArea columns area.now }
-{
-    area.as_slice().len() == columns
-        && area.as_slice().iter().all(|side| side.0.unsigned_abs() <= LARGEST_SIDE
-            && side.1.unsigned_abs() <= LARGEST_SIDE)
-}
-
-/// The leaf bound of a certificate over sides, where all are within the limits.
+/// The leaf bound of a certificate over a box of one column, where both are within the limits.
 fn bound_over(
     alloc: Global,
     model: &IntModel,
     cert: &Option<Cert>,
     sides: (i64, i64),
-) -> Result<Option<Bound>, Memory> {
-    let cert = match cert {
-        Some(cert) => cert,
-        None => return Ok(None),
+) -> Result<Option<Bound>, Fail> {
+    let Some(cert) = cert else {
+        return Ok(None);
     };
-    let columns = model.parts().columns.as_slice().len();
-    let rows = match u32::try_from(model.parts().rows.as_slice().len()) {
-        Ok(rows) => rows,
-        Err(_) => return Ok(None),
-    };
+    let rows = u32::try_from(model.parts().rows.as_slice().len()).unwrap_or(0);
     let area = Area::from_vec(vec![in alloc; sides]?);
     let mut scratch = scratch(alloc, model)?;
-    if cert_ok(cert, rows) && area_ok(&area, columns) {
+    if cert_ok(cert, rows) && is_box(&area, model.parts().columns.as_slice().len()) {
         Ok(Some(leaf_bound(model, cert, &area, &mut scratch)))
     } else {
         Ok(None)
@@ -180,12 +188,9 @@ fn bound_over(
 }
 
 #[test]
-fn bounds_of_certificates(rt: HostRuntime) -> Result<(), Memory> {
+fn bounds_of_certificates(rt: HostRuntime) -> Result<(), Fail> {
     let alloc = rt.alloc();
-    let Some(model) = one_row(alloc)? else {
-        assert!(rt; false, "the model is within the limits");
-        return Ok(());
-    };
+    let model = half(alloc, 2)?;
     // the price of the row bounds -x by -3/2, rounded up
     let prices = fractions(alloc, &[(-1, 2)])?;
     let cert = certificate(alloc, false, &prices)?;

@@ -1,4 +1,4 @@
--- The binary algorithm for the greatest common divisor: twos are taken out by shifts, and a difference takes the place of a rest.
+-- The binary algorithm for the greatest common divisor: factors of 2 are shifted out, and a difference takes the place of a remainder.
 use Rattle.std.specs.Prelude.{◌≡◌, ◌≢◌, ℕ, zero, suc, ◌+◌, ◌-◌, ◌*◌, ◌/◌, ◌%◌, ◌^◌, ◌<◌, ◌≤◌, min}
 use Rattle.std.specs.Int.{trailing_zeros, bit_at, abs_diff, Width}
 use mir.Val.{bits}
@@ -18,9 +18,9 @@ low-zero n (suc k) h =
     let here : n / 2 ^ k % 2 ≡ 0 = h k (omega arith) in
     let below : n % 2 ^ k ≡ 0 = low-zero n k (λ i l. h i (omega arith)) in
     ap (λ z. n % 2 ^ z) (omega arith) ∙ mod-pow-add n 1 k ∙ ap (λ z. z * 2 ^ k + n % 2 ^ k) here ∙ ap (λ z. 0 * 2 ^ k + z) below
-        ∙ omega arith
+    ∙ omega arith
 
--- the twos that are shifted out are all
+-- all factors of 2 are shifted out
 pub odd-times : (w : Width) (n : ℕ) → 0 < n → n < 2 ^ bits w → (n / 2 ^ trailing_zeros w n) * 2 ^ trailing_zeros w n ≡ n
 odd-times w n p l =
     let k = trailing_zeros w n in
@@ -86,13 +86,13 @@ pub gcd-twos : (i j m n : ℕ) → m % 2 ≡ 1 → n % 2 ≡ 1 → gcd (m * 2 ^ 
 gcd-twos i j m n p q = ⊎_elim
     (λ l. let is : i ≡ min i j = omega arith in common-twos i j m n (omega arith) p ∙ ap (λ z. gcd m n * 2 ^ z) is)
     (λ l. let is : j ≡ min i j = omega arith in gcd_comm (m * 2 ^ i) (n * 2 ^ j) ∙ common-twos j i n m (omega arith) q
-        ∙ ap (λ z. z * 2 ^ j) (gcd_comm n m) ∙ ap (λ z. gcd m n * 2 ^ z) is) (cases_lt i j)
+    ∙ ap (λ z. z * 2 ^ j) (gcd_comm n m) ∙ ap (λ z. gcd m n * 2 ^ z) is) (cases_lt i j)
 
--- of two numbers: that of their odd parts, times the twos of both
+-- for two numbers: that of their odd parts, times their common power of 2
 pub shifted-twos : (w : Width) (a b : ℕ) → 0 < a → 0 < b → a < 2 ^ bits w → b < 2 ^ bits w →
     gcd (a / 2 ^ trailing_zeros w a) (b / 2 ^ trailing_zeros w b) * 2 ^ min (trailing_zeros w a) (trailing_zeros w b) ≡ gcd a b
 shifted-twos w a b p q l m =
     let i = trailing_zeros w a in
     let j = trailing_zeros w b in
     sym (gcd-twos i j (a / 2 ^ i) (b / 2 ^ j) (odd-part w a p l) (odd-part w b q m))
-        ∙ ap (λ z. gcd z (b / 2 ^ j * 2 ^ j)) (odd-times w a p l) ∙ ap (gcd a) (odd-times w b q m)
+    ∙ ap (λ z. gcd z (b / 2 ^ j * 2 ^ j)) (odd-times w a p l) ∙ ap (gcd a) (odd-times w b q m)

@@ -16,12 +16,12 @@ use Rattle.frac128.proofs.Order.{cross_at_most}
 use Rattle.frac128.proofs.Fractions.{lowest-is}
 use Rattle.frac128.proofs.FractionLaws.{same-rational}
 
--- the parts of a value are those of the fraction
+-- numerator and denominator of the value are those of the fraction
 product-parts : (x y : Fraction) → IsFraction x.num x.den → IsFraction y.num y.den →
     (value_of x).numerator *ℤ denominator (value_of y) ≡ x.num *ℤ y.den
 product-parts x y p q =
     ap (λ z. z *ℤ denominator (value_of y)) (lowest-is x.num x.den p.positive p.lowest).0
-        ∙ ap (λ z. x.num *ℤ z) (lowest-is y.num y.den q.positive q.lowest).1
+    ∙ ap (λ z. x.num *ℤ z) (lowest-is y.num y.den q.positive q.lowest).1
 
 below : (x y : Fraction) → IsFraction x.num x.den → IsFraction y.num y.den → (x.num *ℤ y.den) <ℤ (y.num *ℤ x.den) →
     IsBelow (value_of x) (value_of y)
@@ -29,7 +29,9 @@ below x y p q h =
     let left = product-parts x y p q in
     let right = product-parts y x q p in (
       cross_at_most (value_of x) (value_of y) (omega (arith, ints)),
-      λ e. let same : (value_of x).numerator *ℤ denominator (value_of y) ≡ (value_of y).numerator *ℤ denominator (value_of x) = ap (λ z. z.numerator *ℤ denominator (value_of y)) e ∙ ap (λ z. (value_of y).numerator *ℤ denominator z) (sym e) in omega (arith, ints),
+      λ e. let same : (value_of x).numerator *ℤ denominator (value_of y) ≡ (value_of y).numerator *ℤ denominator (value_of x) =
+          ap (λ z. z.numerator *ℤ denominator (value_of y)) e ∙ ap (λ z. (value_of y).numerator *ℤ denominator z) (sym e) in
+          omega (arith, ints),
     )
 
 pub cross-order : (x y : Fraction) → IsFraction x.num x.den → IsFraction y.num y.den → (r : Ordering) →

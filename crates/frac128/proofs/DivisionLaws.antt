@@ -19,7 +19,7 @@ floor-greatest (pos m) (negsuc n) p = absurd (omega (arith, ints))
 floor-greatest (negsuc m) (pos n) p =
     let next : negsuc (m / n) +ℤ pos 1 ≡ neg_ℤ (pos (m / n)) = omega (arith, ints) in
     let turned : neg_ℤ (pos (m / n)) *ℤ pos n ≡ neg_ℤ (pos (m / n) *ℤ pos n) =
-            ring2 whole (λ x y. minus x ⊗ y) (λ x y. minus (x ⊗ y)) refl (pos (m / n)) (pos n) in
+    ring2 whole (λ x y. minus x ⊗ y) (λ x y. minus (x ⊗ y)) refl (pos (m / n)) (pos n) in
     let above : negsuc m <ℤ (neg_ℤ (pos (m / n)) *ℤ pos n) = omega (arith, ints) in
     subst (λ z. negsuc m <ℤ (z *ℤ pos n)) (sym next) above
 floor-greatest (negsuc m) (negsuc n) p = absurd (omega (arith, ints))
@@ -29,5 +29,5 @@ ceiling-least a b p =
     let q = floor_of (neg_ℤ a) b in
     let above = floor-greatest (neg_ℤ a) b p in
     let turned : (neg_ℤ q -ℤ pos 1) *ℤ b ≡ neg_ℤ ((q +ℤ pos 1) *ℤ b) =
-            ring2 whole (λ x y. (minus x ⊖ num (pos 1)) ⊗ y) (λ x y. minus ((x ⊕ num (pos 1)) ⊗ y)) refl q b in
+    ring2 whole (λ x y. (minus x ⊖ num (pos 1)) ⊗ y) (λ x y. minus ((x ⊕ num (pos 1)) ⊗ y)) refl q b in
     omega (arith, ints)

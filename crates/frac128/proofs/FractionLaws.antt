@@ -1,6 +1,6 @@
 -- Laws of fractions in lowest terms: what the operations answer is in lowest terms, and is the exact value.
-use Rattle.std.specs.Prelude.{◌≡◌, ◌≢◌, ℕ, zero, suc, ◌*◌, ◌-◌, ◌/◌, ◌<◌, ◌^◌, [], ◌∷◌, Bool, true, false, if◌then◌else◌, Option, Some,
-    None, Result, Ok, Err, IfOk, ℤ, pos, negsuc, neg_ℤ, ◌+ℤ◌, ◌*ℤ◌, ◌<ℤ◌, int_lt, int_div, unsigned_abs}
+use Rattle.std.specs.Prelude.{◌≡◌, ◌≢◌, ℕ, zero, suc, ◌*◌, ◌-◌, ◌/◌, ◌<◌, ◌^◌, [], ◌∷◌, Bool, true, false, if◌then◌else◌, Option, Some}
+use Rattle.std.specs.Prelude.{None, Result, Ok, Err, IfOk, ℤ, pos, negsuc, neg_ℤ, ◌+ℤ◌, ◌*ℤ◌, ◌<ℤ◌, int_lt, int_div, unsigned_abs}
 use Rattle.std.specs.Int.{◌∣◌}
 use Rattle.std.proofs.Common.{arith, refl, ap, sym, ◌∙◌, subst}
 use Rattle.std.proofs.lemmas.Int.{ints, unsigned_abs-mul}
@@ -9,9 +9,9 @@ use Rattle.ring_laws.proofs.Rings.{whole}
 use Rattle.ring_laws.proofs.Normal.{var, ◌⊕◌, ◌⊖◌, ◌⊗◌, minus, combine}
 use Rattle.frac128.specs.Gcd.{gcd}
 use Rattle.frac128.specs.declared.fraction.Wide.{Wide}
-use Rattle.frac128.specs.LowestTerms.{quotients, divided-size}
-use Rattle.frac128.specs.Fractions.{Fraction, IsFraction, in_range, within, shared, lowest_of, sum_where, sum_of, fraction_where,
-    product_of, negative_of, reciprocal_of}
+use Rattle.frac128.specs.LowestTerms.{quotients, divided-absolute}
+use Rattle.frac128.specs.Fractions.{Fraction, IsFraction, in_range, within, shared, lowest_of, sum_where, sum_of, fraction_where}
+use Rattle.frac128.specs.Fractions.{product_of, negative_of, reciprocal_of}
 use Rattle.frac128.specs.Values.{value_of, IsSum, IsDifference, IsProduct, IsQuotient}
 use Rattle.frac128.proofs.Fractions.{product_is, sum_is, S-of, lowest-is}
 use borrow.Author.Tests.{ltb-true}
@@ -44,7 +44,7 @@ pub positive-quotient : (g : ℕ) (d : ℤ) → g ∣ unsigned_abs d → pos 0 <
 positive-quotient g d x p = positive_part g (int_div d (pos g)) d (divided-is g d x) p
 
 pub smaller-quotient : (g k : ℕ) (z : ℤ) → unsigned_abs z < k → unsigned_abs (int_div z (pos g)) < k
-smaller-quotient g k z h = let e = divided-size g z in let l = div-le_self (unsigned_abs z) g in omega (arith, e, l, h)
+smaller-quotient g k z h = let e = divided-absolute g z in let l = div-le_self (unsigned_abs z) g in omega (arith, e, l, h)
 
 pub IsFraction-lowest : (n d : ℤ) → pos 0 <ℤ d → unsigned_abs n < 2 ^ 127 → unsigned_abs d < 2 ^ 127 →
     IsFraction (lowest_of n d).num (lowest_of n d).den
@@ -56,8 +56,8 @@ IsFraction-lowest n d p a b =
       positive = positive-quotient g d (gcd-is (unsigned_abs n) (unsigned_abs d)).1 p;
       num_fits = smaller-quotient g (2 ^ 127) n a;
       den_fits = smaller-quotient g (2 ^ 127) d b;
-      lowest = ap (λ z. gcd z (unsigned_abs (int_div d (pos g)))) (divided-size g n)
-          ∙ ap (λ z. gcd (unsigned_abs n / g) z) (divided-size g d) ∙ quotients (unsigned_abs n) (unsigned_abs d) positive;
+      lowest = ap (λ z. gcd z (unsigned_abs (int_div d (pos g)))) (divided-absolute g n)
+          ∙ ap (λ z. gcd (unsigned_abs n / g) z) (divided-absolute g d) ∙ quotients (unsigned_abs n) (unsigned_abs d) positive;
     }
 
 -- the same fraction, crosswise
@@ -117,16 +117,16 @@ module _ (a b c d : ℤ) (x : IsFraction a b) (y : IsFraction c d) where
       let C = unsigned_abs c / h in
       let D = unsigned_abs d / g in
       let first : gcd A (B * D) ≡ 1 = coprime-mul A B D (coprime-divisors (unsigned_abs a) (unsigned_abs b) A B x.lowest
-              (quotient-divides g (unsigned_abs a) with_d.0) (quotient-divides h (unsigned_abs b) with_b.1))
-              (quotients (unsigned_abs a) (unsigned_abs d) nonzero-d) in
+      (quotient-divides g (unsigned_abs a) with_d.0) (quotient-divides h (unsigned_abs b) with_b.1))
+      (quotients (unsigned_abs a) (unsigned_abs d) nonzero-d) in
       let second : gcd C (B * D) ≡ 1 = coprime-mul C B D (quotients (unsigned_abs c) (unsigned_abs b) nonzero-b)
-              (coprime-divisors (unsigned_abs c) (unsigned_abs d) C D y.lowest (quotient-divides h (unsigned_abs c) with_b.0)
-              (quotient-divides g (unsigned_abs d) with_d.1)) in
+      (coprime-divisors (unsigned_abs c) (unsigned_abs d) C D y.lowest (quotient-divides h (unsigned_abs c) with_b.0)
+      (quotient-divides g (unsigned_abs d) with_d.1)) in
       let all : gcd (B * D) (A * C) ≡ 1 = coprime-mul (B * D) A C (gcd_comm (B * D) A ∙ first) (gcd_comm (B * D) C ∙ second) in
       let numerator : unsigned_abs product_num ≡ A * C = unsigned_abs-mul (int_div a (pos g)) (int_div c (pos h))
-              ∙ ap (λ z. z * unsigned_abs (int_div c (pos h))) (divided-size g a) ∙ ap (λ z. A * z) (divided-size h c) in
+      ∙ ap (λ z. z * unsigned_abs (int_div c (pos h))) (divided-absolute g a) ∙ ap (λ z. A * z) (divided-absolute h c) in
       let under : unsigned_abs product_den ≡ B * D = unsigned_abs-mul (int_div b (pos h)) (int_div d (pos g))
-              ∙ ap (λ z. z * unsigned_abs (int_div d (pos g))) (divided-size h b) ∙ ap (λ z. B * z) (divided-size g d) in
+      ∙ ap (λ z. z * unsigned_abs (int_div d (pos g))) (divided-absolute h b) ∙ ap (λ z. B * z) (divided-absolute g d) in
       ap (λ z. gcd z (unsigned_abs product_den)) numerator ∙ ap (gcd (A * C)) under ∙ gcd_comm (A * C) (B * D) ∙ all
 
   pub product-equal : product_num *ℤ (b *ℤ d) ≡ (a *ℤ c) *ℤ product_den
@@ -164,7 +164,7 @@ product-exact x y p q =
         let positive = subst (λ z. pos 0 <ℤ z) (sym under.0) (product-positive x.num x.den y.num y.den p q) in
         product_is x.num x.den y.num y.den n e p.positive q.positive positive
         (ap (λ z. z *ℤ (x.den *ℤ y.den)) numerator.0 ∙ product-equal x.num x.den y.num y.den p q
-            ∙ ap (λ z. (x.num *ℤ y.num) *ℤ z) (sym under.0))
+        ∙ ap (λ z. (x.num *ℤ y.num) *ℤ z) (sym under.0))
     by (Some n) None f h = tt
     by None t f h = tt
 
@@ -197,8 +197,11 @@ module _ (a b c d : ℤ) (x : IsFraction a b) (y : IsFraction c d) where
   pub sum-equal : sum_num *ℤ (b *ℤ d) ≡ (a *ℤ d +ℤ c *ℤ b) *ℤ sum_den
   sum-equal =
       combine whole (a ∷ b ∷ c ∷ d ∷ int_div b (pos f) ∷ int_div d (pos f) ∷ pos f ∷ [])
-      ((var 2 ⊗ var 4 ⊗ var 3 ⊖ (var 0 ⊗ var 5 ⊕ var 2 ⊗ var 4) ⊗ var 3, var 6 ⊗ var 4, var 1) ∷ (var 0 ⊗ var 4 ⊗ var 3, var 6 ⊗ var 5,
-          var 3) ∷ [])
+      ((var 2 ⊗ var 4 ⊗ var 3 ⊖ (var 0 ⊗ var 5 ⊕ var 2 ⊗ var 4) ⊗ var 3, var 6 ⊗ var 4, var 1) ∷ (
+        var 0 ⊗ var 4 ⊗ var 3,
+        var 6 ⊗ var 5,
+        var 3,
+      ) ∷ [])
       ((var 0 ⊗ var 5 ⊕ var 2 ⊗ var 4) ⊗ (var 1 ⊗ var 3)) ((var 0 ⊗ var 3 ⊕ var 2 ⊗ var 1) ⊗ (var 4 ⊗ var 3)) refl
       (shared-first b d, (shared-second b d, tt))
 
@@ -229,7 +232,7 @@ sum-exact x y p q =
         let positive : pos 0 <ℤ e = subst (λ z. pos 0 <ℤ z) (sym under.0) (sum-positive x.num x.den y.num y.den p q) in
         lowest-value n e positive ∙ sum_is x.num x.den y.num y.den n e p.positive q.positive positive
         (ap (λ z. z *ℤ (x.den *ℤ y.den)) numerator.0 ∙ sum-equal x.num x.den y.num y.den p q
-            ∙ ap (λ z. (x.num *ℤ y.den +ℤ y.num *ℤ x.den) *ℤ z) (sym under.0))
+        ∙ ap (λ z. (x.num *ℤ y.den +ℤ y.num *ℤ x.den) *ℤ z) (sym under.0))
     by (Some l) (Some r) (Some n) None f h = tt
     by (Some l) (Some r) None w f h = tt
     by (Some l) None v w f h = tt
@@ -239,8 +242,12 @@ sum-exact x y p q =
 pub IsFraction-negative : (n d t : ℤ) → IsFraction n d → t ≡ neg_ℤ n → IsFraction t d
 IsFraction-negative n d t x e =
     let size : unsigned_abs t ≡ unsigned_abs n = omega (arith, ints) in
-    record { positive = x.positive; num_fits = subst (λ z. z < 2 ^ 127) (sym size) x.num_fits; den_fits = x.den_fits;
-        lowest = ap (λ z. gcd z (unsigned_abs d)) size ∙ x.lowest }
+    record {
+      positive = x.positive;
+      num_fits = subst (λ z. z < 2 ^ 127) (sym size) x.num_fits;
+      den_fits = x.den_fits;
+      lowest = ap (λ z. gcd z (unsigned_abs d)) size ∙ x.lowest;
+    }
 
 pub negative-value : (x : Fraction) → value_of (negative_of x) ≡ neg (value_of x)
 unfolding rational
@@ -264,7 +271,7 @@ reciprocal-proper (pos zero) d p h = absurd (h refl)
 reciprocal-proper (pos (suc k)) d p h =
     let up : int_lt (pos (suc k)) (pos 0) ≡ false = grind (arith, ints) in
     subst (λ t. IsProper (if t then record { num = neg_ℤ d; den = neg_ℤ (pos (suc k)) } else record { num = d; den = pos (suc k) }))
-        (sym up)
+    (sym up)
     (IsFraction-turned (pos (suc k)) d d (pos (suc k)) p (omega (arith, ints)) refl refl)
 reciprocal-proper (negsuc k) d p h = IsFraction-turned (negsuc k) d (neg_ℤ d) (pos (suc k)) p (omega (arith, ints)) (omega (arith, ints))
     (omega (arith, ints))
@@ -286,7 +293,8 @@ reciprocal-value x p h =
     inverse-parts x.num (value_of x).less x.den parts.1 h ∙ ap (λ z. inverse_of z (value_of x).less) (sym parts.0)
 
 -- a quotient is the product with the reciprocal
-pub IsQuotient-reciprocal : (x y r : Fraction) → IsFraction y.num y.den → y.num ≢ pos 0 → IsProduct x (reciprocal_of y) r → IsQuotient x y r
+pub IsQuotient-reciprocal : (x y r : Fraction) → IsFraction y.num y.den → y.num ≢ pos 0 → IsProduct x (reciprocal_of y) r →
+    IsQuotient x y r
 IsQuotient-reciprocal x y r p n h = h ∙ ap (mul (value_of x)) (reciprocal-value y p n)
 
 -- the steps of a sum

@@ -7,8 +7,8 @@ use Rattle.frac128.specs.Gcd.{gcd}
 use Rattle.ring_laws.proofs.Rings.{whole}
 use Rattle.ring_laws.proofs.Normal.{num, var, ◌⊕◌, ◌⊖◌, ◌⊗◌, minus, combine}
 unfoldable pub use Rattle.frac128.specs.Rationals.{rational}
-use Rattle.frac128.proofs.Rationals.{S, denominator, over, over-is, same, unique, both, both-is, made, add, sub, mul, add-over, sub-over,
-    mul-over, cancel}
+use Rattle.frac128.proofs.Rationals.{S, denominator, over, over-is, same, unique, both, both-is, made, add, sub, mul, add-over, sub-over}
+use Rattle.frac128.proofs.Rationals.{mul-over, cancel}
 
 -- a positive denominator from its less by one
 pub S-of : (d : ℤ) → pos 0 <ℤ d → S (unsigned_abs d - 1) ≡ d
@@ -33,8 +33,11 @@ module _ (a b c d n e : ℤ) (p : pos 0 <ℤ b) (q : pos 0 <ℤ d) (r : pos 0 <�
   sum_is h = sym (add-over a x c y ∙ same (a *ℤ S y +ℤ c *ℤ S x) (both x y) n z
       (combine whole (a ∷ b ∷ c ∷ d ∷ n ∷ e ∷ S x ∷ S y ∷ S z ∷ S (both x y) ∷ [])
       ((num (pos 0) ⊖ num (pos 1), var 4 ⊗ (var 1 ⊗ var 3), (var 0 ⊗ var 3 ⊕ var 2 ⊗ var 1) ⊗ var 5)
-      ∷ (var 0 ⊗ var 7 ⊕ var 2 ⊗ var 6, var 8, var 5) ∷ (var 0 ⊗ var 5 ⊖ var 4 ⊗ var 6, var 7, var 3) ∷ (var 2 ⊗ var 5 ⊖ var 4 ⊗ var 3,
-          var 6, var 1) ∷ (minus (var 4), var 9, var 6 ⊗ var 7) ∷ [])
+      ∷ (var 0 ⊗ var 7 ⊕ var 2 ⊗ var 6, var 8, var 5) ∷ (var 0 ⊗ var 5 ⊖ var 4 ⊗ var 6, var 7, var 3) ∷ (
+        var 2 ⊗ var 5 ⊖ var 4 ⊗ var 3,
+        var 6,
+        var 1,
+      ) ∷ (minus (var 4), var 9, var 6 ⊗ var 7) ∷ [])
       ((var 0 ⊗ var 7 ⊕ var 2 ⊗ var 6) ⊗ var 8) (var 4 ⊗ var 9) refl
       (h, (S-of e r, (S-of d q, (S-of b p, (both-is x y, tt)))))))
 
@@ -44,8 +47,11 @@ module _ (a b c d n e : ℤ) (p : pos 0 <ℤ b) (q : pos 0 <ℤ d) (r : pos 0 <�
   product_is h = sym (mul-over a x c y ∙ same (a *ℤ c) (both x y) n z
       (combine whole (a ∷ b ∷ c ∷ d ∷ n ∷ e ∷ S x ∷ S y ∷ S z ∷ S (both x y) ∷ [])
       ((num (pos 0) ⊖ num (pos 1), var 4 ⊗ (var 1 ⊗ var 3), (var 0 ⊗ var 2) ⊗ var 5)
-      ∷ (var 0 ⊗ var 2, var 8, var 5) ∷ (minus (var 4 ⊗ var 6), var 7, var 3) ∷ (minus (var 4 ⊗ var 3), var 6, var 1) ∷ (minus (var 4),
-          var 9, var 6 ⊗ var 7) ∷ [])
+      ∷ (var 0 ⊗ var 2, var 8, var 5) ∷ (minus (var 4 ⊗ var 6), var 7, var 3) ∷ (minus (var 4 ⊗ var 3), var 6, var 1) ∷ (
+        minus (var 4),
+        var 9,
+        var 6 ⊗ var 7,
+      ) ∷ [])
       ((var 0 ⊗ var 2) ⊗ var 8) (var 4 ⊗ var 9) refl
       (h, (S-of e r, (S-of d q, (S-of b p, (both-is x y, tt)))))))
 
@@ -55,12 +61,15 @@ module _ (a b c d n e : ℤ) (p : pos 0 <ℤ b) (q : pos 0 <ℤ d) (r : pos 0 <�
   difference_is h = sym (sub-over a x c y ∙ same (a *ℤ S y -ℤ c *ℤ S x) (both x y) n z
       (combine whole (a ∷ b ∷ c ∷ d ∷ n ∷ e ∷ S x ∷ S y ∷ S z ∷ S (both x y) ∷ [])
       ((num (pos 0) ⊖ num (pos 1), var 4 ⊗ (var 1 ⊗ var 3), (var 0 ⊗ var 3 ⊖ var 2 ⊗ var 1) ⊗ var 5)
-      ∷ (var 0 ⊗ var 7 ⊖ var 2 ⊗ var 6, var 8, var 5) ∷ (var 0 ⊗ var 5 ⊖ var 4 ⊗ var 6, var 7,
-          var 3) ∷ (minus (var 2 ⊗ var 5) ⊖ var 4 ⊗ var 3, var 6, var 1) ∷ (minus (var 4), var 9, var 6 ⊗ var 7) ∷ [])
+      ∷ (var 0 ⊗ var 7 ⊖ var 2 ⊗ var 6, var 8, var 5) ∷ (
+        var 0 ⊗ var 5 ⊖ var 4 ⊗ var 6,
+        var 7,
+        var 3,
+      ) ∷ (minus (var 2 ⊗ var 5) ⊖ var 4 ⊗ var 3, var 6, var 1) ∷ (minus (var 4), var 9, var 6 ⊗ var 7) ∷ [])
       ((var 0 ⊗ var 7 ⊖ var 2 ⊗ var 6) ⊗ var 8) (var 4 ⊗ var 9) refl
       (h, (S-of e r, (S-of d q, (S-of b p, (both-is x y, tt)))))))
 
--- a fraction in lowest terms is its rational number's parts
+-- a fraction in lowest terms has the numerator and the denominator of its rational number
 pub lowest-is : (n d : ℤ) → pos 0 <ℤ d → gcd (unsigned_abs n) (unsigned_abs d) ≡ 1 → ((rational n d).numerator ≡ n)
     × (denominator (rational n d) ≡ d)
 unfolding rational
@@ -76,7 +85,7 @@ lowest-is n d p one =
     by (pos (suc n)) p = omega (arith, ints)
     by (negsuc n) p = absurd (omega (arith, ints))
 
--- the other way to found it: over common denominators. r = e - f * g, and e = n / D, f = m / D, g = k / E: then r = (n E - m k) / (D E)
+-- over common denominators: if r = e - f * g with e = n / D, f = m / D and g = k / E, then r = (n E - m k) / (D E)
 pub pivot_entry : (en ed fn fd gn gd rn rd D E n m k : ℤ) (c : ℕ) → S c ≡ ed *ℤ (fd *ℤ gd) →
     rn *ℤ (ed *ℤ (fd *ℤ gd)) ≡ (en *ℤ (fd *ℤ gd) -ℤ (fn *ℤ gn) *ℤ ed) *ℤ rd →
     en *ℤ D ≡ n *ℤ ed → fn *ℤ D ≡ m *ℤ fd → gn *ℤ E ≡ k *ℤ gd →
@@ -101,7 +110,10 @@ crosswise a c b d e =
     let bottoms : denominator r ≡ denominator s = ap denominator e in
     cancel r.less (a *ℤ S d) (b *ℤ S c)
     (combine whole (r.numerator ∷ denominator r ∷ s.numerator ∷ denominator s ∷ a ∷ S c ∷ b ∷ S d ∷ [])
-    ((minus (var 7), var 0 ⊗ var 5, var 4 ⊗ var 1) ∷ (var 5, var 2 ⊗ var 7, var 6 ⊗ var 3) ∷ (var 5 ⊗ var 7, var 0,
-        var 2) ∷ (minus (var 6 ⊗ var 5), var 1, var 3) ∷ [])
+    ((minus (var 7), var 0 ⊗ var 5, var 4 ⊗ var 1) ∷ (var 5, var 2 ⊗ var 7, var 6 ⊗ var 3) ∷ (
+      var 5 ⊗ var 7,
+      var 0,
+      var 2,
+    ) ∷ (minus (var 6 ⊗ var 5), var 1, var 3) ∷ [])
     (var 1 ⊗ (var 4 ⊗ var 7)) (var 1 ⊗ (var 6 ⊗ var 5)) refl
     (over-is a c, (over-is b d, (tops, (bottoms, tt)))))

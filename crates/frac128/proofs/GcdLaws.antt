@@ -54,7 +54,7 @@ gcd-skip_positive y m k p one =
     let d = gcd y (m * k) in
     let apart : gcd m d ≡ 1 = gcd_comm m d ∙ coprime-divisors y m d m one all.0 (dvd_refl m) in
     dvd_antisymm ((gcd-is y k).2 d all.0 (euclid d m k p apart all.1)) (all.2 (gcd y k) (gcd-is y k).0
-        (dvd-mul_left_of_dvd (gcd y k) (gcd-is y k).1 m))
+    (dvd-mul_left_of_dvd (gcd y k) (gcd-is y k).1 m))
 
 pub gcd-skip : (y m k : ℕ) → gcd y m ≡ 1 → gcd y (m * k) ≡ gcd y k
 gcd-skip y m zero one = ap (gcd y) (omega arith)

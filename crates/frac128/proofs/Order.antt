@@ -7,8 +7,8 @@ use Rattle.ring_laws.proofs.Normal.{num, ◌⊕◌, ◌⊖◌, ◌⊗◌, minus,
 use Rattle.ring_laws.proofs.Named.{ring2, ring3, ring4}
 pub use Rattle.frac128.specs.Rationals.{inverse_of, quotient, NotNegative, AtMost}
 unfoldable pub use Rattle.frac128.specs.Rationals.{inverse}
-use Rattle.frac128.proofs.Rationals.{Rational, S, denominator, over, over-is, over_parts, same, unique, both, both-is, of, add, sub, mul,
-    neg, mul-over, neg-over, rationals}
+use Rattle.frac128.proofs.Rationals.{Rational, S, denominator, over, over-is, over_parts, same, unique, both, both-is, of, add, sub, mul}
+use Rattle.frac128.proofs.Rationals.{neg, mul-over, neg-over, rationals}
 
 -- ---- inverses
 inverse_of-is : (a : ℤ) (c : ℕ) → a ≢ pos 0 → mul (over a c) (inverse_of a c) ≡ of (pos 1)

@@ -1,6 +1,6 @@
 -- What a sum of fractions can have in common with its denominator divides the common part of the denominators.
-use Rattle.std.specs.Prelude.{◌≡◌, ℕ, suc, ◌*◌, ◌/◌, ◌%◌, ◌<◌, ◌≤◌, ◌^◌, Bool, true, false, if◌then◌else◌, Some, None, Ok, ℤ, pos, negsuc,
-    neg_ℤ, ◌+ℤ◌, ◌-ℤ◌, ◌*ℤ◌, ◌<ℤ◌, int_div, int_rem, unsigned_abs}
+use Rattle.std.specs.Prelude.{◌≡◌, ℕ, suc, ◌*◌, ◌/◌, ◌%◌, ◌<◌, ◌≤◌, ◌^◌, Bool, true, false, if◌then◌else◌, Some, None, Ok, ℤ, pos}
+use Rattle.std.specs.Prelude.{negsuc, neg_ℤ, ◌+ℤ◌, ◌-ℤ◌, ◌*ℤ◌, ◌<ℤ◌, int_div, int_rem, unsigned_abs}
 use Rattle.std.specs.Int.{◌∣◌}
 use Rattle.std.proofs.Common.{arith, refl, ap, sym, ◌∙◌, subst}
 use borrow.Author.Tests.{lt-ltb}
@@ -9,7 +9,7 @@ use Rattle.std.proofs.Math.Nat.{dvd-mul_right, dvd-mul_left_of_dvd, mul-div_canc
 use Rattle.std.proofs.lemmas.Nat.Gcd.{dvd_refl}
 use Rattle.ring_laws.proofs.Products.{mul_sub}
 use Rattle.frac128.specs.Gcd.{gcd}
-use Rattle.frac128.specs.LowestTerms.{quotients, divided-size}
+use Rattle.frac128.specs.LowestTerms.{quotients, divided-absolute}
 use Rattle.frac128.specs.Fractions.{Fraction, IsFraction, IsSmall, in_range, within, shared, lowest_of, sum_of, product_of}
 use Rattle.frac128.proofs.GcdLaws.{gcd-is, gcd-mod, gcd_comm, coprime-mul, coprime-divisors, gcd-skip}
 use Rattle.frac128.proofs.BinaryGcdLaws.{gcd-same}
@@ -24,10 +24,10 @@ dvd-summand k p q h g =
     let apart = mul_sub (pos k) (int_div (p +ℤ q) (pos k)) (int_div q (pos k)) in
     let is : p ≡ pos k *ℤ (int_div (p +ℤ q) (pos k) -ℤ int_div q (pos k)) = omega (arith, ints) in
     let size : unsigned_abs p ≡ k * unsigned_abs (int_div (p +ℤ q) (pos k) -ℤ int_div q (pos k)) = ap unsigned_abs is
-            ∙ unsigned_abs-mul (pos k) (int_div (p +ℤ q) (pos k) -ℤ int_div q (pos k)) in
+    ∙ unsigned_abs-mul (pos k) (int_div (p +ℤ q) (pos k) -ℤ int_div q (pos k)) in
     subst (λ z. k ∣ z) (sym size) (dvd-mul_right k (unsigned_abs (int_div (p +ℤ q) (pos k) -ℤ int_div q (pos k))))
 
--- m has no factor in common with a * n + c * m, where it has none with a and n
+-- m is coprime to a * n + c * m where it is coprime to a and n
 coprime-sum : (a c : ℤ) (m n : ℤ) → gcd (unsigned_abs a) (unsigned_abs m) ≡ 1 → gcd (unsigned_abs n) (unsigned_abs m) ≡ 1 →
     gcd (unsigned_abs (a *ℤ n +ℤ c *ℤ m)) (unsigned_abs m) ≡ 1
 coprime-sum a c m n first second =
@@ -36,13 +36,13 @@ coprime-sum a c m n first second =
     let k = gcd S M in
     let both = gcd-is S M in
     let in_second : k ∣ unsigned_abs (c *ℤ m) = subst (λ z. k ∣ z) (sym (unsigned_abs-mul c m))
-            (dvd-mul_left_of_dvd k both.1 (unsigned_abs c)) in
+    (dvd-mul_left_of_dvd k both.1 (unsigned_abs c)) in
     let in_first : k ∣ unsigned_abs a * unsigned_abs n = subst (λ z. k ∣ z) (unsigned_abs-mul a n)
-            (dvd-summand k (a *ℤ n) (c *ℤ m) both.0 in_second) in
+    (dvd-summand k (a *ℤ n) (c *ℤ m) both.0 in_second) in
     let with_a : gcd k (unsigned_abs a) ≡ 1 = gcd_comm k (unsigned_abs a)
-            ∙ coprime-divisors (unsigned_abs a) M (unsigned_abs a) k first (dvd_refl (unsigned_abs a)) both.1 in
+    ∙ coprime-divisors (unsigned_abs a) M (unsigned_abs a) k first (dvd_refl (unsigned_abs a)) both.1 in
     let with_n : gcd k (unsigned_abs n) ≡ 1 = gcd_comm k (unsigned_abs n)
-            ∙ coprime-divisors (unsigned_abs n) M (unsigned_abs n) k second (dvd_refl (unsigned_abs n)) both.1 in
+    ∙ coprime-divisors (unsigned_abs n) M (unsigned_abs n) k second (dvd_refl (unsigned_abs n)) both.1 in
     let one = coprime-mul k (unsigned_abs a) (unsigned_abs n) with_a with_n in
     dvd-one.0 (subst (λ z. k ∣ z) one ((gcd-is k (unsigned_abs a * unsigned_abs n)).2 k (dvd_refl k) in_first))
 
@@ -69,9 +69,9 @@ module _ (a b c d : ℤ) (x : IsFraction a b) (y : IsFraction c d) where
   coprime-left =
       let both = gcd-is (unsigned_abs b) (unsigned_abs d) in
       let first : gcd (unsigned_abs a) B ≡ 1 = coprime-divisors (unsigned_abs a) (unsigned_abs b) (unsigned_abs a) B x.lowest
-              (dvd_refl (unsigned_abs a)) (quotient-divides f (unsigned_abs b) both.0) in
-      let under = divided-size f b in
-      let other = divided-size f d in
+      (dvd_refl (unsigned_abs a)) (quotient-divides f (unsigned_abs b) both.0) in
+      let under = divided-absolute f b in
+      let other = divided-absolute f d in
       ap (gcd N) (sym under) ∙ coprime-sum a c (int_div b (pos f)) (int_div d (pos f)) (ap (gcd (unsigned_abs a)) under ∙ first)
       (ap (λ z. gcd z (unsigned_abs (int_div b (pos f)))) other ∙ ap (gcd D) under ∙ gcd_comm D B ∙ apart)
 
@@ -79,9 +79,9 @@ module _ (a b c d : ℤ) (x : IsFraction a b) (y : IsFraction c d) where
   coprime-right =
       let both = gcd-is (unsigned_abs b) (unsigned_abs d) in
       let first : gcd (unsigned_abs c) D ≡ 1 = coprime-divisors (unsigned_abs c) (unsigned_abs d) (unsigned_abs c) D y.lowest
-              (dvd_refl (unsigned_abs c)) (quotient-divides f (unsigned_abs d) both.1) in
-      let under = divided-size f b in
-      let other = divided-size f d in
+      (dvd_refl (unsigned_abs c)) (quotient-divides f (unsigned_abs d) both.1) in
+      let under = divided-absolute f b in
+      let other = divided-absolute f d in
       let swap : sum_num a b c d x y ≡ c *ℤ int_div b (pos f) +ℤ a *ℤ int_div d (pos f) = omega (arith, ints) in
       ap (λ z. gcd (unsigned_abs z) D) swap ∙ ap (gcd (unsigned_abs (c *ℤ int_div b (pos f) +ℤ a *ℤ int_div d (pos f)))) (sym other)
       ∙ coprime-sum c a (int_div d (pos f)) (int_div b (pos f)) (ap (gcd (unsigned_abs c)) other ∙ first)
@@ -92,11 +92,11 @@ module _ (a b c d : ℤ) (x : IsFraction a b) (y : IsFraction c d) where
   sum-shared =
       let both = gcd-is (unsigned_abs b) (unsigned_abs d) in
       let size : unsigned_abs (sum_den a b c d x y) ≡ B * unsigned_abs d = unsigned_abs-mul (int_div b (pos f)) d
-              ∙ ap (λ z. z * unsigned_abs d) (divided-size f b) in
+      ∙ ap (λ z. z * unsigned_abs d) (divided-absolute f b) in
       let whole : unsigned_abs d ≡ D * f = sym (mul-div_cancel' f both.1) ∙ omega arith in
       ap pos (ap (gcd N) (size ∙ ap (λ z. B * z) whole) ∙ gcd-skip N B (D * f) coprime-left ∙ gcd-skip N D f coprime-right)
 
--- ---- a rest in place of a number
+-- ---- a remainder in place of a number
 rest-size : (n : ℤ) (m : ℕ) → unsigned_abs (int_rem n (pos m)) ≡ unsigned_abs n % m
 rest-size (pos n) m = refl
 rest-size (negsuc n) m = omega (arith, ints)
@@ -121,7 +121,7 @@ small-product p q h g =
     omega arith
 
 pub small-quotient : (f : ℕ) (z : ℤ) → unsigned_abs z < 2 ^ 63 → unsigned_abs (int_div z (pos f)) < 2 ^ 63
-small-quotient f z h = let e = divided-size f z in let l = div-le_self (unsigned_abs z) f in omega arith
+small-quotient f z h = let e = divided-absolute f z in let l = div-le_self (unsigned_abs z) f in omega arith
 
 pub small-sum : (p q : ℤ) → unsigned_abs p < 2 ^ 126 → unsigned_abs q < 2 ^ 126 → unsigned_abs (p +ℤ q) < 2 ^ 127
 small-sum p q h g = omega (arith, ints)
@@ -148,7 +148,7 @@ sum-small x y p q xn xd yn yd =
 pub product-small : (x y : Fraction) → unsigned_abs x.num < 2 ^ 63 → unsigned_abs x.den < 2 ^ 63 → unsigned_abs y.num < 2 ^ 63 →
     unsigned_abs y.den < 2 ^ 63
     → (n e : ℤ) → n ≡ int_div x.num (shared x.num y.den) *ℤ int_div y.num (shared y.num x.den) →
-        e ≡ int_div x.den (shared y.num x.den) *ℤ int_div y.den (shared x.num y.den)
+    e ≡ int_div x.den (shared y.num x.den) *ℤ int_div y.den (shared x.num y.den)
     → product_of x y ≡ Ok (record { num = n; den = e })
 unfolding product_of
 product-small x y xn xd yn yd n e numerator under =
@@ -156,8 +156,12 @@ product-small x y xn xd yn yd n e numerator under =
     let h = gcd (unsigned_abs y.num) (unsigned_abs x.den) in
     let first = small-product (int_div x.num (pos g)) (int_div y.num (pos h)) (small-quotient g x.num xn) (small-quotient h y.num yn) in
     let second = small-product (int_div x.den (pos h)) (int_div y.den (pos g)) (small-quotient h x.den xd) (small-quotient g y.den yd) in
-    rw (within-fits (int_div x.num (pos g) *ℤ int_div y.num (pos h)) (omega arith),
-        within-fits (int_div x.den (pos h) *ℤ int_div y.den (pos g)) (omega arith), sym numerator, sym under) refl
+    rw (
+      within-fits (int_div x.num (pos g) *ℤ int_div y.num (pos h)) (omega arith),
+      within-fits (int_div x.den (pos h) *ℤ int_div y.den (pos g)) (omega arith),
+      sym numerator,
+      sym under,
+    ) refl
 
 -- ---- fast paths
 pub quotient-one : (z : ℤ) → int_div z (pos 1) ≡ z
@@ -196,7 +200,7 @@ sum-factor x y p q n e numerator under = ap (λ z. shared z (shared x.den y.den)
 -- the same from the steps of a sum
 pub sum-factor_within : (x y : Fraction) (p : IsFraction x.num x.den) (q : IsFraction y.num y.den) (l r n e : ℤ)
     → within (x.num *ℤ int_div y.den (shared x.den y.den)) ≡ Some l → within (y.num *ℤ int_div x.den (shared x.den y.den)) ≡ Some r →
-        within (l +ℤ r) ≡ Some n → within (int_div x.den (shared x.den y.den) *ℤ y.den) ≡ Some e
+    within (l +ℤ r) ≡ Some n → within (int_div x.den (shared x.den y.den) *ℤ y.den) ≡ Some e
     → shared n (shared x.den y.den) ≡ shared n e
 sum-factor_within x y p q l r n e f g h k =
     let left = within-some (x.num *ℤ int_div y.den (shared x.den y.den)) l f in
@@ -206,7 +210,8 @@ sum-factor_within x y p q l r n e f g h k =
     sum-factor x y p q n e (sum.0 ∙ ap (λ z. z +ℤ r) left.0 ∙ ap (λ z. x.num *ℤ int_div y.den (shared x.den y.den) +ℤ z) right.0) under.0
 
 -- ---- sums and products of small fractions
-module _ (x y : Fraction) (p : IsFraction x.num x.den) (q : IsFraction y.num y.den) (small : IsSmall x) (small' : IsSmall y) (n e : ℤ) where
+module _ (x y : Fraction) (p : IsFraction x.num x.den)
+    (q : IsFraction y.num y.den) (small : IsSmall x) (small' : IsSmall y) (n e : ℤ) where
   module _ (numerator : n ≡ int_div x.num (shared x.num y.den) *ℤ int_div y.num (shared y.num x.den)) (under : e
       ≡ int_div x.den (shared y.num x.den) *ℤ int_div y.den (shared x.num y.den)) where
     pub small-product-fraction : IsFraction n e
@@ -214,9 +219,9 @@ module _ (x y : Fraction) (p : IsFraction x.num x.den) (q : IsFraction y.num y.d
         let g = gcd (unsigned_abs x.num) (unsigned_abs y.den) in
         let h = gcd (unsigned_abs y.num) (unsigned_abs x.den) in
         let first = small-product (int_div x.num (pos g)) (int_div y.num (pos h)) (small-quotient g x.num small.num)
-                (small-quotient h y.num small'.num) in
+        (small-quotient h y.num small'.num) in
         let second = small-product (int_div x.den (pos h)) (int_div y.den (pos g)) (small-quotient h x.den small.den)
-                (small-quotient g y.den small'.den) in
+        (small-quotient g y.den small'.den) in
         IsFraction-product x.num x.den y.num y.den p q n e
         (within-fits (int_div x.num (pos g) *ℤ int_div y.num (pos h)) (omega arith) ∙ ap (λ (z : ℤ). Some z) (sym numerator))
         (within-fits (int_div x.den (pos h) *ℤ int_div y.den (pos g)) (omega arith) ∙ ap (λ (z : ℤ). Some z) (sym under))
@@ -235,7 +240,7 @@ module _ (x y : Fraction) (p : IsFraction x.num x.den) (q : IsFraction y.num y.d
         let left = small-product x.num (int_div y.den (pos f)) small.num (small-quotient f y.den small'.den) in
         let right = small-product y.num (int_div x.den (pos f)) small'.num (small-quotient f x.den small.den) in
         subst (λ z. unsigned_abs z < 2 ^ 127) (sym numerator) (small-sum (x.num *ℤ int_div y.den (pos f)) (y.num *ℤ int_div x.den (pos f))
-            left right)
+        left right)
 
     pub small-sum-shared : shared n (shared x.den y.den) ≡ shared n e
     small-sum-shared = sum-factor x y p q n e numerator under

@@ -1,4 +1,4 @@
--- Signs: the parts of a fraction are those of its rational number, and so is its absolute value.
+-- Numerators, denominators and absolute values of fractions are those of their rational numbers.
 use Rattle.std.specs.Prelude.{◌≡◌, ◌≢◌, ℕ, suc, Bool, true, false, if◌then◌else◌, ℤ, pos, ◌<ℤ◌, ◌≤ℤ◌, unsigned_abs}
 use Rattle.std.specs.Int.Signed.{lt_z}
 use Rattle.std.proofs.Common.{arith, refl, ap, sym, ◌∙◌}
@@ -9,16 +9,16 @@ use Rattle.frac128.specs.Values.{value_of}
 use Rattle.frac128.proofs.Fractions.{lowest-is}
 use Rattle.frac128.proofs.FractionLaws.{IsProper, negative-value}
 
--- ---- parts
-pub value_top : (x : Fraction) → IsProper x → (value_of x).numerator ≡ x.num
-value_top x p = (lowest-is x.num x.den p.positive p.lowest).0
+-- ---- numerators and denominators
+pub value_numerator : (x : Fraction) → IsProper x → (value_of x).numerator ≡ x.num
+value_numerator x p = (lowest-is x.num x.den p.positive p.lowest).0
 
-pub size_of_S : (c : ℕ) → unsigned_abs (S c) ≡ suc c
+pub absolute_of_S : (c : ℕ) → unsigned_abs (S c) ≡ suc c
 unfolding S
-size_of_S c = refl
+absolute_of_S c = refl
 
-pub value_bottom : (x : Fraction) → IsProper x → unsigned_abs x.den ≡ suc (value_of x).less
-value_bottom x p = sym (ap unsigned_abs (lowest-is x.num x.den p.positive p.lowest).1) ∙ size_of_S (value_of x).less
+pub value_denominator : (x : Fraction) → IsProper x → unsigned_abs x.den ≡ suc (value_of x).less
+value_denominator x p = sym (ap unsigned_abs (lowest-is x.num x.den p.positive p.lowest).1) ∙ absolute_of_S (value_of x).less
 
 -- a whole number is itself
 pub whole-value : (z : ℤ) → value_of (whole z) ≡ of z
@@ -33,7 +33,8 @@ pub absolute-down : (p : Rational) → p.numerator <ℤ pos 0 → absolute p ≡
 absolute-down p h = let down : lt_z p.numerator (pos 0) ≡ true = grind (arith, ints) in ap (λ t. if t then neg p else p) down
 
 pub absolute-value : (x : Fraction) → IsProper x → value_of (absolute_of x) ≡ absolute (value_of x)
-absolute-value x p = by (lt_z x.num (pos 0)) ∙ sym (ap (λ t. if lt_z t (pos 0) then neg (value_of x) else value_of x) (value_top x p))
+absolute-value x p = by (lt_z x.num (pos 0))
+    ∙ sym (ap (λ t. if lt_z t (pos 0) then neg (value_of x) else value_of x) (value_numerator x p))
   where
     by : (t : Bool) → value_of (if t then negative_of x else x) ≡ (if t then neg (value_of x) else value_of x)
     by true = negative-value x

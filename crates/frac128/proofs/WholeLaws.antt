@@ -1,6 +1,6 @@
 -- Sums and products of whole numbers and with 0.
-use Rattle.std.specs.Prelude.{◌≡◌, zero, suc, ◌/◌, ◌<◌, ◌^◌, Some, None, Ok, Err, ℤ, pos, negsuc, neg_ℤ, ◌+ℤ◌, ◌*ℤ◌, ◌<ℤ◌, int_div,
-    unsigned_abs}
+use Rattle.std.specs.Prelude.{◌≡◌, zero, suc, ◌/◌, ◌<◌, ◌^◌, Some, None, Ok, Err, ℤ, pos, negsuc, neg_ℤ, ◌+ℤ◌, ◌*ℤ◌, ◌<ℤ◌, int_div}
+use Rattle.std.specs.Prelude.{unsigned_abs}
 use Rattle.std.proofs.Common.{arith, refl, ap, sym, ◌∙◌}
 use Rattle.std.proofs.lemmas.Int.{ints}
 use Rattle.std.proofs.Math.Nat.{div_self, zero-div, dvd-one}
@@ -39,7 +39,7 @@ within-is z n e h = ap within e ∙ within-fits n h
 zero-den : (x : Fraction) → IsFraction x.num x.den → x.num ≡ pos 0 → x.den ≡ pos 1
 zero-den x p e =
     let size : unsigned_abs x.den ≡ 1 = sym (gcd-zero (unsigned_abs x.den) 0 refl) ∙ gcd_comm (unsigned_abs x.den) 0
-            ∙ ap (λ z. gcd (unsigned_abs z) (unsigned_abs x.den)) (sym e) ∙ p.lowest in
+    ∙ ap (λ z. gcd (unsigned_abs z) (unsigned_abs x.den)) (sym e) ∙ p.lowest in
     let positive = p.positive in
     omega (arith, ints)
 
@@ -48,7 +48,7 @@ zero-shared : (n d : ℤ) → n ≡ pos 0 → pos 0 <ℤ d → int_div d (shared
 zero-shared n (pos zero) e p = absurd (omega (arith, ints))
 zero-shared n (pos (suc k)) e p =
     let whole : gcd (unsigned_abs n) (suc k) ≡ suc k = ap (λ z. gcd (unsigned_abs z) (suc k)) e ∙ gcd_comm 0 (suc k)
-            ∙ gcd-zero (suc k) 0 refl in
+    ∙ gcd-zero (suc k) 0 refl in
     ap (λ z. pos (suc k / z)) whole ∙ ap pos (div_self (omega arith))
 zero-shared n (negsuc k) e p = absurd (omega (arith, ints))
 
@@ -79,11 +79,11 @@ module _ (x y : Fraction) (p : IsFraction x.num x.den) (q : IsFraction y.num y.d
     unfolding product_of
     whole-product =
         let numerator : int_div x.num (shared x.num y.den) *ℤ int_div y.num (shared y.num x.den) ≡ x.num *ℤ y.num =
-                ap (λ z. z *ℤ int_div y.num (shared y.num x.den)) (by-one x.num x.num y.den one')
-                ∙ ap (λ z. x.num *ℤ z) (by-one y.num y.num x.den one) in
+        ap (λ z. z *ℤ int_div y.num (shared y.num x.den)) (by-one x.num x.num y.den one')
+        ∙ ap (λ z. x.num *ℤ z) (by-one y.num y.num x.den one) in
         let denominator : int_div x.den (shared y.num x.den) *ℤ int_div y.den (shared x.num y.den) ≡ pos 1 =
-                ap (λ z. z *ℤ int_div y.den (shared x.num y.den)) (by-one x.den y.num x.den one)
-                ∙ ap (λ z. x.den *ℤ z) (by-one y.den x.num y.den one') ∙ one-times x.den y.den one ∙ one' in
+        ap (λ z. z *ℤ int_div y.den (shared x.num y.den)) (by-one x.den y.num x.den one)
+        ∙ ap (λ z. x.den *ℤ z) (by-one y.den x.num y.den one') ∙ one-times x.den y.den one ∙ one' in
         ap (λ z. fraction_where (within z) (within (int_div x.den (shared y.num x.den) *ℤ int_div y.den (shared x.num y.den)))) numerator
         ∙ ap (λ z. fraction_where (within (x.num *ℤ y.num)) z) (within-is _ (pos 1) denominator (omega arith))
 
@@ -105,11 +105,11 @@ module _ (x y : Fraction) (p : IsFraction x.num x.den) (q : IsFraction y.num y.d
     unfolding product_of
     zero-product_left =
         let numerator = zero-times (int_div x.num (shared x.num y.den)) (int_div y.num (shared y.num x.den))
-                (zero-divided x.num (shared x.num y.den) none) in
+        (zero-divided x.num (shared x.num y.den) none) in
         let denominator = ap (λ z. z *ℤ int_div y.den (shared x.num y.den)) (by-one x.den y.num x.den one-x)
-                ∙ ap (λ z. x.den *ℤ z) (zero-shared x.num y.den none q.positive) ∙ times-one x.den (pos 1) refl ∙ one-x in
+        ∙ ap (λ z. x.den *ℤ z) (zero-shared x.num y.den none q.positive) ∙ times-one x.den (pos 1) refl ∙ one-x in
         ap (λ z. fraction_where z (within (int_div x.den (shared y.num x.den) *ℤ int_div y.den (shared x.num y.den))))
-            (within-is _ (pos 0) numerator (omega arith))
+        (within-is _ (pos 0) numerator (omega arith))
         ∙ ap (fraction_where (Some (pos 0))) (within-is _ (pos 1) denominator (omega arith))
 
   -- ---- 0 on the right
@@ -130,11 +130,11 @@ module _ (x y : Fraction) (p : IsFraction x.num x.den) (q : IsFraction y.num y.d
     unfolding product_of
     zero-product_right =
         let numerator = times-zero (int_div x.num (shared x.num y.den)) (int_div y.num (shared y.num x.den))
-                (zero-divided y.num (shared y.num x.den) none) in
+        (zero-divided y.num (shared y.num x.den) none) in
         let denominator = ap (λ z. z *ℤ int_div y.den (shared x.num y.den)) (zero-shared y.num x.den none p.positive)
-                ∙ one-times (pos 1) (int_div y.den (shared x.num y.den)) refl ∙ by-one y.den x.num y.den one-y ∙ one-y in
+        ∙ one-times (pos 1) (int_div y.den (shared x.num y.den)) refl ∙ by-one y.den x.num y.den one-y ∙ one-y in
         ap (λ z. fraction_where z (within (int_div x.den (shared y.num x.den) *ℤ int_div y.den (shared x.num y.den))))
-            (within-is _ (pos 0) numerator (omega arith))
+        (within-is _ (pos 0) numerator (omega arith))
         ∙ ap (fraction_where (Some (pos 0))) (within-is _ (pos 1) denominator (omega arith))
 
 -- a whole number over 1 is in lowest terms

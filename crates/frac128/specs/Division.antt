@@ -2,10 +2,10 @@
 use Rattle.std.specs.Prelude.{ℤ, neg_ℤ}
 use Rattle.std.specs.Int.{int_div_euclid}
 
--- the greatest whole number at most a / b, for a positive b
+-- a / b rounded down, for a positive b
 abbrev pub floor_of : ℤ → ℤ → ℤ
 floor_of a b = int_div_euclid a b
 
--- the least whole number at least a / b
+-- a / b rounded up
 abbrev pub ceiling_of : ℤ → ℤ → ℤ
 ceiling_of a b = neg_ℤ (floor_of (neg_ℤ a) b)

@@ -1,6 +1,6 @@
--- Fractions in lowest terms whose parts are in the range, and what the operations on them answer.
-use Rattle.std.specs.Prelude.{◌≡◌, ◌<◌, ◌^◌, Bool, if◌then◌else◌, Option, Some, None, Result, Ok, Err, ℤ, pos, neg_ℤ, ◌+ℤ◌, ◌*ℤ◌, ◌<ℤ◌,
-    int_lt, int_div, nat_lt, unsigned_abs}
+-- Fractions in lowest terms whose numerators and denominators are in the range, and the results of operations on them.
+use Rattle.std.specs.Prelude.{◌≡◌, ◌<◌, ◌^◌, Bool, if◌then◌else◌, Option, Some, None, Result, Ok, Err, ℤ, pos, neg_ℤ, ◌+ℤ◌, ◌*ℤ◌, ◌<ℤ◌}
+use Rattle.std.specs.Prelude.{int_lt, int_div, nat_lt, unsigned_abs}
 use Rattle.std.specs.Int.Signed.{lt_z}
 use Rattle.frac128.specs.Gcd.{gcd}
 use Rattle.frac128.specs.declared.fraction.Wide.{Wide}
@@ -10,7 +10,8 @@ pub record Fraction : Type 0 where
   pub num : ℤ
   pub den : ℤ
 
--- the parts are in the range, the denominator is positive, and no number above 1 divides both
+-- a fraction in lowest terms: numerator and denominator are in the range, the denominator is positive, and no number above 1 divides
+-- both
 pub record IsFraction (num den : ℤ) : Type 0 where
   pub positive : pos 0 <ℤ den
   pub num_fits : unsigned_abs num < 2 ^ 127
@@ -21,7 +22,7 @@ pub record IsFraction (num den : ℤ) : Type 0 where
 abbrev pub whole : ℤ → Fraction
 whole z = record { num = z; den = pos 1 }
 
--- both parts have 63 bits at most
+-- numerator and denominator have at most 63 bits
 pub record IsSmall (x : Fraction) : Type 0 where
   pub num : unsigned_abs x.num < 2 ^ 63
   pub den : unsigned_abs x.den < 2 ^ 63
@@ -30,11 +31,11 @@ pub record IsSmall (x : Fraction) : Type 0 where
 abbrev pub in_range : ℤ → Bool
 in_range z = nat_lt (unsigned_abs z) (2 ^ 127)
 
--- the number where it is in the range
+-- the number, none where it is not in the range
 abbrev pub within : ℤ → Option ℤ
 within z = if in_range z then Some z else None
 
--- the greatest common divisor of the sizes of two whole numbers
+-- the greatest common divisor of the absolute values of two whole numbers
 abbrev pub shared : ℤ → ℤ → ℤ
 shared m n = pos (gcd (unsigned_abs m) (unsigned_abs n))
 
@@ -46,7 +47,7 @@ lowest_of n d = record { num = int_div n (shared n d); den = int_div d (shared n
 abbrev pub reduced_of : ℤ → ℤ → Fraction
 reduced_of n d = if int_lt d (pos 0) then lowest_of (neg_ℤ n) (neg_ℤ d) else lowest_of n d
 
--- num / den in lowest terms where all four numbers are in the range, and wide else
+-- num / den in lowest terms where all four numbers are in the range, else wide
 abbrev pub sum_where : Option ℤ → Option ℤ → Option ℤ → Option ℤ → Result Fraction Wide
 sum_where (Some left) (Some right) (Some num) (Some den) = Ok (lowest_of num den)
 sum_where (Some left) (Some right) (Some num) None = Err (record {})
@@ -62,7 +63,7 @@ sum_of x y =
     let right = y.num *ℤ int_div x.den g in
     sum_where (within left) (within right) (within (left +ℤ right)) (within (int_div x.den g *ℤ y.den))
 
--- num / den where both numbers are in the range, and wide else
+-- num / den where both numbers are in the range, else wide
 abbrev pub fraction_where : Option ℤ → Option ℤ → Result Fraction Wide
 fraction_where (Some num) (Some den) = Ok (record { num = num; den = den })
 fraction_where (Some num) None = Err (record {})
@@ -75,11 +76,11 @@ product_of x y =
     let h = shared y.num x.den in
     fraction_where (within (int_div x.num g *ℤ int_div y.num h)) (within (int_div x.den h *ℤ int_div y.den g))
 
--- the fraction with its sign turned
+-- the negative of a fraction
 abbrev pub negative_of : Fraction → Fraction
 negative_of x = record { num = neg_ℤ x.num; den = x.den }
 
--- the fraction without its sign
+-- the absolute value of a fraction
 abbrev pub absolute_of : Fraction → Fraction
 absolute_of x = if lt_z x.num (pos 0) then negative_of x else x
 

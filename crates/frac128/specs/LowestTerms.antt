@@ -1,12 +1,12 @@
--- The quotients of two numbers by their greatest common divisor have no common divisor: why fractions can be put in lowest terms.
-use Rattle.std.specs.Prelude.{◌≡◌, ℕ, zero, suc, ◌*◌, ◌/◌, ◌-◌, ◌%◌, ◌<◌, ◌≤◌, ◌==◌, Bool, true, false, cond, ℤ, pos, negsuc, int_div,
-    unsigned_abs}
+-- The quotients of two numbers by their greatest common divisor are coprime: fractions can be put in lowest terms.
+use Rattle.std.specs.Prelude.{◌≡◌, ℕ, zero, suc, ◌*◌, ◌/◌, ◌-◌, ◌%◌, ◌<◌, ◌≤◌, ◌==◌, Bool, true, false, cond, ℤ, pos, negsuc, int_div}
+use Rattle.std.specs.Prelude.{unsigned_abs}
 use Rattle.std.specs.Int.{◌∣◌, IsGcd}
 use Rattle.std.proofs.Common.{arith, refl, ap, sym, ◌∙◌, subst}
 use Rattle.std.proofs.lemmas.Bool.{eqb-true, eqb-false}
 use Rattle.std.proofs.lemmas.Int.{ints}
-use Rattle.std.proofs.Math.Nat.{mod-lt, dvd-mul_right, mul-dvd-mul_left, dvd_of_mul-dvd-mul_left, mul-div_cancel', mul-div_cancel_left,
-    pos_of_dvd_of_pos}
+use Rattle.std.proofs.Math.Nat.{mod-lt, dvd-mul_right, mul-dvd-mul_left, dvd_of_mul-dvd-mul_left, mul-div_cancel', mul-div_cancel_left}
+use Rattle.std.proofs.Math.Nat.{pos_of_dvd_of_pos}
 use Rattle.std.proofs.lemmas.Nat.Gcd.{dvd_antisymm, IsGcd-from_mod, IsGcd-from_zero}
 use Rattle.frac128.specs.Gcd.{gcd, gcd_within}
 
@@ -24,7 +24,7 @@ pub gcd-is : (a b : ℕ) → IsGcd a b (gcd a b)
 unfolding gcd
 gcd-is a b = gcd_within-is b a b (omega arith)
 
--- a common factor is taken out
+-- a common factor comes out of the greatest common divisor
 pub gcd-mul : (k a b : ℕ) → 0 < k → gcd (k * a) (k * b) ≡ k * gcd a b
 gcd-mul k a b p =
     let small = gcd-is a b in
@@ -46,9 +46,9 @@ gcd-positive a b p = pos_of_dvd_of_pos (gcd-is a b).1 p
 abbrev pub divided : ℤ → ℕ → ℤ
 divided a g = int_div a (pos g)
 
-pub divided-size : (g : ℕ) (a : ℤ) → unsigned_abs (divided a g) ≡ unsigned_abs a / g
-divided-size g (pos n) = refl
-divided-size g (negsuc n) = omega (arith, ints)
+pub divided-absolute : (g : ℕ) (a : ℤ) → unsigned_abs (divided a g) ≡ unsigned_abs a / g
+divided-absolute g (pos n) = refl
+divided-absolute g (negsuc n) = omega (arith, ints)
 
 pub quotients : (m n : ℕ) → 0 < n → gcd (m / gcd m n) (n / gcd m n) ≡ 1
 quotients m n p =
@@ -59,7 +59,7 @@ quotients m n p =
     let y : g * (n / g) ≡ n = mul-div_cancel' g both.1 in
     let X = gcd (m / g) (n / g) in
     let e : g * X ≡ g * 1 = sym (gcd-mul g (m / g) (n / g) positive) ∙ ap (λ z. gcd z (g * (n / g))) x ∙ ap (λ z. gcd m z) y
-            ∙ omega arith in
+    ∙ omega arith in
     sym (mul-div_cancel_left X positive) ∙ ap (λ z. z / g) e ∙ mul-div_cancel_left 1 positive
 
 pub positive_quotient : (m n : ℕ) → suc (suc n / gcd m (suc n) - 1) ≡ suc n / gcd m (suc n)
@@ -76,5 +76,6 @@ pub over-lowest : (a : ℤ) (c : ℕ) → gcd (unsigned_abs (divided a (gcd (uns
     (suc (suc c / gcd (unsigned_abs a) (suc c) - 1)) ≡ 1
 over-lowest a c =
     let g = gcd (unsigned_abs a) (suc c) in
-    ap (λ z. gcd (unsigned_abs (divided a g)) z) (positive_quotient (unsigned_abs a) c) ∙ ap (λ z. gcd z (suc c / g)) (divided-size g a)
-        ∙ quotients (unsigned_abs a) (suc c) (omega arith)
+    ap (λ z. gcd (unsigned_abs (divided a g)) z) (positive_quotient (unsigned_abs a) c)
+    ∙ ap (λ z. gcd z (suc c / g)) (divided-absolute g a)
+    ∙ quotients (unsigned_abs a) (suc c) (omega arith)

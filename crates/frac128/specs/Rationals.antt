@@ -1,6 +1,6 @@
--- Rational numbers as fractions in lowest terms, so that two are equal where their parts are, with their operations.
-use Rattle.std.specs.Prelude.{◌≡◌, ◌≢◌, ℕ, zero, suc, ◌+◌, ◌*◌, ◌/◌, ◌-◌, if◌then◌else◌, ℤ, pos, negsuc, neg_ℤ, ◌+ℤ◌, ◌-ℤ◌, ◌*ℤ◌, ◌≤ℤ◌,
-    unsigned_abs}
+-- Rational numbers as fractions in lowest terms, so that equal numbers have equal numerators and denominators, with their operations.
+use Rattle.std.specs.Prelude.{◌≡◌, ◌≢◌, ℕ, zero, suc, ◌+◌, ◌*◌, ◌/◌, ◌-◌, if◌then◌else◌, ℤ, pos, negsuc, neg_ℤ, ◌+ℤ◌, ◌-ℤ◌, ◌*ℤ◌, ◌≤ℤ◌}
+use Rattle.std.specs.Prelude.{unsigned_abs}
 use Rattle.std.specs.Int.Signed.{lt_z}
 use Rattle.ring_laws.specs.Sums.{sum_with}
 use Rattle.frac128.specs.Gcd.{gcd}
@@ -12,7 +12,7 @@ pub record Rational : Type 0 where
   pub less : ℕ
   pub lowest : gcd (unsigned_abs numerator) (suc less) ≡ 1
 
--- the denominator of a less by one; shut, so that a product of denominators stays one in goals
+-- the denominator, given one less than it; opaque, so that goals keep a product of denominators as a product
 unfoldable pub S : ℕ → ℤ
 S c = pos (suc c)
 
@@ -20,7 +20,7 @@ S c = pos (suc c)
 abbrev pub denominator : Rational → ℤ
 denominator p = S p.less
 
--- a fraction from its parts
+-- the rational number of a numerator and a denominator
 abbrev pub made : (a : ℤ) (c : ℕ) → gcd (unsigned_abs a) (suc c) ≡ 1 → Rational
 made a c h = record { numerator = a; less = c; lowest = h }
 
@@ -30,7 +30,7 @@ over a c =
     let g = gcd (unsigned_abs a) (suc c) in
     made (divided a g) (suc c / g - 1) (over-lowest a c)
 
--- the less by one of a product of denominators
+-- a product of denominators, each given by one less than it
 unfoldable pub both : ℕ → ℕ → ℕ
 both c d = c + d + c * d
 
@@ -51,7 +51,7 @@ mul p q = over (p.numerator *ℤ q.numerator) (both p.less q.less)
 unfoldable pub neg : Rational → Rational
 neg p = over (neg_ℤ p.numerator) p.less
 
--- a number without its sign
+-- the absolute value
 abbrev pub absolute : Rational → Rational
 absolute p = if lt_z p.numerator (pos 0) then neg p else p
 
@@ -59,7 +59,7 @@ absolute p = if lt_z p.numerator (pos 0) then neg p else p
 abbrev pub sum : (ℕ → Rational) → ℕ → Rational
 sum f n = sum_with add (of (pos 0)) f n
 
--- one divided by a / (c + 1), and 0 for 0
+-- the reciprocal of a / (c + 1), and 0 for 0
 abbrev pub inverse_of : ℤ → ℕ → Rational
 inverse_of (pos zero) c = of (pos 0)
 inverse_of (pos (suc n)) c = over (S c) n

@@ -5,7 +5,7 @@ use Rattle.std.specs.declared.cmp.Ordering.{Ordering}
 use Rattle.frac128.specs.Fractions.{Fraction}
 use Rattle.frac128.specs.Rationals.{Rational, add, sub, mul, quotient, rational, IsBelow}
 
--- the number that a fraction stands for
+-- the rational number of a fraction
 abbrev pub value_of : Fraction → Rational
 value_of x = rational x.num x.den
 
@@ -25,6 +25,6 @@ IsProduct x y r = value_of r ≡ mul (value_of x) (value_of y)
 abbrev pub IsQuotient : Fraction → Fraction → Fraction → Type 0
 IsQuotient x y r = value_of r ≡ quotient (value_of x) (value_of y)
 
--- the answer of a comparison of x with y
+-- the result of comparing x with y
 abbrev pub IsOrder : Ordering → Fraction → Fraction → Type 0
 IsOrder r x y = MatchOrdering r (IsBelow (value_of x) (value_of y)) (value_of x ≡ value_of y) (IsBelow (value_of y) (value_of x))

@@ -1,10 +1,10 @@
-//! Products, sums and quotients of parts, where they are in the range.
+//! Products, sums and quotients of numerators and denominators, where they are in the range.
 ghost use Rattle.std.specs.Prelude.{◌≡◌, ◌+ℤ◌, ◌*ℤ◌, ◌<ℤ◌, pos, int_div};
 ghost use Rattle.frac128.specs.Fractions.{within};
 
 use crate::words::word_product;
 
-/// A product, where it is in the range.
+/// A product, none where it is not in the range.
 #[inline]
 pub fn times(a: i128, b: i128) -> Option<i128>
     ensures { result ≡ within (a *ℤ b) }
@@ -18,7 +18,7 @@ pub fn times(a: i128, b: i128) -> Option<i128>
     }
 }
 
-/// A sum, where it is in the range.
+/// A sum, none where it is not in the range.
 #[inline]
 pub fn plus(a: i128, b: i128) -> Option<i128>
     ensures { result ≡ within (a +ℤ b) }
@@ -29,7 +29,7 @@ pub fn plus(a: i128, b: i128) -> Option<i128>
     }
 }
 
-/// A quotient by a positive number, toward zero.
+/// A quotient by a positive number, rounded toward zero.
 #[inline]
 pub fn over(a: i128, b: i128) -> i128
     requires { pos 0 <ℤ b }

@@ -17,7 +17,7 @@ pub fn cmp(a: Frac, c: Frac) -> Ordering
     comparison(a, c)
 }
 
-/// Compares two fractions: by their numerators where the denominators are equal, by their cross products where those fit at once.
+/// Compares two fractions: by their numerators where the denominators are equal, by their cross products where these fit.
 #[inline]
 fn comparison(a: Frac, c: Frac) -> Ordering
     ensures exact { result ≡ int_cmp (a.num *ℤ c.den) (c.num *ℤ a.den) }
@@ -58,8 +58,8 @@ fn general_comparison(a: Frac, c: Frac) -> Ordering
     }
 }
 
-/// Compares a / b with c / d. Where the whole parts are equal, the fractions compare as the reciprocals of their rests do, the other
-/// way round: so it goes on as Euclid's algorithm does.
+/// Compares a / b with c / d. Where the quotients rounded down are equal, the fractions compare as the reciprocals of the remainders
+/// do, in reverse order; so the comparison goes on like Euclid's algorithm.
 fn compare(a: u128, b: u128, c: u128, d: u128) -> Ordering
     requires first { 0 < b }
     requires second { 0 < d }

@@ -4,7 +4,7 @@ ghost use Rattle.frac128.specs.Division.{floor_of, ceiling_of};
 
 use crate::Frac;
 
-/// The greatest whole number at most a / b, for a positive b.
+/// a / b rounded down, for a positive b.
 #[inline]
 pub fn floor_div(a: i128, b: i128) -> i128
     requires { pos 0 <ℤ b }
@@ -15,7 +15,7 @@ pub fn floor_div(a: i128, b: i128) -> i128
     a.div_euclid(b)
 }
 
-/// The least whole number at least a / b, for a positive b.
+/// a / b rounded up, for a positive b.
 #[inline]
 pub fn ceil_div(a: i128, b: i128) -> i128
     requires { pos 0 <ℤ b }
@@ -27,7 +27,7 @@ pub fn ceil_div(a: i128, b: i128) -> i128
 }
 
 impl Frac {
-    /// The greatest whole number at most the fraction.
+    /// The fraction rounded down.
     #[inline]
     pub fn floor(self) -> i128
         ensures value { result ≡ floor_of self.num self.den }
@@ -37,7 +37,7 @@ impl Frac {
         floor_div(self.num, self.den)
     }
 
-    /// The least whole number at least the fraction.
+    /// The fraction rounded up.
     #[inline]
     pub fn ceil(self) -> i128
         ensures value { result ≡ ceiling_of self.num self.den }

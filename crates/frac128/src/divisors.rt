@@ -1,4 +1,4 @@
-//! The greatest common divisor of numbers of two words.
+//! The greatest common divisor of numbers of 128 bits.
 ghost use Rattle.std.specs.Prelude.{◌≡◌, ◌%◌, ◌<ℤ◌, pos, unsigned_abs};
 ghost use Rattle.std.specs.Int.{IsGcd};
 ghost use Rattle.frac128.specs.Gcd.{gcd as gcd_of};
@@ -6,10 +6,10 @@ ghost use Rattle.frac128.specs.Fractions.{shared as shared_by};
 
 use crate::words::{odd_gcd, word_gcd};
 
-/// The greatest number that is a word.
+/// The greatest number of 64 bits.
 const WORD: u128 = u64::MAX as u128;
 
-/// The greatest common divisor; of a number and 0 it is the number.
+/// The greatest common divisor. For a number and 0 it is the number, and for 0 and 0 it is 0.
 pub fn gcd(a: u128, b: u128) -> u128
     ensures value { result ≡ gcd_of a b }
     ensures greatest { IsGcd a b result }
@@ -55,7 +55,7 @@ fn odd_long_gcd(a: u128, b: u128) -> u128
     x
 }
 
-/// The greatest common divisor of the sizes, where the second number is positive.
+/// The greatest common divisor of the absolute values, where the second number is positive.
 pub fn shared(a: i128, b: i128) -> i128
     requires { pos 0 <ℤ b }
     ensures value { result ≡ shared_by a b }

@@ -1,15 +1,15 @@
-//! A fraction in lowest terms, and its parts.
+//! Fractions in lowest terms, their numerators and denominators.
 ghost use Rattle.std.specs.Prelude.{◌≡◌};
 ghost use Rattle.frac128.specs.Fractions.{IsFraction};
 ghost use Rattle.frac128.specs.Values.{value_of};
 
 use std::marker::Model;
 
-/// A number on the way to a result left the range.
+/// The error that an intermediate number of an operation left the range.
 #[derive(Clone, Copy, Debug, PartialEq, Eq)]
 pub struct Wide;
 
-/// A fraction in lowest terms with a positive denominator, both parts in the range.
+/// A fraction in lowest terms, with a positive denominator; numerator and denominator are in the range.
 #[derive(Clone, Copy, Debug)]
 pub struct Frac {
     pub(crate) num: i128,
@@ -28,7 +28,7 @@ impl Model for Frac {
     ghost inverse = { λ v. record { num = v.num; den = v.den } };
 }
 
-/// The fraction of parts that are in lowest terms.
+/// The fraction of a numerator and a denominator that are in lowest terms.
 #[inline]
 pub(crate) fn fraction_of(num: i128, den: i128) -> Frac
     requires { IsFraction num den }
@@ -39,7 +39,7 @@ pub(crate) fn fraction_of(num: i128, den: i128) -> Frac
 }
 
 impl Frac {
-    /// The numerator, which has the sign.
+    /// The numerator, which carries the sign.
     #[inline]
     pub fn num(self) -> i128
         ensures value { result ≡ self.num }

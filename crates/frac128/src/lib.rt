@@ -1,7 +1,7 @@
-//! Exact fractions with parts of 128 bits.
+//! Exact fractions with numerators and denominators of 128 bits.
 //!
-//! A [`Frac`] is in lowest terms. An operation answers the exact reduced fraction, or [`Wide`] where a number on the way to it leaves
-//! **the range**, from -(2^127 - 1) to 2^127 - 1. Nothing is rounded, and nothing takes memory.
+//! A [`Frac`] is in lowest terms. An operation answers the exact reduced fraction, or [`Wide`] where an intermediate number leaves
+//! **the range**, from -(2^127 - 1) to 2^127 - 1. Nothing is rounded, and nothing is allocated.
 #![tactic(auto)]
 
 mod checked;

@@ -47,7 +47,7 @@ fn lowest(num: i128, den: i128) -> Frac
     divided(num, den, factor)
 }
 
-/// The fraction num / den with both parts divided by their greatest common divisor.
+/// The fraction num / den with numerator and denominator divided by their greatest common divisor.
 #[inline]
 pub fn divided(num: i128, den: i128, factor: i128) -> Frac
     requires positive { pos 0 <ℤ den }
@@ -60,7 +60,7 @@ pub fn divided(num: i128, den: i128, factor: i128) -> Frac
     fraction_of(over(num, factor), over(den, factor))
 }
 
-/// The same, where the divisor is a word.
+/// The same for a divisor of 64 bits.
 #[inline]
 pub fn divided_by_word(num: i128, den: i128, factor: i64) -> Frac
     requires positive { pos 0 <ℤ den }

@@ -9,8 +9,8 @@ use crate::fraction::fraction_of;
 use crate::small::{is_small, small_product};
 use crate::{Frac, Wide};
 
-/// The product. With the arguments a/b and c/d, g = gcd(a, d) and h = gcd(c, b), `Wide` comes exactly where (a/g) * (c/h) or
-/// (b/h) * (d/g) leaves the range.
+/// The product. For the arguments a/b and c/d, with g = gcd(a, d) and h = gcd(c, b), the answer is `Wide` exactly where
+/// (a/g) * (c/h) or (b/h) * (d/g) leaves the range.
 pub fn mul(a: Frac, c: Frac) -> Result<Frac, Wide>
     ensures exact { result ≡ product_of a c }
     ensures value { IfOk result (IsProduct a c) }
@@ -18,7 +18,7 @@ pub fn mul(a: Frac, c: Frac) -> Result<Frac, Wide>
     product(a, c)
 }
 
-/// The quotient by what is not 0: the product with the reciprocal.
+/// The quotient by a fraction that is not 0: the product with the reciprocal, `Wide` exactly where that is.
 pub fn div(a: Frac, c: Frac) -> Result<Frac, Wide>
     requires { c.num ≢ pos 0 }
     ensures exact { result ≡ quotient_of a c }
@@ -41,7 +41,7 @@ fn reciprocal(c: Frac) -> Frac
     }
 }
 
-/// The product. The cheap cases come first: whole numbers, 0, and parts of one word.
+/// The product. The cheap cases come first: whole numbers, 0, and numerators and denominators of 63 bits.
 #[inline]
 fn product(a: Frac, c: Frac) -> Result<Frac, Wide>
     ensures exact { result ≡ product_of a c }

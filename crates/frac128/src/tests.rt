@@ -1,9 +1,7 @@
-//! Worked examples, the edge of the range, and the vectors of another implementation.
-mod vectors;
+//! Worked examples, the edge of the range, and random operations, whose checksums another implementation computed.
 
 use crate::{Frac, Wide, add, ceil_div, cmp, div, floor_div, frac, gcd, mul, sub};
 use std::cmp::Ordering;
-use vectors::{DIFFERENCES, ORDERS, PRODUCTS, QUOTIENTS, ROUNDED, SUMS};
 
 /// The greatest number of the range.
 const MOST: i128 = i128::MAX;
@@ -11,7 +9,7 @@ const MOST: i128 = i128::MAX;
 /// 2^126.
 const HALF: i128 = 85_070_591_730_234_615_865_843_651_857_942_052_864;
 
-/// A fraction of a table.
+/// The fraction of two numbers, 0 where they are none of a fraction.
 fn fraction(num: i128, den: i128) -> Frac {
     if den == 0 || num == i128::MIN || den == i128::MIN {
         frac(0, 1)
@@ -20,7 +18,7 @@ fn fraction(num: i128, den: i128) -> Frac {
     }
 }
 
-/// The parts of an answer, and 0, 0 for a wide one.
+/// Numerator and denominator of a result, and 0, 0 for a wide one.
 fn parts(answer: Result<Frac, Wide>) -> (i128, i128) {
     match answer {
         Ok(value) => (value.num(), value.den()),
@@ -28,7 +26,7 @@ fn parts(answer: Result<Frac, Wide>) -> (i128, i128) {
     }
 }
 
-/// The quotient by what is not 0.
+/// The quotient, wide for a division by 0.
 fn quotient(a: Frac, c: Frac) -> Result<Frac, Wide> {
     if c.num() == 0 { Err(Wide) } else { div(a, c) }
 }
@@ -111,56 +109,121 @@ fn the_edge_of_the_range(rt: HostRuntime) {
     }
 }
 
-#[test]
-fn random_sums_and_differences(rt: HostRuntime) {
-    for [a, b, c, d, num, den] in SUMS {
-        assert_eq!(rt;
-            parts(add(fraction(a, b), fraction(c, d))),
-            (num, den),
-            "{a}/{b} + {c}/{d}"
-        );
+/// The limits below which the numerators and the denominators of random fractions lie, in absolute value.
+const LIMITS: [(u128, u128); 6] = [
+    (2, 2),
+    (1 << 31, 1000),
+    (1 << 64, 1 << 63),
+    (1 << 100, 1 << 20),
+    (1 << 20, 1 << 100),
+    ((1 << 127) - 1, 3),
+];
+
+/// A linear congruential generator, after Knuth.
+#[derive(Drop)]
+struct Source {
+    state: u64,
+}
+
+impl Source {
+    /// A number of 31 bits.
+    fn next(&mut self) -> u64 {
+        self.state = self
+            .state
+            .wrapping_mul(6364136223846793005)
+            .wrapping_add(1442695040888963407);
+        self.state >> 33
     }
-    for [a, b, c, d, num, den] in DIFFERENCES {
-        assert_eq!(rt;
-            parts(sub(fraction(a, b), fraction(c, d))),
-            (num, den),
-            "{a}/{b} - {c}/{d}"
-        );
+
+    /// A number of either sign below a limit in absolute value.
+    fn below(&mut self, limit: u128) -> i128 {
+        let positive = self.next() % 2 == 0;
+        let mut number = 0u128;
+        for _ in 0..5 {
+            number = number
+                .wrapping_mul(1 << 31)
+                .wrapping_add(u128::from(self.next()));
+        }
+        let absolute = i128::try_from(number.checked_rem(limit).unwrap_or(0)).unwrap_or(0);
+        if positive {
+            absolute
+        } else {
+            absolute.wrapping_neg()
+        }
+    }
+
+    /// A fraction of one of eight kinds: below one of the limits, of the denominator of another fraction, or its reciprocal.
+    fn operand(&mut self, kind: usize, like: Frac) -> Frac {
+        match LIMITS.get(kind) {
+            Some((most, most_den)) => {
+                let num = self.below(*most);
+                fraction(num, self.below(*most_den))
+            }
+            None if kind == 6 => fraction(self.below(1 << 40), like.den()),
+            None => fraction(like.den(), like.num()),
+        }
     }
 }
 
-#[test]
-fn random_products_and_quotients(rt: HostRuntime) {
-    for [a, b, c, d, num, den] in PRODUCTS {
-        assert_eq!(rt;
-            parts(mul(fraction(a, b), fraction(c, d))),
-            (num, den),
-            "{a}/{b} * {c}/{d}"
-        );
-    }
-    for [a, b, c, d, num, den] in QUOTIENTS {
-        assert_eq!(rt;
-            parts(quotient(fraction(a, b), fraction(c, d))),
-            (num, den),
-            "({a}/{b}) / ({c}/{d})"
-        );
+#[derive(Clone, Copy, Debug)]
+enum Operation {
+    Sum,
+    Difference,
+    Product,
+    Quotient,
+    Order,
+    Rounding,
+}
+
+/// The two numbers of a result.
+fn result_of(operation: Operation, x: Frac, y: Frac) -> (i128, i128) {
+    match operation {
+        Operation::Sum => parts(add(x, y)),
+        Operation::Difference => parts(sub(x, y)),
+        Operation::Product => parts(mul(x, y)),
+        Operation::Quotient => parts(quotient(x, y)),
+        Operation::Order => (sign(cmp(x, y)), 1),
+        Operation::Rounding => (x.floor(), x.ceil()),
     }
 }
 
-#[test]
-fn random_orders_and_roundings(rt: HostRuntime) {
-    for [a, b, c, d, want] in ORDERS {
-        assert_eq!(rt;
-            sign(cmp(fraction(a, b), fraction(c, d))),
-            want,
-            "{a}/{b} and {c}/{d}"
-        );
+/// A checksum with one more number: its low and its high 64 bits, and its sign.
+fn mixed(total: u64, number: i128) -> u64 {
+    let absolute = number.unsigned_abs();
+    let low = u64::try_from(absolute % (1 << 64)).unwrap_or(0);
+    let high = u64::try_from(absolute >> 64).unwrap_or(0);
+    total
+        .wrapping_mul(31)
+        .wrapping_add(low.wrapping_mul(3))
+        .wrapping_add(high.wrapping_mul(5))
+        .wrapping_add(u64::from(number < 0))
+}
+
+/// The checksum of 4,096 results.
+fn checksum(operation: Operation) -> u64 {
+    let mut source = Source { state: 2026 };
+    let mut total = 0;
+    for case in 0..4096usize {
+        let x = source.operand(case % 6, frac(0, 1));
+        let y = source.operand(case / 6 % 8, x);
+        let (first, second) = result_of(operation, x, y);
+        total = mixed(mixed(total, first), second);
     }
-    for [a, b, low, high] in ROUNDED {
-        assert_eq!(rt;
-            (fraction(a, b).floor(), fraction(a, b).ceil()),
-            (low, high),
-            "{a}/{b}"
-        );
+    total
+}
+
+/// The checksums that `tools/vectors/frac128.py` computed.
+#[test]
+fn random_operations(rt: HostRuntime) {
+    let table = [
+        (Operation::Sum, 681510758892488967),
+        (Operation::Difference, 807475787703459590),
+        (Operation::Product, 2572655819194597552),
+        (Operation::Quotient, 11837556022792784862),
+        (Operation::Order, 12175214840352729347),
+        (Operation::Rounding, 6969714028429243313),
+    ];
+    for (operation, want) in table {
+        assert_eq!(rt; checksum(operation), want, "{operation:?}");
     }
 }

@@ -34,7 +34,7 @@ pub fn odd_gcd(a: u64, b: u64) -> u64
     x
 }
 
-/// The greatest common divisor of the sizes of two words, where the second is positive.
+/// The greatest common divisor of the absolute values of two numbers of 64 bits, where the second is positive.
 #[inline]
 pub fn word_shared(a: i64, b: i64) -> i64
     requires { pos 0 <ℤ b }
@@ -88,7 +88,7 @@ pub fn over_word(a: i128, b: i64) -> i128
     }
 }
 
-/// The rest by a positive word, with the sign of the first number.
+/// The remainder by a positive number of 64 bits, with the sign of the first number.
 #[inline]
 pub fn rest_by_word(a: i128, b: i64) -> i64
     requires { pos 0 <ℤ b }

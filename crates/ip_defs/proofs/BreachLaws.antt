@@ -1,27 +1,6 @@
 -- A point has no breach exactly where it is feasible.
-use Rattle.std.specs.Prelude.{
-  ◌≡◌,
-  ℕ,
-  zero,
-  suc,
-  [],
-  ◌∷◌,
-  ◌<◌,
-  ℤ,
-  ◌≤ℤ◌,
-  List,
-  length,
-  slice_get,
-  Bool,
-  true,
-  false,
-  Option,
-  Some,
-  None,
-  IfSome,
-  All,
-  if◌then◌else◌,
-}
+use Rattle.std.specs.Prelude.{◌≡◌, ℕ, zero, suc, [], ◌∷◌, ◌<◌, ℤ, ◌≤ℤ◌, List, length, slice_get, Bool, true, false, Option, Some, None}
+use Rattle.std.specs.Prelude.{IfSome, All, if◌then◌else◌}
 use Rattle.std.specs.Int.Signed.{lt_z}
 use Rattle.std.proofs.Common.{refl, arith}
 use Rattle.std.proofs.lemmas.List.{length-map}

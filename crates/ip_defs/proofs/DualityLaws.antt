@@ -1,39 +1,6 @@
 -- Weak duality over boxes.
-use Rattle.std.specs.Prelude.{
-  ◌≡◌,
-  ℕ,
-  zero,
-  suc,
-  ◌+◌,
-  ◌-◌,
-  ◌*◌,
-  ◌/◌,
-  ◌<◌,
-  ◌≤◌,
-  Bool,
-  true,
-  false,
-  List,
-  [],
-  ◌∷◌,
-  length,
-  All,
-  Option,
-  Some,
-  None,
-  IfSome,
-  slice_get,
-  option_map,
-  option_and_then,
-  ℤ,
-  pos,
-  negsuc,
-  ◌+ℤ◌,
-  ◌-ℤ◌,
-  ◌*ℤ◌,
-  ◌≤ℤ◌,
-  cond,
-}
+use Rattle.std.specs.Prelude.{◌≡◌, ℕ, zero, suc, ◌+◌, ◌-◌, ◌*◌, ◌/◌, ◌<◌, ◌≤◌, Bool, true, false, List, [], ◌∷◌, length, All, Option}
+use Rattle.std.specs.Prelude.{Some, None, IfSome, slice_get, option_map, option_and_then, ℤ, pos, negsuc, ◌+ℤ◌, ◌-ℤ◌, ◌*ℤ◌, ◌≤ℤ◌, cond}
 use Rattle.std.proofs.Common.{arith, refl, ap, subst}
 use Rattle.std.proofs.lemmas.Int.{ints, clamps}
 use Rattle.std.proofs.lemmas.Option.{get_or_from_slice_get, slice_get_within}
@@ -46,22 +13,8 @@ use Rattle.std.specs.Int.Signed.{lt_z}
 use Rattle.std.specs.List.{list_any}
 use Rattle.ip_defs.specs.Sums.{sum_below, sum_over}
 use Rattle.ip_defs.specs.Program.{at, coefficient, row_sum, Meets, IsIn, low_at, high_at, cost, costs_of}
-use Rattle.ip_defs.specs.Certificates.{
-  side_for,
-  payment,
-  pay,
-  coefs_of,
-  coefficient_of,
-  reduced,
-  column_part,
-  dual_value,
-  box_sum,
-  ceiling,
-  is_empty_side,
-  bound_by,
-  IsAtMost,
-  WeakDuality,
-}
+use Rattle.ip_defs.specs.Certificates.{side_for, payment, pay, coefs_of, coefficient_of, reduced, column_part, dual_value, box_sum}
+use Rattle.ip_defs.specs.Certificates.{ceiling, is_empty_side, bound_by, IsAtMost, WeakDuality}
 use Rattle.ip_defs.specs.declared.programs.Row.{Row}
 use Rattle.ip_defs.specs.declared.programs.Parts.{Parts}
 use Rattle.ip_defs.specs.declared.certificates.Bound.TheVariants.{At, Infinite}

@@ -1,27 +1,6 @@
 -- Lists: properties of each element, concatenated lists, and options that are none.
-use Rattle.std.specs.Prelude.{
-  ◌≡◌,
-  ℕ,
-  zero,
-  suc,
-  ◌+◌,
-  Bool,
-  true,
-  false,
-  cond,
-  List,
-  [],
-  ◌∷◌,
-  ◌++◌,
-  length,
-  filter,
-  find,
-  Option,
-  Some,
-  None,
-  option_map,
-  slice_get,
-}
+use Rattle.std.specs.Prelude.{◌≡◌, ℕ, zero, suc, ◌+◌, Bool, true, false, cond, List, [], ◌∷◌, ◌++◌, length, filter, find, Option, Some}
+use Rattle.std.specs.Prelude.{None, option_map, slice_get}
 use Rattle.std.specs.List.{enumerate_from}
 use Rattle.std.specs.Option.{option_or}
 use Rattle.std.proofs.Common.{refl, ap, ◌∙◌, subst, arith}

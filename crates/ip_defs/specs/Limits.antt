@@ -1,27 +1,6 @@
 -- The shape of integer programs, their limits, and the limits of certificates and boxes.
-use Rattle.std.specs.Prelude.{
-  ◌≡◌,
-  ◌≢◌,
-  ℕ,
-  ◌^◌,
-  ◌≤◌,
-  ◌<◌,
-  nat_lt,
-  Bool,
-  false,
-  ◌||◌,
-  List,
-  ◌++◌,
-  length,
-  flat_map,
-  Some,
-  slice_get,
-  slice_index_or,
-  sum_by,
-  ℤ,
-  pos,
-  ◌≤ℤ◌,
-}
+use Rattle.std.specs.Prelude.{◌≡◌, ◌≢◌, ℕ, ◌^◌, ◌≤◌, ◌<◌, nat_lt, Bool, false, ◌||◌, List, ◌++◌, length, flat_map, Some, slice_get}
+use Rattle.std.specs.Prelude.{slice_index_or, sum_by, ℤ, pos, ◌≤ℤ◌}
 use Rattle.std.specs.Int.RustNames.{unsigned_abs}
 use Rattle.std.specs.List.{enumerate_from, list_any}
 use Rattle.std.specs.Option.{ForSome, option_map_or}
@@ -33,20 +12,8 @@ use Rattle.ip_defs.specs.declared.certificates.Cert.{Cert}
 use Rattle.ip_defs.specs.Program.{low_at, high_at}
 use Rattle.ip_defs.specs.declared.limits.Limit.{Limit}
 use Rattle.ip_defs.specs.declared.limits.What.{What}
-use Rattle.ip_defs.specs.declared.limits.What.TheVariants.{
-  Columns,
-  Rows,
-  Entries,
-  Name,
-  Cost,
-  Lower,
-  Upper,
-  RowName,
-  Coef,
-  Side,
-  Objective,
-  Constant,
-}
+use Rattle.ip_defs.specs.declared.limits.What.TheVariants.{Columns, Rows, Entries, Name, Cost, Lower, Upper, RowName, Coef, Side}
+use Rattle.ip_defs.specs.declared.limits.What.TheVariants.{Objective, Constant}
 
 -- the absolute value of a number is above a limit
 abbrev pub exceeds : ℕ → ℤ → Bool

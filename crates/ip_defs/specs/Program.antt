@@ -1,30 +1,7 @@
 -- Integer programs: points, rows, boxes, feasible points, costs, optimal points and optimal values. Coefficients, costs and sides are
 -- whole numbers in their units; a coefficient that is not listed is 0.
-use Rattle.std.specs.Prelude.{
-  ◌≡◌,
-  ℕ,
-  ◌<◌,
-  ◌==◌,
-  Bool,
-  false,
-  if◌then◌else◌,
-  List,
-  [],
-  ◌∷◌,
-  length,
-  map,
-  All,
-  Option,
-  Some,
-  None,
-  IfSome,
-  slice_index_or,
-  ℤ,
-  pos,
-  ◌+ℤ◌,
-  ◌*ℤ◌,
-  ◌≤ℤ◌,
-}
+use Rattle.std.specs.Prelude.{◌≡◌, ℕ, ◌<◌, ◌==◌, Bool, false, if◌then◌else◌, List, [], ◌∷◌, length, map, All, Option, Some, None, IfSome}
+use Rattle.std.specs.Prelude.{slice_index_or, ℤ, pos, ◌+ℤ◌, ◌*ℤ◌, ◌≤ℤ◌}
 use Rattle.std.specs.Int.Signed.{lt_z}
 use Rattle.std.specs.Option.{option_map_or}
 use Rattle.ip_defs.specs.Sums.{sum_below}

@@ -1,67 +1,19 @@
 -- A well shaped program that exceeds no limit is within the limits.
-use Rattle.std.specs.Prelude.{
-  ◌≡◌,
-  ℕ,
-  zero,
-  suc,
-  ◌+◌,
-  ◌^◌,
-  ◌<◌,
-  ◌≤◌,
-  nat_lt,
-  Bool,
-  false,
-  ◌||◌,
-  List,
-  [],
-  ◌∷◌,
-  ◌++◌,
-  length,
-  flat_map,
-  sum_by,
-  slice_get,
-  Option,
-  Some,
-  None,
-  ℤ,
-  pos,
-}
+use Rattle.std.specs.Prelude.{◌≡◌, ℕ, zero, suc, ◌+◌, ◌^◌, ◌<◌, ◌≤◌, nat_lt, Bool, false, ◌||◌, List, [], ◌∷◌, ◌++◌, length, flat_map}
+use Rattle.std.specs.Prelude.{sum_by, slice_get, Option, Some, None, ℤ, pos}
 use Rattle.std.specs.Int.RustNames.{unsigned_abs}
 use Rattle.std.specs.List.{enumerate_from, list_any}
 use Rattle.std.specs.Option.{ForSome, option_map_or}
 use Rattle.std.proofs.Common.{arith, ap, sym, ◌∙◌, get_or, subst}
 use Rattle.std.proofs.lemmas.Bool.{ltb-false}
-use Rattle.ip_defs.specs.Limits.{
-  exceeds,
-  limit_at,
-  is_long,
-  column_limits,
-  row_limits,
-  limits_of,
-  value_at,
-  IsWellShaped,
-  IsColumn,
-  IsRow,
-  IsWithinLimits,
-}
+use Rattle.ip_defs.specs.Limits.{exceeds, limit_at, is_long, column_limits, row_limits, limits_of, value_at, IsWellShaped, IsColumn}
+use Rattle.ip_defs.specs.Limits.{IsRow, IsWithinLimits}
 use Rattle.ip_defs.specs.declared.programs.Column.{Column}
 use Rattle.ip_defs.specs.declared.programs.Row.{Row}
 use Rattle.ip_defs.specs.declared.programs.Parts.{Parts}
 use Rattle.ip_defs.specs.declared.limits.What.{What}
-use Rattle.ip_defs.specs.declared.limits.What.TheVariants.{
-  Columns,
-  Rows,
-  Entries,
-  Name,
-  Cost,
-  Lower,
-  Upper,
-  RowName,
-  Coef,
-  Side,
-  Objective,
-  Constant,
-}
+use Rattle.ip_defs.specs.declared.limits.What.TheVariants.{Columns, Rows, Entries, Name, Cost, Lower, Upper, RowName, Coef, Side}
+use Rattle.ip_defs.specs.declared.limits.What.TheVariants.{Objective, Constant}
 use Rattle.ip_defs.proofs.BoolLaws.{neither_true}
 use Rattle.ip_defs.proofs.ListLaws.{none_append, none_when}
 
@@ -84,11 +36,11 @@ none_at f (y ∷ ys) n e (suc i) x g =
     ap (λ k. f (k, x)) (sym place) ∙ none_at f ys (n + 1) both.1 i x g
 
 -- a limit that no element exceeds is not exceeded at any index
-none_passes : {A : Type 0} (p : A → Bool) (xs : List A) (d : A) → list_any p xs ≡ false → (i : ℕ) → i < length xs →
+none_true : {A : Type 0} (p : A → Bool) (xs : List A) (d : A) → list_any p xs ≡ false → (i : ℕ) → i < length xs →
     p (get_or xs i d) ≡ false
-none_passes p [] d e i l = absurd (omega arith)
-none_passes p (x ∷ xs) d e zero l = (neither_true (p x) (list_any p xs) e).0
-none_passes p (x ∷ xs) d e (suc i) l = none_passes p xs d (neither_true (p x) (list_any p xs) e).1 i (omega arith)
+none_true p [] d e i l = absurd (omega arith)
+none_true p (x ∷ xs) d e zero l = (neither_true (p x) (list_any p xs) e).0
+none_true p (x ∷ xs) d e (suc i) l = none_true p xs d (neither_true (p x) (list_any p xs) e).1 i (omega arith)
 
 column_within : (j : ℕ) (c : Column) → column_limits (j, c) ≡ [] → IsColumn c
 column_within j c e =
@@ -120,7 +72,7 @@ row_within i r e =
     let coefs = none_when coefs_pass (record { what = Coef; index = i }) first.1 in
     record {
       name = at_most 255 (length r.name) RowName i first.0;
-      coefs = λ k l. ltb-false (2 ^ 40) (unsigned_abs (value_at r.coefs k)) (none_passes (λ c. exceeds (2 ^ 40) c.1) r.coefs (
+      coefs = λ k l. ltb-false (2 ^ 40) (unsigned_abs (value_at r.coefs k)) (none_true (λ c. exceeds (2 ^ 40) c.1) r.coefs (
         0,
         pos 0,
       ) coefs k l);

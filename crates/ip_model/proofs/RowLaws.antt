@@ -1,29 +1,6 @@
 -- The coefficients of a row, one more at a time.
-use Rattle.std.specs.Prelude.{
-  ◌≡◌,
-  ◌≢◌,
-  ℕ,
-  zero,
-  suc,
-  ◌+◌,
-  ◌<◌,
-  ◌≤◌,
-  ◌==◌,
-  Bool,
-  true,
-  false,
-  cond,
-  List,
-  [],
-  ◌∷◌,
-  ◌++◌,
-  length,
-  take,
-  ℤ,
-  pos,
-  ◌+ℤ◌,
-  unsigned_abs,
-}
+use Rattle.std.specs.Prelude.{◌≡◌, ◌≢◌, ℕ, zero, suc, ◌+◌, ◌<◌, ◌≤◌, ◌==◌, Bool, true, false, cond, List, [], ◌∷◌, ◌++◌, length, take, ℤ}
+use Rattle.std.specs.Prelude.{pos, ◌+ℤ◌, unsigned_abs}
 use Rattle.std.proofs.Common.{arith, refl, ap, sym, ◌∙◌, get_or, add-one}
 use Rattle.std.proofs.lemmas.Bool.{eqb-true}
 use Rattle.std.proofs.lemmas.Int.{ints}

@@ -1,98 +1,47 @@
-//! Points that are judged, boxes that are halved, and programs that are refused.
+//! Points, halves of boxes, shapes, and models at their limits.
 use crate::*;
-use ip_defs::{Coefs, ColumnList, RowList};
-use std::alloc::Global;
+use ip_defs::{Area, Coefs, ColumnList, RowList};
+use std::alloc::{Alloc, Global};
 use std::test::Fail;
 
-/// Columns of one name, each with its cost and its two sides.
-fn columns_of(alloc: Global, name: &str, columns: &[(i64, i64, i64)]) -> Result<ColumnList, Fail> {
-    let mut all = Vec::new(alloc);
-    for (cost, lo, hi) in columns {
-        let name = Name::new(String::from_str(alloc, name)?);
-        all.push(Column {
-            name,
-            cost: *cost,
-            lo: *lo,
-            hi: *hi,
-        })?;
+/// A column without a name.
+fn column(alloc: Global, cost: i64, lo: i64, hi: i64) -> Column {
+    Column {
+        name: Name::new(String::new(alloc)),
+        cost,
+        lo,
+        hi,
     }
-    Ok(ColumnList::from_vec(all))
 }
 
-/// A row of these decimals.
-fn row_of(
+/// A row without a name.
+fn row(
     alloc: Global,
-    decimals: u8,
     coefs: &[(u32, i64)],
     low: Option<i64>,
     high: Option<i64>,
 ) -> Result<Row, Fail> {
-    let mut entries = Vec::new(alloc);
-    entries.extend_from_slice(coefs)?;
-    let name = Name::new(String::from_str(alloc, "row")?);
     Ok(Row {
-        name,
-        decimals,
-        coefs: Coefs::from_vec(entries),
+        name: Name::new(String::new(alloc)),
+        decimals: 0,
+        coefs: Coefs::from_vec(Vec::from_slice(alloc, coefs)?),
         low,
         high,
     })
 }
 
-fn parts_of(alloc: Global, constant: i64, columns: ColumnList, rows: Vec<Row>) -> Parts {
-    let objective = Name::new(String::new(alloc));
+/// The parts of a program.
+fn parts(alloc: Global, constant: i64, columns: Vec<Column>, rows: Vec<Row>) -> Parts {
     Parts {
-        objective,
+        objective: Name::new(String::new(alloc)),
         cost_decimals: 0,
         constant,
-        columns,
+        columns: ColumnList::from_vec(columns),
         rows: RowList::from_vec(rows),
     }
 }
 
-fn point_of(alloc: Global, coordinates: &[i64]) -> Result<Point, Fail> {
-    let mut point = Vec::new(alloc);
-    point.extend_from_slice(coordinates)?;
-    Ok(Point::from_vec(point))
-}
-
-/// One column of a name and one row, with these numbers: cost, sides of the column, coefficient, low side of the row, constant.
-fn small(alloc: Global, name: &str, numbers: &[i64; 6]) -> Result<Parts, Fail> {
-    let [cost, lo, hi, coefficient, low, constant] = *numbers;
-    let columns = columns_of(alloc, name, &[(cost, lo, hi)])?;
-    let mut rows = Vec::new(alloc);
-    rows.push(row_of(alloc, 0, &[(0, coefficient)], Some(low), None)?)?;
-    Ok(parts_of(alloc, constant, columns, rows))
-}
-
-/// Two columns and one row with these coefficients.
-fn shaped(alloc: Global, decimals: u8, coefs: &[(u32, i64)]) -> Result<Parts, Fail> {
-    let columns = columns_of(alloc, "x", &[(0, 0, 1), (0, 0, 16_777_217)])?;
-    let mut rows = Vec::new(alloc);
-    rows.push(row_of(alloc, decimals, coefs, None, None)?)?;
-    Ok(parts_of(alloc, 0, columns, rows))
-}
-
-/// Least -5a - 4b - 3c over 2a + 3b + c <= 5, 4a + b + 2c <= 11, 3a + 4b + 2c <= 8, each column from 0 to 10.
-fn three_rows(alloc: Global) -> Result<Parts, Fail> {
-    let columns = columns_of(alloc, "x", &[(-5, 0, 10), (-4, 0, 10), (-3, 0, 10)])?;
-    let mut rows = Vec::new(alloc);
-    rows.push(row_of(alloc, 0, &[(0, 2), (1, 3), (2, 1)], None, Some(5))?)?;
-    rows.push(row_of(alloc, 0, &[(0, 4), (1, 1), (2, 2)], None, Some(11))?)?;
-    rows.push(row_of(alloc, 0, &[(0, 3), (1, 4), (2, 2)], None, Some(8))?)?;
-    Ok(parts_of(alloc, 0, columns, rows))
-}
-
-/// No point: the second column has its sides crossed, and so has the last row.
-fn no_point(alloc: Global) -> Result<Parts, Fail> {
-    let columns = columns_of(alloc, "x", &[(0, 0, 7), (0, 5, 3)])?;
-    let mut rows = Vec::new(alloc);
-    rows.push(row_of(alloc, 0, &[], Some(2), Some(2))?)?;
-    rows.push(row_of(alloc, 0, &[], Some(2), Some(1))?)?;
-    Ok(parts_of(alloc, 0, columns, rows))
-}
-
-/// The model of the parts, or the limit that they pass, or none where they are not well shaped.
+/// The model of parts, or the limit that they exceed, or none where they are not well shaped.
 fn built(parts: Parts) -> Result<IntModel, Option<Limit>> {
     if !well_shaped(&parts) {
         return Err(None);
@@ -103,6 +52,39 @@ fn built(parts: Parts) -> Result<IntModel, Option<Limit>> {
     }
 }
 
+/// The limit that parts exceed and its index, none where they exceed none or are not well shaped.
+fn exceeded(parts: Parts) -> Option<(What, u32)> {
+    match built(parts) {
+        Err(Some(limit)) => Some((limit.what, limit.index)),
+        _ => None,
+    }
+}
+
+/// Minimize -5a - 4b - 3c subject to 2a + 3b + c <= 5, 4a + b + 2c <= 11 and 3a + 4b + 2c <= 8, each column from 0 to 10.
+fn three_rows(alloc: Global) -> Result<IntModel, Fail> {
+    let columns = vec![in alloc;
+        column(alloc, -5, 0, 10),
+        column(alloc, -4, 0, 10),
+        column(alloc, -3, 0, 10),
+    ]?;
+    let rows = vec![in alloc;
+        row(alloc, &[(0, 2), (1, 3), (2, 1)], None, Some(5))?,
+        row(alloc, &[(0, 4), (1, 1), (2, 2)], None, Some(11))?,
+        row(alloc, &[(0, 3), (1, 4), (2, 2)], None, Some(8))?,
+    ]?;
+    Ok(built(parts(alloc, 0, columns, rows))?)
+}
+
+/// An empty column, and a crossed row after one that is not.
+fn no_point(alloc: Global) -> Result<IntModel, Fail> {
+    let columns = vec![in alloc; column(alloc, 0, 0, 7), column(alloc, 0, 5, 3)]?;
+    let rows = vec![in alloc;
+        row(alloc, &[], Some(2), Some(2))?,
+        row(alloc, &[], Some(2), Some(1))?,
+    ]?;
+    Ok(built(parts(alloc, 0, columns, rows))?)
+}
+
 /// The breach and the cost of a point that has one coordinate for each column.
 fn judged(model: &IntModel, point: &Point) -> Option<(Option<Breach>, i128)> {
     if point.as_slice().len() != model.parts().columns.as_slice().len() {
@@ -111,45 +93,10 @@ fn judged(model: &IntModel, point: &Point) -> Option<(Option<Breach>, i128)> {
     Some((first_breach(model, point), cost(model, point)))
 }
 
-/// A column of the box of a model below a cut and above it: whether it is open there, and its sides.
-fn halves(
-    alloc: Global,
-    model: &IntModel,
-    j: usize,
-    cut: i16,
-) -> Result<Option<((bool, (i64, i64)), (bool, (i64, i64)))>, Fail> {
-    let mut lower = box_of(alloc, model)?;
-    let mut upper = box_of(alloc, model)?;
-    if lower.as_slice().len() <= j || upper.as_slice().len() <= j {
-        return Ok(None);
-    }
-    let lower_open = cut_below(&mut lower, j, i64::from(cut));
-    let upper_open = cut_above(&mut upper, j, i64::from(cut));
-    match (lower.as_slice().get(j), upper.as_slice().get(j)) {
-        (Some(below), Some(above)) => Ok(Some(((lower_open, *below), (upper_open, *above)))),
-        _ => Ok(None),
-    }
-}
-
 #[test]
-fn halves_of_a_box(rt: HostRuntime) -> Result<(), Fail> {
-    let model = built(three_rows(rt.alloc())?)?;
-    let cases = [
-        (4, (true, (0, 4)), (true, (5, 10))),
-        (10, (true, (0, 10)), (false, (11, 10))),
-        (-1, (false, (0, -1)), (true, (0, 10))),
-    ];
-    for (cut, below, above) in &cases {
-        let halves = halves(rt.alloc(), &model, 2, *cut)?;
-        assert_eq!(rt; halves, Some((*below, *above)), "at {cut}");
-    }
-    Ok(())
-}
-
-#[test]
-fn judges_points(rt: HostRuntime) -> Result<(), Fail> {
-    let model = built(three_rows(rt.alloc())?)?;
-    let cases = [
+fn points_of_three_rows(rt: HostRuntime) -> Result<(), Fail> {
+    let model = three_rows(rt.alloc())?;
+    let table = [
         ([2, 0, 1], None, -13),
         ([2, 1, 1], Some(Breach::Row(0)), -17),
         ([-1, 0, 0], Some(Breach::Column(0)), 5),
@@ -157,151 +104,195 @@ fn judges_points(rt: HostRuntime) -> Result<(), Fail> {
         ([0, 1, 2], None, -10),
         ([0, 0, 5], Some(Breach::Row(2)), -15),
         (
-            [i64::MAX, i64::MAX, i64::MAX],
+            [i64::MAX; 3],
             Some(Breach::Column(0)),
             -110_680_464_442_257_309_684,
         ),
     ];
-    for (coordinates, breach, price) in &cases {
-        let point = point_of(rt.alloc(), coordinates)?;
+    for (coordinates, breach, cost) in &table {
+        let point = Point::from_vec(Vec::from_slice(rt.alloc(), coordinates)?);
         assert_eq!(rt;
             judged(&model, &point),
-            Some((*breach, *price)),
+            Some((*breach, *cost)),
             "at {coordinates:?}"
         );
     }
     Ok(())
 }
 
+/// The last column of a box after a cut below or above, and whether it is not empty.
+fn half(area: &mut Area, j: usize, cut: i16, is_upper: bool) -> Option<(bool, (i64, i64))> {
+    if area.as_slice().len() <= j {
+        return None;
+    }
+    let open = if is_upper {
+        cut_above(area, j, i64::from(cut))
+    } else {
+        cut_below(area, j, i64::from(cut))
+    };
+    area.as_slice().get(j).map(|side| (open, *side))
+}
+
 #[test]
-fn tries_limits(rt: HostRuntime) -> Result<(), Fail> {
-    let name = "n".repeat(rt.alloc(), 256)?;
-    let cases = [
-        (
-            255,
-            [
-                1_099_511_627_776,
-                -16_777_216,
-                16_777_216,
-                -1_099_511_627_776,
-                -4_611_686_018_427_387_904,
-                4_611_686_018_427_387_904,
-            ],
-            None,
-        ),
-        (256, [1_099_511_627_777, 0, 0, 1, 0, 0], Some(What::Name)),
-        (
-            0,
-            [1_099_511_627_777, 16_777_217, 0, 1, 0, 0],
-            Some(What::Cost),
-        ),
-        (
-            0,
-            [1_099_511_627_776, -16_777_217, 16_777_217, 1, 0, 0],
-            Some(What::Lower),
-        ),
-        (
-            0,
-            [
-                1_099_511_627_776,
-                16_777_216,
-                16_777_217,
-                1_099_511_627_777,
-                0,
-                0,
-            ],
-            Some(What::Upper),
-        ),
-        (
-            0,
-            [0, 0, 0, -1_099_511_627_777, 4_611_686_018_427_387_905, 0],
-            Some(What::Coef),
-        ),
-        (
-            0,
-            [
-                0,
-                0,
-                0,
-                1,
-                -4_611_686_018_427_387_905,
-                4_611_686_018_427_387_905,
-            ],
-            Some(What::Side),
-        ),
-        (
-            0,
-            [
-                0,
-                0,
-                0,
-                1,
-                4_611_686_018_427_387_904,
-                -4_611_686_018_427_387_905,
-            ],
-            Some(What::Constant),
-        ),
+fn halves_of_a_box(rt: HostRuntime) -> Result<(), Fail> {
+    let model = three_rows(rt.alloc())?;
+    let table = [
+        (4, false, (true, (0, 4))),
+        (4, true, (true, (5, 10))),
+        (10, true, (false, (11, 10))),
+        (-1, false, (false, (0, -1))),
     ];
-    for (length, numbers, what) in &cases {
-        let short = name.as_str().get(..*length).unwrap_or("");
-        let found = built(small(rt.alloc(), short, numbers)?).err();
+    for (cut, is_upper, want) in &table {
+        let mut area = box_of(rt.alloc(), &model)?;
         assert_eq!(rt;
-            found,
-            what.map(|what| Some(Limit { what, index: 0 })),
-            "{numbers:?}"
+            half(&mut area, 2, *cut, *is_upper),
+            Some(*want),
+            "at {cut}"
         );
+        if area.as_slice().len() == model.parts().columns.as_slice().len() {
+            set_box(&model, &mut area);
+        }
+        assert_eq!(rt; area.as_slice(), [(0, 10); 3].as_slice());
     }
     Ok(())
 }
 
 #[test]
-fn tells_shapes(rt: HostRuntime) -> Result<(), Fail> {
-    let upper = Some(Limit {
-        what: What::Upper,
-        index: 1,
-    });
-    let cases: [(&[(u32, i64)], u8, Option<Limit>); 7] = [
-        (&[(0, 1), (1, -1)], 9, upper),
-        (&[], 0, upper),
-        (&[(1, 1), (0, 1)], 0, None),
-        (&[(1, 1), (1, 1)], 0, None),
-        (&[(0, 1), (2, 1)], 0, None),
-        (&[(0, 1), (1, 0)], 0, None),
-        (&[(0, 1)], 10, None),
-    ];
-    for (coefs, decimals, limit) in &cases {
-        let found = built(shaped(rt.alloc(), *decimals, coefs)?).err();
-        assert_eq!(rt; found, Some(*limit), "{coefs:?} with {decimals}");
-    }
-    Ok(())
-}
-
-#[test]
-fn counts_columns(rt: HostRuntime) -> Result<(), Fail> {
-    let many = vec![in rt.alloc(); (1_099_511_627_777, 0, 1); 4_097]?;
-    let columns = columns_of(rt.alloc(), "x", many.as_slice())?;
-    let parts = parts_of(rt.alloc(), 0, columns, Vec::new(rt.alloc()));
-    assert_eq!(rt;
-        built(parts).err(),
-        Some(Some(Limit {
-            what: What::Columns,
-            index: 0
-        }))
-    );
-    Ok(())
-}
-
-#[test]
-fn measures_boxes(rt: HostRuntime) -> Result<(), Fail> {
-    let model = built(three_rows(rt.alloc())?)?;
+fn widths_crossed_rows_and_allowances(rt: HostRuntime) -> Result<(), Fail> {
+    let model = three_rows(rt.alloc())?;
     assert_eq!(rt; (width_sum(&model), crossed(&model)), (30, None));
     assert_eq!(rt;
         (allowance(&model, 3_000_000), allowance(&model, 2_000_000)),
         (2_396_745, 2_000_000)
     );
-    let empty = built(no_point(rt.alloc())?)?;
+    let empty = no_point(rt.alloc())?;
     assert_eq!(rt; (width_sum(&empty), crossed(&empty)), (0, Some(1)));
-    let point = point_of(rt.alloc(), &[0, 4])?;
+    let point = Point::from_vec(vec![in rt.alloc(); 0, 4]?);
     assert_eq!(rt; judged(&empty, &point), Some((Some(Breach::Column(1)), 0)));
+    Ok(())
+}
+
+/// Whether two columns and one row with two coefficients are well shaped.
+fn is_shaped(
+    alloc: Global,
+    decimals: u8,
+    first: (u32, i64),
+    second: (u32, i64),
+) -> Result<bool, Fail> {
+    let columns = vec![in alloc; column(alloc, 0, 0, 1), column(alloc, 0, 0, 1)]?;
+    let mut only = row(alloc, &[first, second], None, None)?;
+    only.decimals = decimals;
+    Ok(well_shaped(&parts(alloc, 0, columns, vec![in alloc; only]?)))
+}
+
+#[test]
+fn shapes_of_a_row(rt: HostRuntime) -> Result<(), Fail> {
+    let table = [
+        (9, (0, 1), (1, -1), true),
+        (10, (0, 1), (1, -1), false),
+        (0, (1, 1), (0, 1), false),
+        (0, (1, 1), (1, 1), false),
+        (0, (0, 1), (2, 1), false),
+        (0, (0, 1), (1, 0), false),
+    ];
+    for (decimals, first, second, want) in table {
+        let got = is_shaped(rt.alloc(), decimals, first, second)?;
+        assert_eq!(rt;
+            got,
+            want,
+            "{first:?} and {second:?} with {decimals} decimals"
+        );
+    }
+    Ok(())
+}
+
+/// A second column and a second row of these numbers: the length of the column's name, its cost and bounds, the coefficient, the low side
+/// of the row; and the constant.
+fn with_numbers(alloc: Global, length: usize, numbers: &[i64; 6]) -> Result<Parts, Fail> {
+    let [cost, lo, hi, coefficient, low, constant] = *numbers;
+    let mut second = column(alloc, cost, lo, hi);
+    second.name = Name::new("n".repeat(alloc, length)?);
+    let columns = vec![in alloc; column(alloc, 0, 0, 0), second]?;
+    let rows = vec![in alloc;
+        row(alloc, &[], None, None)?,
+        row(alloc, &[(1, coefficient)], Some(low), None)?,
+    ]?;
+    Ok(parts(alloc, constant, columns, rows))
+}
+
+/// 2^24, 2^40 and 2^62.
+const BOUND: i64 = 1 << 24;
+
+const COST: i64 = 1 << 40;
+
+const SIDE: i64 = 1 << 62;
+
+#[test]
+fn numbers_at_their_limits(rt: HostRuntime) -> Result<(), Fail> {
+    let table = [
+        (255, [COST, -BOUND, BOUND, -COST, -SIDE, SIDE], None),
+        (256, [COST + 1, 0, 0, 1, 0, 0], Some((What::Name, 1))),
+        (0, [COST + 1, BOUND + 1, 0, 1, 0, 0], Some((What::Cost, 1))),
+        (
+            0,
+            [COST, -BOUND - 1, BOUND + 1, 1, 0, 0],
+            Some((What::Lower, 1)),
+        ),
+        (
+            0,
+            [COST, BOUND, BOUND + 1, COST + 1, 0, 0],
+            Some((What::Upper, 1)),
+        ),
+        (0, [0, 0, 0, -COST - 1, SIDE + 1, 0], Some((What::Coef, 1))),
+        (0, [0, 0, 0, 1, -SIDE - 1, SIDE + 1], Some((What::Side, 1))),
+        (0, [0, 0, 0, 1, SIDE, -SIDE - 1], Some((What::Constant, 0))),
+    ];
+    for (length, numbers, want) in &table {
+        let got = exceeded(with_numbers(rt.alloc(), *length, numbers)?);
+        assert_eq!(rt; got, *want, "{numbers:?}");
+    }
+    Ok(())
+}
+
+/// Equal columns, and equal rows, of which the first `longer` have one coefficient more than the others.
+fn large(
+    alloc: Global,
+    column_count: u32,
+    row_count: u32,
+    coefficients: u32,
+    longer: u32,
+) -> Result<Parts, Fail> {
+    let mut columns = Vec::new(alloc);
+    for _ in 0..column_count {
+        columns.push(column(alloc, 1, 0, 1))?;
+    }
+    let mut coefs = Vec::new(alloc);
+    for j in 0..coefficients {
+        coefs.push((j, 1))?;
+    }
+    let mut rows = Vec::new(alloc);
+    for i in 0..row_count {
+        let mut only = row(alloc, coefs.as_slice(), Some(0), None)?;
+        if i < longer {
+            only.coefs.push((coefficients, 1))?;
+        }
+        rows.push(only)?;
+    }
+    Ok(parts(alloc, 0, columns, rows))
+}
+
+#[test]
+fn counts_at_their_limits(rt: HostRuntime) -> Result<(), Fail> {
+    let table = [
+        // 1,024 * 195 + 320 is 200,000
+        (4096, 1024, 195, 320, None),
+        (4096, 1024, 195, 321, Some((What::Entries, 0))),
+        (4097, 1025, 1, 0, Some((What::Columns, 0))),
+        (4096, 1025, 1, 0, Some((What::Rows, 0))),
+    ];
+    for (columns, rows, coefficients, longer, want) in table {
+        let got = exceeded(large(rt.alloc(), columns, rows, coefficients, longer)?);
+        assert_eq!(rt; got, want, "{columns} columns and {rows} rows");
+    }
     Ok(())
 }

@@ -1,28 +1,6 @@
 -- Payments, one more at a time.
-use Rattle.std.specs.Prelude.{
-  ◌≡◌,
-  ℕ,
-  zero,
-  suc,
-  ◌+◌,
-  ◌^◌,
-  ◌<◌,
-  ◌≤◌,
-  List,
-  length,
-  drop,
-  slice_get,
-  Some,
-  None,
-  Option,
-  option_map,
-  option_and_then,
-  ℤ,
-  pos,
-  negsuc,
-  ◌+ℤ◌,
-  ◌*ℤ◌,
-}
+use Rattle.std.specs.Prelude.{◌≡◌, ℕ, zero, suc, ◌+◌, ◌^◌, ◌<◌, ◌≤◌, List, length, drop, slice_get, Some, None, Option, option_map}
+use Rattle.std.specs.Prelude.{option_and_then, ℤ, pos, negsuc, ◌+ℤ◌, ◌*ℤ◌}
 use Rattle.std.specs.Int.RustNames.{unsigned_abs}
 use Rattle.std.proofs.Common.{arith, refl, ap, sym, ◌∙◌, get_or, add-one}
 use Rattle.std.proofs.lemmas.Int.{ints}

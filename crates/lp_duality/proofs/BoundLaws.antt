@@ -1,6 +1,28 @@
--- What a certificate bounds whose multipliers are multiples of others, by their dual value.
-use Rattle.std.specs.Prelude.{◌≡◌, ℕ, zero, suc, Bool, true, false, cond, if◌then◌else◌, List, [], ◌∷◌, length, Option, Some, None,
-    option_map, ℤ, pos, negsuc, ◌*ℤ◌, ◌<ℤ◌}
+-- The leaf bound of a certificate whose multipliers are multiples of others, by the dual value of these.
+use Rattle.std.specs.Prelude.{
+  ◌≡◌,
+  ℕ,
+  zero,
+  suc,
+  Bool,
+  true,
+  false,
+  cond,
+  if◌then◌else◌,
+  List,
+  [],
+  ◌∷◌,
+  length,
+  Option,
+  Some,
+  None,
+  option_map,
+  ℤ,
+  pos,
+  negsuc,
+  ◌*ℤ◌,
+  ◌<ℤ◌,
+}
 use Rattle.std.specs.List.{list_any}
 use Rattle.std.proofs.Common.{arith, refl, ap, sym, ◌∙◌, subst}
 use Rattle.std.proofs.lemmas.Int.{ints}
@@ -32,7 +54,7 @@ whole_positive z h = by (sign_of z)
     by (down s) = let d = of_negative z s in absurd (omega (arith, ints))
     by (none s) = let d : (of z).numerator ≡ pos 0 = ap (λ w. (of w).numerator) s ∙ zero_top in absurd (omega (arith, ints))
 
--- a whole number that is q times a rational one, crosswise
+-- a whole number that is q times a rational one, cross-multiplied
 cross_multiple : (z q : ℤ) (g : Rational) → of z ≡ mul (of q) g → z *ℤ denominator g ≡ g.numerator *ℤ q
 unfolding of S
 cross_multiple z q g e =
@@ -62,7 +84,7 @@ pub prices_bound : PricesBound
 prices_bound m b c y g o size open' positive multiples e =
     ap (λ t. if t then Infinite else bound_by c.q (box_sum m b) (dual_value m b c.q c.y)) (open_sides b open')
     ∙ by c.q (dual_value m b c.q c.y) positive (multiple_value m b c (of c.q) (of (pos 1)) y g o size (of_positive c.q positive)
-        (sym (rationals.mul_one (of c.q))) multiples e)
+    (sym (rationals.mul_one (of c.q))) multiples e)
   where
     by : (q : ℤ) (o : Option ℤ) → pos 0 <ℤ q → option_map of o ≡ Some (mul (of q) g) → bound_by q (box_sum m b) o ≡ At (rounded_up g)
     by (pos zero) o p h = absurd (omega (arith, ints))
@@ -85,4 +107,4 @@ rays_bound m b c a y g o size zero' positive multiples e above = by (list_any is
     by true = refl
     by false = ap (λ q. bound_by q (box_sum m b) (dual_value m b c.q c.y)) zero'
         ∙ positive_value (dual_value m b c.q c.y) (multiple_value m b c a (of (pos 0)) y g o size positive (ap of zero'
-            ∙ sym (mul_zero rationals a)) multiples e)
+        ∙ sym (mul_zero rationals a)) multiples e)

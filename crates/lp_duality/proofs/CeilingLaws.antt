@@ -13,7 +13,7 @@ ceiling_next x n p = let e : suc x + n - 1 ≡ x + n = omega arith in ap (λ z. 
 ceiling_none : (n : ℕ) → 0 < n → (0 + n - 1) / n ≡ 0
 ceiling_none n p = div-eq_of_lt (omega arith)
 
--- a common factor is taken out
+-- a common factor cancels
 ceiling_scale : (k : ℕ) (a : ℤ) (n : ℕ) → ceiling (pos (suc k) *ℤ a) (suc k * suc n) ≡ ceiling a (suc n)
 ceiling_scale k (pos zero) n =
     let e : pos (suc k) *ℤ pos zero ≡ pos zero = omega (arith, ints) in
@@ -30,7 +30,7 @@ ceiling_scale k (negsuc x) n =
     let e : pos (suc k) *ℤ negsuc x ≡ negsuc less = omega (arith, ints) in
     let is : suc less ≡ suc k * suc x = omega arith in
     let quotient : suc less / (suc k * suc n) ≡ suc x / suc n = sym (div-div-eq-div-mul (suc less) (suc k) (suc n))
-            ∙ ap (λ z. z / suc k / suc n) is ∙ ap (λ z. z / suc n) (mul-div_cancel_left (suc x) (omega arith)) in
+    ∙ ap (λ z. z / suc k / suc n) is ∙ ap (λ z. z / suc n) (mul-div_cancel_left (suc x) (omega arith)) in
     ap (λ z. ceiling z (suc k * suc n)) e ∙ ap (λ z. neg_ℤ (pos z)) quotient
 
 -- equal fractions are rounded up alike

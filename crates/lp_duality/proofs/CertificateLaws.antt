@@ -1,6 +1,29 @@
 -- The dual value of a certificate is that of its multipliers over the rational numbers.
-use Rattle.std.specs.Prelude.{◌≡◌, ◌≢◌, ℕ, zero, suc, ◌<◌, List, [], ◌∷◌, length, Option, Some, None, slice_get, option_map,
-    option_and_then, ℤ, pos, negsuc, ◌+ℤ◌, ◌-ℤ◌, ◌*ℤ◌, ◌≤ℤ◌}
+use Rattle.std.specs.Prelude.{
+  ◌≡◌,
+  ◌≢◌,
+  ℕ,
+  zero,
+  suc,
+  ◌<◌,
+  List,
+  [],
+  ◌∷◌,
+  length,
+  Option,
+  Some,
+  None,
+  slice_get,
+  option_map,
+  option_and_then,
+  ℤ,
+  pos,
+  negsuc,
+  ◌+ℤ◌,
+  ◌-ℤ◌,
+  ◌*ℤ◌,
+  ◌≤ℤ◌,
+}
 use Rattle.std.specs.Int.{int_min}
 use Rattle.std.proofs.Common.{arith, refl, ap, sym, ◌∙◌, ◌⊎◌, inl, inr}
 use Rattle.std.proofs.lemmas.Int.{ints, clamps}
@@ -35,10 +58,13 @@ of_sum g zero = refl
 of_sum g (suc n) = of_add (sum_below g n) (g n) ∙ ap (λ z. add z (of (g n))) (of_sum g n)
 
 pub of_min : (x y : ℤ) → of (int_min x y) ≡ lesser (of x) (of y)
-of_min x y = elim (either (y -ℤ x)) [ inl h ↦ (let e : int_min x y ≡ x = omega (arith, ints, clamps) in
-    ap of e ∙ sym (lesser_first (of x) (of y) (of_at_most x y (omega (arith, ints))))) | inr h ↦
-    (let e : int_min x y ≡ y = omega (arith, ints, clamps) in
-    ap of e ∙ sym (lesser_second (of x) (of y) (of_at_most y x (omega (arith, ints))))) ]
+of_min x y = elim (either (y -ℤ x)) [
+  | inl h ↦ (let e : int_min x y ≡ x = omega (arith, ints, clamps) in
+      ap of e ∙ sym (lesser_first (of x) (of y) (of_at_most x y (omega (arith, ints)))))
+  | inr h ↦
+      (let e : int_min x y ≡ y = omega (arith, ints, clamps) in
+      ap of e ∙ sym (lesser_second (of x) (of y) (of_at_most y x (omega (arith, ints)))))
+]
   where
     either : (z : ℤ) → (pos 0 ≤ℤ z) ⊎ (z ≤ℤ pos 0)
     either (pos n) = inl (omega (arith, ints))
@@ -93,7 +119,7 @@ pay_whole rows (p ∷ ps) o =
     let free = coefficient_free n p ps o in
     let own : coefficient (p ∷ ps) p.0 ≡ p.1 = let s = coefficient_same p ps in omega (arith, ints) in
     sum_of_all_one (λ k. option_map of (payment rows (k, coefficient (p ∷ ps) k)))
-        (λ k. option_map of (payment rows (k, coefficient ps k))) p.0 n (o.within 0 (omega arith))
+    (λ k. option_map of (payment rows (k, coefficient ps k))) p.0 n (o.within 0 (omega arith))
     (λ k l apart. ap (λ z. option_map of (payment rows (k, z))) (coefficient_other p ps k apart))
     (ap (λ z. option_map of (payment rows (p.0, z))) free ∙ payment_zero rows p.0 (o.within 0 (omega arith)))
     ∙ ap (λ z. plus (option_map of (payment rows (p.0, z))) (sum_of_all (λ k. option_map of (payment rows (k, coefficient ps k))) n)) own
@@ -106,7 +132,7 @@ module _ (m : Parts) (b : List (ℤ × ℤ)) (c : Cert) (o : AreOrdered (length 
       let e : ℕ → ℤ = λ k. coefficient_of m.rows k j in
       let taken = sum_over (λ p. p.1 *ℤ coefficient_of m.rows p.0 j) c.y in
       let rest = sum_same rationals (λ k. mul (multiplier c k) (of (e k))) (λ k. of (coefficient c.y k *ℤ e k)) (length m.rows)
-              (λ k l. sym (of_mul (coefficient c.y k) (e k)))
+      (λ k l. sym (of_mul (coefficient c.y k) (e k)))
       ∙ sym (of_sum (λ k. coefficient c.y k *ℤ e k) (length m.rows))
       ∙ ap of (coefficient_sum e (length m.rows) c.y o.within) in
       ap (λ z. sub (mul (of c.q) (cost_of m j)) z) rest
@@ -120,7 +146,7 @@ module _ (m : Parts) (b : List (ℤ × ℤ)) (c : Cert) (o : AreOrdered (length 
       let g : ℕ → ℤ = λ j. int_min (r j *ℤ low_at b j) (r j *ℤ high_at b j) in
       column_sum_same (left_of m (of c.q) (multiplier c)) (λ j. of (r j)) b (length m.columns) left_whole
       ∙ sum_same rationals (λ j. lesser (mul (of (r j)) (of (low_at b j))) (mul (of (r j)) (of (high_at b j)))) (λ j. of (g j))
-          (length m.columns) (λ j l.
+      (length m.columns) (λ j l.
       ap (λ z. lesser z (mul (of (r j)) (of (high_at b j)))) (sym (of_mul (r j) (low_at b j)))
       ∙ ap (λ z. lesser (of (r j *ℤ low_at b j)) z) (sym (of_mul (r j) (high_at b j)))
       ∙ sym (of_min (r j *ℤ low_at b j) (r j *ℤ high_at b j)))
@@ -130,9 +156,9 @@ module _ (m : Parts) (b : List (ℤ × ℤ)) (c : Cert) (o : AreOrdered (length 
   pub dual_whole : length b ≡ length m.columns → dual m b (of c.q) (multiplier c) ≡ option_map of (dual_value m b c.q c.y)
   dual_whole size =
       let pays : paid_sum m (multiplier c) ≡ option_map of (pay m.rows c.y) =
-              sum_of_all_same (λ k. paid (multiplier c k) (row_low m k) (row_high m k))
-              (λ k. option_map of (payment m.rows (k, coefficient c.y k))) (length m.rows) (λ k l. payment_whole m k (coefficient c.y k) l)
-              ∙ pay_whole m.rows c.y o in
+      sum_of_all_same (λ k. paid (multiplier c k) (row_low m k) (row_high m k))
+      (λ k. option_map of (payment m.rows (k, coefficient c.y k))) (length m.rows) (λ k l. payment_whole m k (coefficient c.y k) l)
+      ∙ pay_whole m.rows c.y o in
       ap (λ s. dual_of m (of c.q) s (paid_sum m (multiplier c))) (columns_whole size)
       ∙ ap (dual_of m (of c.q) (of (column_part m b c.q c.y))) pays
       ∙ by (pay m.rows c.y) (column_part m b c.q c.y)

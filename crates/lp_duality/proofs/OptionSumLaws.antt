@@ -1,11 +1,11 @@
--- Sums of rational numbers of which some may be absent.
+-- Sums of rational numbers of which some may be none.
 use Rattle.std.specs.Prelude.{◌≡◌, ◌≢◌, ℕ, zero, suc, ◌<◌, ◌==◌, Bool, true, false, Option, Some, None, option_map, option_and_then, pos}
 use Rattle.std.proofs.Common.{arith, refl, ap, sym, ◌∙◌}
 use Rattle.std.proofs.lemmas.Bool.{eqb-true, eqb-false}
 use Rattle.frac128.proofs.Rationals.{Rational, of, add, add_assoc, add_comm, rationals}
 use Rattle.lp_duality.specs.Duals.{sum_of_all}
 
--- the sum of two numbers, where both are there
+-- the sum of two numbers, none where one of them is none
 abbrev pub plus : Option Rational → Option Rational → Option Rational
 plus o p = option_and_then (λ a. option_map (λ c. add a c) p) o
 
@@ -34,7 +34,7 @@ pub sum_of_all_zero : (n : ℕ) → sum_of_all (λ k. Some (of (pos 0))) n ≡ S
 sum_of_all_zero zero = refl
 sum_of_all_zero (suc n) = ap (λ o. plus o (Some (of (pos 0)))) (sum_of_all_zero n) ∙ plus_zero (Some (of (pos 0)))
 
--- one summand more, in a place where there was 0
+-- one more summand, at an index where there was 0
 pub sum_of_all_one : (f g : ℕ → Option Rational) (i n : ℕ) → i < n → ((k : ℕ) → k < n → k ≢ i → f k ≡ g k) → g i ≡ Some (of (pos 0)) →
     sum_of_all f n ≡ plus (f i) (sum_of_all g n)
 sum_of_all_one f g i zero l h z = absurd (omega arith)
@@ -47,7 +47,8 @@ sum_of_all_one f g i (suc n) l h z = by (i == n) refl (λ m. sum_of_all_one f g 
         ap (λ o. plus o (f n)) (sum_of_all_same f g n (λ k o. h k (omega arith) (omega arith)))
         ∙ plus_comm (sum_of_all g n) (f n)
         ∙ ap (λ k. plus (f k) (sum_of_all g n)) (sym is)
-        ∙ ap (plus (f i)) (sym (ap (λ k. plus (sum_of_all g n) (g k)) (sym is) ∙ ap (plus (sum_of_all g n)) z ∙ plus_zero (sum_of_all g n)))
+        ∙ ap (plus (f i)) (sym (ap (λ k. plus (sum_of_all g n) (g k))
+        (sym is) ∙ ap (plus (sum_of_all g n)) z ∙ plus_zero (sum_of_all g n)))
     by false e before =
         let apart = eqb-false i n e in
         ap (λ o. plus o (f n)) (before (omega arith))

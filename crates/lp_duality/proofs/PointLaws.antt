@@ -17,7 +17,7 @@ module _ (m : Parts) (p : ℕ → Rational) (x : List ℤ) (size : length x ≡ 
   sum_whole : (a : ℕ → ℤ) → sum rationals (λ j. mul (of (a j)) (p j)) (length m.columns) ≡ of (sum_below (λ j. a j *ℤ at x j) (length x))
   sum_whole a =
       sum_same rationals (λ j. mul (of (a j)) (p j)) (λ j. of (a j *ℤ at x j)) (length m.columns) (λ j l. ap (mul (of (a j))) (same j l)
-          ∙ sym (of_mul (a j) (at x j)))
+      ∙ sym (of_mul (a j) (at x j)))
       ∙ sym (of_sum (λ j. a j *ℤ at x j) (length m.columns))
       ∙ ap (λ n. of (sum_below (λ j. a j *ℤ at x j) n)) (sym size)
 

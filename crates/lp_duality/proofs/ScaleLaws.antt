@@ -14,11 +14,24 @@ use Rattle.frac128.proofs.Order.{AtMost, NotNegative, at_most_total, mul_at_most
 use Rattle.lp_duality.specs.Relaxations.{row_low, row_high, cost_of}
 use Rattle.lp_duality.specs.Duals.{paid, sum_of_all, lesser, left_of, dual}
 use Rattle.lp_duality.specs.Laws.{DualsAreScaled}
-use Rattle.lp_duality.proofs.SignLaws.{Sign, up, down, none, sign_of, top_zero, mul_positive, mul_negative, paid_up, paid_down, paid_zero,
-    lesser_first, lesser_second}
+use Rattle.lp_duality.proofs.SignLaws.{
+  Sign,
+  up,
+  down,
+  none,
+  sign_of,
+  top_zero,
+  mul_positive,
+  mul_negative,
+  paid_up,
+  paid_down,
+  paid_zero,
+  lesser_first,
+  lesser_second,
+}
 use Rattle.lp_duality.proofs.OptionSumLaws.{plus, sum_of_all_same}
 
--- what columns add, by what is left of their costs
+-- the columns' part of a dual value, by the reduced costs
 abbrev pub column_sum : (ℕ → Rational) → List (ℤ × ℤ) → ℕ → Rational
 column_sum d b n = sum rationals (λ j. lesser (mul (d j) (of (low_at b j))) (mul (d j) (of (high_at b j)))) n
 
@@ -27,11 +40,11 @@ column_sum_same d e b n h = sum_same rationals (λ j. lesser (mul (d j) (of (low
     (λ j. lesser (mul (e j) (of (low_at b j))) (mul (e j) (of (high_at b j)))) n
     (λ j l. ap (λ z. lesser (mul z (of (low_at b j))) (mul z (of (high_at b j)))) (h j))
 
--- what all multipliers pay
+-- the sum of all payments
 abbrev pub paid_sum : Parts → (ℕ → Rational) → Option Rational
 paid_sum m y = sum_of_all (λ k. paid (y k) (row_low m k) (row_high m k)) (length m.rows)
 
--- the dual value of payments, the divisor and the columns
+-- the dual value, by the payments, the divisor and the columns
 abbrev pub dual_of : Parts → Rational → Rational → Option Rational → Option Rational
 dual_of m q columns pays = option_map (λ pay. add (add pay (mul q (of m.constant))) columns) pays
 
@@ -40,13 +53,13 @@ pub dual_same : (m : Parts) (b : List (ℤ × ℤ)) (q : Rational) (y z : ℕ �
     dual m b q y ≡ dual m b q z
 dual_same m b q y z h =
     let left : (j : ℕ) → left_of m q y j ≡ left_of m q z j =
-            λ j. ap (λ s. sub (mul q (cost_of m j)) s) (sum_same rationals (λ k. mul (y k) (of (coefficient_of m.rows k j)))
-            (λ k. mul (z k) (of (coefficient_of m.rows k j))) (length m.rows) (λ k l. ap (λ w. mul w (of (coefficient_of m.rows k j)))
-            (h k l))) in
+    λ j. ap (λ s. sub (mul q (cost_of m j)) s) (sum_same rationals (λ k. mul (y k) (of (coefficient_of m.rows k j)))
+    (λ k. mul (z k) (of (coefficient_of m.rows k j))) (length m.rows) (λ k l. ap (λ w. mul w (of (coefficient_of m.rows k j)))
+    (h k l))) in
     ap (λ s. dual_of m q s (paid_sum m y)) (column_sum_same (left_of m q y) (left_of m q z) b (length m.columns) left)
     ∙ ap (dual_of m q (column_sum (left_of m q z) b (length m.columns)))
     (sum_of_all_same (λ k. paid (y k) (row_low m k) (row_high m k)) (λ k. paid (z k) (row_low m k) (row_high m k)) (length m.rows)
-        (λ k l. ap (λ w. paid w (row_low m k) (row_high m k)) (h k l)))
+    (λ k l. ap (λ w. paid w (row_low m k) (row_high m k)) (h k l)))
 
 module _ (a : Rational) (positive : pos 0 <ℤ a.numerator) where
   mapped : (p : Rational) (o : Option ℤ) → option_map (λ z. mul (mul a p) (of z)) o ≡ option_map (mul a) (option_map (λ z. mul p (of z)) o)
@@ -62,7 +75,7 @@ module _ (a : Rational) (positive : pos 0 <ℤ a.numerator) where
       by (none s) =
           let z : mul a p ≡ of (pos 0) = ap (mul a) (top_zero p s) ∙ mul_zero rationals a in
           paid_zero (mul a p) l h (ap (λ w. w.numerator) z ∙ zero_top) ∙ ap Some (sym (mul_zero rationals a))
-              ∙ ap (option_map (mul a)) (sym (paid_zero p l h s))
+          ∙ ap (option_map (mul a)) (sym (paid_zero p l h s))
 
   plus_scaled : (o p : Option Rational) → plus (option_map (mul a) o) (option_map (mul a) p) ≡ option_map (mul a) (plus o p)
   plus_scaled None p = refl
@@ -91,7 +104,7 @@ module _ (a : Rational) (positive : pos 0 <ℤ a.numerator) where
   column_sum_scaled d b n =
       let f : ℕ → Rational = λ j. lesser (mul (d j) (of (low_at b j))) (mul (d j) (of (high_at b j))) in
       sum_same rationals (λ j. lesser (mul (mul a (d j)) (of (low_at b j))) (mul (mul a (d j)) (of (high_at b j)))) (λ j. mul a (f j)) n
-          (λ j l.
+      (λ j l.
       ap (λ z. lesser z (mul (mul a (d j)) (of (high_at b j)))) (rationals.mul_assoc a (d j) (of (low_at b j)))
       ∙ ap (λ z. lesser (mul a (mul (d j) (of (low_at b j)))) z) (rationals.mul_assoc a (d j) (of (high_at b j)))
       ∙ lesser_scaled (mul (d j) (of (low_at b j))) (mul (d j) (of (high_at b j))))
@@ -102,21 +115,21 @@ module _ (a : Rational) (positive : pos 0 <ℤ a.numerator) where
     left_scaled j =
         let c : ℕ → Rational = λ k. of (coefficient_of m.rows k j) in
         let s = sum_same rationals (λ k. mul (mul a (y k)) (c k)) (λ k. mul a (mul (y k) (c k))) (length m.rows)
-                (λ k l. rationals.mul_assoc a (y k) (c k))
+        (λ k l. rationals.mul_assoc a (y k) (c k))
         ∙ sum_scale rationals a (λ k. mul (y k) (c k)) (length m.rows) in
         ap (λ z. sub (mul (mul a q) (cost_of m j)) z) s
         ∙ ring4 rationals (λ a q c s. (a ⊗ q) ⊗ c ⊖ a ⊗ s) (λ a q c s. a ⊗ (q ⊗ c ⊖ s)) refl a q (cost_of m j)
-            (sum rationals (λ k. mul (y k) (c k)) (length m.rows))
+        (sum rationals (λ k. mul (y k) (c k)) (length m.rows))
 
     pub dual_scaled : dual m b (mul a q) (λ k. mul a (y k)) ≡ option_map (mul a) (dual m b q y)
     dual_scaled =
         let n = length m.columns in
         let d = left_of m q y in
         let columns = column_sum_same (left_of m (mul a q) (λ k. mul a (y k))) (λ j. mul a (d j)) b n left_scaled
-                ∙ column_sum_scaled d b n in
+        ∙ column_sum_scaled d b n in
         ap (λ z. dual_of m (mul a q) z (paid_sum m (λ k. mul a (y k)))) columns
         ∙ ap (dual_of m (mul a q) (mul a (column_sum d b n))) (sum_of_all_scaled (λ k. paid (y k) (row_low m k) (row_high m k))
-            (λ k. paid (mul a (y k)) (row_low m k) (row_high m k)) (length m.rows) (λ k. paid_scaled (y k) (row_low m k) (row_high m k)))
+        (λ k. paid (mul a (y k)) (row_low m k) (row_high m k)) (length m.rows) (λ k. paid_scaled (y k) (row_low m k) (row_high m k)))
         ∙ by (paid_sum m y) (column_sum d b n)
       where
         by : (o : Option Rational) (s : Rational) → dual_of m (mul a q) (mul a s) (option_map (mul a) o)

@@ -1,6 +1,26 @@
--- Signs of rational numbers, tests of their order, and what a multiplier pays.
-use Rattle.std.specs.Prelude.{◌≡◌, ℕ, zero, suc, Bool, true, false, cond, Option, Some, option_map, ℤ, pos, negsuc, neg_ℤ, ◌+ℤ◌, ◌-ℤ◌,
-    ◌*ℤ◌, ◌≤ℤ◌, ◌<ℤ◌}
+-- Signs of rational numbers, tests of their order, and payments of multipliers.
+use Rattle.std.specs.Prelude.{
+  ◌≡◌,
+  ℕ,
+  zero,
+  suc,
+  Bool,
+  true,
+  false,
+  cond,
+  Option,
+  Some,
+  option_map,
+  ℤ,
+  pos,
+  negsuc,
+  neg_ℤ,
+  ◌+ℤ◌,
+  ◌-ℤ◌,
+  ◌*ℤ◌,
+  ◌≤ℤ◌,
+  ◌<ℤ◌,
+}
 use Rattle.std.specs.Int.Signed.{lt_z}
 use Rattle.std.proofs.Common.{arith, refl, ap, sym, ◌∙◌, subst}
 use Rattle.std.proofs.lemmas.Int.{ints}
@@ -104,12 +124,12 @@ pub of_at_most : (l h : ℤ) → l ≤ℤ h → AtMost (of l) (of h)
 of_at_most l h le =
     let e : l +ℤ (h -ℤ l) ≡ h = omega (arith, ints) in
     subst NotNegative (ring2 rationals (λ a b. b) (λ a b. (a ⊕ b) ⊖ a) refl (of l) (of (h -ℤ l))
-        ∙ ap (λ z. sub z (of l)) (sym (of_add l (h -ℤ l)) ∙ ap of e)) (of_up (h -ℤ l) (omega (arith, ints)))
+    ∙ ap (λ z. sub z (of l)) (sym (of_add l (h -ℤ l)) ∙ ap of e)) (of_up (h -ℤ l) (omega (arith, ints)))
 
 pub at_most_self : (p : Rational) → AtMost p p
 at_most_self p = subst NotNegative (ring2 rationals (λ a b. num (pos 0)) (λ a b. a ⊖ a) refl p p) (of_up (pos 0) (omega (arith, ints)))
 
--- a negative factor turns the order
+-- a negative factor reverses the order
 pub mul_at_least : (a p q : Rational) → a.numerator ≤ℤ pos 0 → AtMost p q → AtMost (mul a q) (mul a p)
 mul_at_least a p q n h = subst NotNegative (ring3 rationals (λ a x y. minus a ⊗ y ⊖ minus a ⊗ x) (λ a x y. a ⊗ x ⊖ a ⊗ y) refl a p q)
     (mul_at_most (neg a) p q (neg_up a n) h)
@@ -129,7 +149,7 @@ lesser_second p q h = by (is_below q p) refl
     by true e = refl
     by false e = at_most_antisym p q (below_false q p e) h
 
--- ---- what a multiplier pays
+-- ---- payments
 pub paid_up : (p : Rational) (l h : Option ℤ) → pos 0 <ℤ p.numerator → paid p l h ≡ option_map (λ z. mul p (of z)) l
 paid_up p l h rises = by (lt_z (pos 0) p.numerator) refl
   where
@@ -157,7 +177,7 @@ paid_zero p l h is_zero = by (lt_z (pos 0) p.numerator) (lt_z p.numerator (pos 0
     by false true e f = absurd (let q = less_is p.numerator (pos 0) f in omega (arith, ints))
     by false false e f = refl
 
--- of two sides in order, what is paid is the lesser product
+-- for two sides in order, the payment is the lesser product
 pub paid_lesser : (p : Rational) (l h : ℤ) → l ≤ℤ h → paid p (Some l) (Some h) ≡ Some (lesser (mul p (of l)) (mul p (of h)))
 paid_lesser p l h le = by (sign_of p.numerator)
   where
@@ -171,4 +191,4 @@ paid_lesser p l h le = by (sign_of p.numerator)
         let x : mul p (of l) ≡ of (pos 0) = ap (λ w. mul w (of l)) z ∙ zero_mul rationals (of l) in
         let y : mul p (of h) ≡ of (pos 0) = ap (λ w. mul w (of h)) z ∙ zero_mul rationals (of h) in
         paid_zero p (Some l) (Some h) s ∙ ap Some (sym x ∙ sym (lesser_first (mul p (of l)) (mul p (of h))
-            (subst (λ w. AtMost (mul p (of l)) w) (x ∙ sym y) (at_most_self (mul p (of l))))))
+        (subst (λ w. AtMost (mul p (of l)) w) (x ∙ sym y) (at_most_self (mul p (of l))))))

@@ -44,7 +44,7 @@ coefficient_other p ps k n = by (p.0 == k) refl
     by true e = absurd (n (sym (eqb-true p.0 k e)))
     by false e = refl
 
--- two sums that differ in one place
+-- two sums that differ at one index
 sum_one : (f g : ℕ → ℤ) (i n : ℕ) → i < n → ((k : ℕ) → k < n → k ≢ i → f k ≡ g k) → sum_below f n ≡ (f i -ℤ g i) +ℤ sum_below g n
 sum_one f g i zero l h = absurd (omega arith)
 sum_one f g i (suc n) l h = by (i == n) refl (λ m. sum_one f g i n m (λ k o. h k (omega arith)))
@@ -70,7 +70,7 @@ coefficient_sum e n [] h = sum_same (λ k. pos 0 *ℤ e k) (λ k. pos 0) n (λ k
 coefficient_sum e n (p ∷ ps) h =
     let rest = coefficient_sum e n ps (λ i l. h (suc i) (omega arith)) in
     let one = sum_one (λ k. coefficient (p ∷ ps) k *ℤ e k) (λ k. coefficient ps k *ℤ e k) p.0 n (h 0 (omega arith))
-            (λ k l m. ap (λ z. z *ℤ e k) (coefficient_other p ps k m)) in
+    (λ k l m. ap (λ z. z *ℤ e k) (coefficient_other p ps k m)) in
     let first : coefficient (p ∷ ps) p.0 *ℤ e p.0 ≡ p.1 *ℤ e p.0 +ℤ coefficient ps p.0 *ℤ e p.0 =
-            ap (λ z. z *ℤ e p.0) (coefficient_same p ps) ∙ add_mul p.1 (coefficient ps p.0) (e p.0) in
+    ap (λ z. z *ℤ e p.0) (coefficient_same p ps) ∙ add_mul p.1 (coefficient ps p.0) (e p.0) in
     omega (arith, ints)

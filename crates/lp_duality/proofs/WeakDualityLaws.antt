@@ -1,6 +1,26 @@
 -- Weak duality over relaxations, and feasible points as points of relaxations.
-use Rattle.std.specs.Prelude.{◌≡◌, ℕ, zero, suc, ◌<◌, List, [], ◌∷◌, length, Option, Some, None, IfSome, slice_get, option_map,
-    option_and_then, ℤ, pos, ◌≤ℤ◌, ◌<ℤ◌}
+use Rattle.std.specs.Prelude.{
+  ◌≡◌,
+  ℕ,
+  zero,
+  suc,
+  ◌<◌,
+  List,
+  [],
+  ◌∷◌,
+  length,
+  Option,
+  Some,
+  None,
+  IfSome,
+  slice_get,
+  option_map,
+  option_and_then,
+  ℤ,
+  pos,
+  ◌≤ℤ◌,
+  ◌<ℤ◌,
+}
 use Rattle.std.proofs.Common.{arith, refl, ap, sym, ◌∙◌, subst, ◌⊎◌, inl, inr}
 use Rattle.std.proofs.lemmas.Int.{ints}
 use Rattle.ip_defs.specs.Program.{at, low_at, high_at, row_sum, Meets, IsIn, IsFeasible, cost}
@@ -16,8 +36,22 @@ use Rattle.frac128.proofs.Order.{AtMost, NotNegative, at_most_total, at_most_tra
 use Rattle.lp_duality.specs.Relaxations.{row_low, row_high, cost_of, row_total, total_cost, IsBetween, IsRelaxed}
 use Rattle.lp_duality.specs.Duals.{paid, sum_of_all, lesser, left_of, dual}
 use Rattle.lp_duality.specs.Laws.{RelaxedWeakDuality, FeasiblePointsAreRelaxed}
-use Rattle.lp_duality.proofs.SignLaws.{Sign, up, down, none, sign_of, top_zero, of_at_most, at_most_self, mul_at_least, paid_up, paid_down,
-    paid_zero, lesser_first, lesser_second}
+use Rattle.lp_duality.proofs.SignLaws.{
+  Sign,
+  up,
+  down,
+  none,
+  sign_of,
+  top_zero,
+  of_at_most,
+  at_most_self,
+  mul_at_least,
+  paid_up,
+  paid_down,
+  paid_zero,
+  lesser_first,
+  lesser_second,
+}
 use Rattle.lp_duality.proofs.OptionSumLaws.{plus}
 use Rattle.lp_duality.proofs.ScaleLaws.{column_sum, paid_sum, dual_of}
 use Rattle.lp_duality.proofs.PointLaws.{row_whole, whole_cost}
@@ -32,7 +66,8 @@ sum_at_most f g (suc n) h = add_at_most (sum rationals f n) (sum rationals g n) 
 sum_sub : (f g : ℕ → Rational) (n : ℕ) → sum rationals (λ k. sub (f k) (g k)) n ≡ sub (sum rationals f n) (sum rationals g n)
 sum_sub f g zero = identity rationals [] (num (pos 0)) (num (pos 0) ⊖ num (pos 0)) refl
 sum_sub f g (suc n) = ap (λ z. add z (sub (f n) (g n))) (sum_sub f g n)
-    ∙ ring4 rationals (λ a b c d. (a ⊖ b) ⊕ (c ⊖ d)) (λ a b c d. (a ⊕ c) ⊖ (b ⊕ d)) refl (sum rationals f n) (sum rationals g n) (f n) (g n)
+    ∙ ring4 rationals (λ a b c d. (a ⊖ b) ⊕ (c ⊖ d))
+    (λ a b c d. (a ⊕ c) ⊖ (b ⊕ d)) refl (sum rationals f n) (sum rationals g n) (f n) (g n)
 
 sum_times : (f : ℕ → Rational) (a : Rational) (n : ℕ) → mul (sum rationals f n) a ≡ sum rationals (λ k. mul (f k) a) n
 sum_times f a n = rationals.mul_comm (sum rationals f n) a ∙ sym (sum_scale rationals a f n)
@@ -52,7 +87,7 @@ sum_of_all_at_most f g (suc n) h v e = by (sum_of_all f n) (f n) refl (sum_of_al
         (h n y (omega arith) i))
 
 -- ---- one multiplier and one column
--- a multiplier pays at most itself times a value between its sides
+-- a payment is at most multiplier times a value between the sides
 paid_at_most : (y : Rational) (l h : Option ℤ) (t v : Rational) → IsBetween l h t → paid y l h ≡ Some v → AtMost v (mul y t)
 paid_at_most y l h t v between e = by (sign_of y.numerator)
   where
@@ -77,7 +112,7 @@ paid_at_most y l h t v between e = by (sign_of y.numerator)
         let product : mul y t ≡ of (pos 0) = ap (λ w. mul w t) (top_zero y s) ∙ zero_mul rationals t in
         subst (λ w. AtMost w (mul y t)) is (subst (AtMost (of (pos 0))) (sym product) (at_most_self (of (pos 0))))
 
--- a column adds at least the lesser of its two ends
+-- the lesser of reduced cost times the two bounds is at most reduced cost times the coordinate
 lesser_at_most : (d l h x : Rational) → AtMost l x → AtMost x h → AtMost (lesser (mul d l) (mul d h)) (mul d x)
 lesser_at_most d l h x low high = by (sign_of d.numerator) (at_most_total (mul d l) (mul d h))
   where
@@ -99,14 +134,14 @@ lesser_at_most d l h x low high = by (sign_of d.numerator) (at_most_total (mul d
     by (down s) t = highs (mul_at_least d x h (omega (arith, ints)) high) t
 
 module _ (m : Parts) (b : List (ℤ × ℤ)) (q : Rational) (y x : ℕ → Rational) where
-  -- the multipliers times the rows' values
+  -- the multipliers times the values of the rows
   abbrev row_part : Rational
   row_part = sum rationals (λ k. mul (y k) (row_total m x k)) (length m.rows)
 
   abbrev column_part : Rational
   column_part = sum rationals (λ j. mul (cost_of m j) (x j)) (length m.columns)
 
-  -- what is left of the costs, times the point, is q times the costs less what the rows take
+  -- the reduced costs at a point: q times the costs, less the multipliers times the values of the rows
   left_part : sum rationals (λ j. mul (left_of m q y j) (x j)) (length m.columns) ≡ sub (mul q column_part) row_part
   left_part =
       let n = length m.columns in
@@ -117,14 +152,14 @@ module _ (m : Parts) (b : List (ℤ × ℤ)) (q : Rational) (y x : ℕ → Ratio
       ring4 rationals (λ q c s x. (q ⊗ c ⊖ s) ⊗ x) (λ q c s x. q ⊗ (c ⊗ x) ⊖ s ⊗ x) refl q (cost_of m j) taken (x j)
       ∙ ap (λ z. sub (mul q (mul (cost_of m j) (x j))) z) (sum_times (λ k. mul (y k) (of (coefficient_of m.rows k j))) (x j) r
       ∙ sum_same rationals (λ k. mul (mul (y k) (of (coefficient_of m.rows k j))) (x j)) (λ k. F k j) r
-          (λ k l. rationals.mul_assoc (y k) (of (coefficient_of m.rows k j)) (x j))) in
+      (λ k l. rationals.mul_assoc (y k) (of (coefficient_of m.rows k j)) (x j))) in
       sum_same rationals (λ j. mul (left_of m q y j) (x j)) (λ j. sub (mul q (mul (cost_of m j) (x j))) (sum rationals (λ k. F k j) r)) n
-          (λ j l. each j)
+      (λ j l. each j)
       ∙ sum_sub (λ j. mul q (mul (cost_of m j) (x j))) (λ j. sum rationals (λ k. F k j) r) n
       ∙ ap (λ z. sub z (sum rationals (λ j. sum rationals (λ k. F k j) r) n)) (sum_scale rationals q (λ j. mul (cost_of m j) (x j)) n)
       ∙ ap (λ z. sub (mul q column_part) z) (exchange rationals F r n
-          ∙ sum_same rationals (λ k. sum rationals (F k) n) (λ k. mul (y k) (row_total m x k)) r
-          (λ k l. sum_scale rationals (y k) (λ j. mul (of (coefficient_of m.rows k j)) (x j)) n))
+      ∙ sum_same rationals (λ k. sum rationals (F k) n) (λ k. mul (y k) (row_total m x k)) r
+      (λ k l. sum_scale rationals (y k) (λ j. mul (of (coefficient_of m.rows k j)) (x j)) n))
 
   at_most : (g : Rational) → IsRelaxed m b x → dual m b q y ≡ Some g → AtMost g (mul q (total_cost m x))
   at_most g relaxed e = by (paid_sum m y) (sum_of_all_at_most (λ k. paid (y k) (row_low m k) (row_high m k))
@@ -137,7 +172,7 @@ module _ (m : Parts) (b : List (ℤ × ℤ)) (q : Rational) (y x : ℕ → Ratio
       columns : AtMost (column_sum (left_of m q y) b (length m.columns)) (sub (mul q column_part) row_part)
       columns = subst (AtMost (column_sum (left_of m q y) b (length m.columns))) left_part
           (sum_at_most (λ j. lesser (mul (left_of m q y j) (of (low_at b j))) (mul (left_of m q y j) (of (high_at b j))))
-              (λ j. mul (left_of m q y j) (x j)) (length m.columns)
+          (λ j. mul (left_of m q y j) (x j)) (length m.columns)
           (λ j l. lesser_at_most (left_of m q y j) (of (low_at b j)) (of (high_at b j)) (x j) (relaxed.low j l) (relaxed.high j l)))
 
       by : (o : Option Rational) → ((v : Rational) → o ≡ Some v → AtMost v row_part) →
@@ -156,36 +191,36 @@ relaxed_weak_duality m b q y x g relaxed e = at_most m b q y x g relaxed e
 
 -- ---- feasible points
 module _ (m : Parts) (b : List (ℤ × ℤ)) (x : List ℤ) (size : length b ≡ length m.columns) (feasible : IsFeasible m x) (inside : IsIn b x)
-    where
-  row_is : (k : ℕ) (r : Row) → slice_get m.rows k ≡ Some r → row_total m (λ j. of (at x j)) k ≡ of (row_sum r.coefs x)
-  row_is = row_whole m (λ j. of (at x j)) x (inside.size ∙ size) (λ j l. refl)
+  where
+    row_is : (k : ℕ) (r : Row) → slice_get m.rows k ≡ Some r → row_total m (λ j. of (at x j)) k ≡ of (row_sum r.coefs x)
+    row_is = row_whole m (λ j. of (at x j)) x (inside.size ∙ size) (λ j l. refl)
 
-  meets : (k : ℕ) (r : Row) → slice_get m.rows k ≡ Some r → Meets x r
-  meets k r e = subst (λ o. IfSome o (Meets x)) e (meets_at m.rows x k feasible.rows)
+    meets : (k : ℕ) (r : Row) → slice_get m.rows k ≡ Some r → Meets x r
+    meets k r e = subst (λ o. IfSome o (Meets x)) e (meets_at m.rows x k feasible.rows)
 
-  low_holds : (k : ℕ) (o : Option Row) → slice_get m.rows k ≡ o → (side : ℤ) → option_and_then (λ r. r.low) o ≡ Some side →
-      AtMost (of side) (row_total m (λ j. of (at x j)) k)
-  low_holds k None e side d = absurd cc
-  low_holds k (Some r) e side d =
-      let holds : side ≤ℤ row_sum r.coefs x = subst (λ o. IfSome o (λ side. side ≤ℤ row_sum r.coefs x)) d (meets k r e).low in
-      subst (AtMost (of side)) (sym (row_is k r e)) (of_at_most side (row_sum r.coefs x) holds)
+    low_holds : (k : ℕ) (o : Option Row) → slice_get m.rows k ≡ o → (side : ℤ) → option_and_then (λ r. r.low) o ≡ Some side →
+        AtMost (of side) (row_total m (λ j. of (at x j)) k)
+    low_holds k None e side d = absurd cc
+    low_holds k (Some r) e side d =
+        let holds : side ≤ℤ row_sum r.coefs x = subst (λ o. IfSome o (λ side. side ≤ℤ row_sum r.coefs x)) d (meets k r e).low in
+        subst (AtMost (of side)) (sym (row_is k r e)) (of_at_most side (row_sum r.coefs x) holds)
 
-  high_holds : (k : ℕ) (o : Option Row) → slice_get m.rows k ≡ o → (side : ℤ) → option_and_then (λ r. r.high) o ≡ Some side →
-      AtMost (row_total m (λ j. of (at x j)) k) (of side)
-  high_holds k None e side d = absurd cc
-  high_holds k (Some r) e side d =
-      let holds : row_sum r.coefs x ≤ℤ side = subst (λ o. IfSome o (λ side. row_sum r.coefs x ≤ℤ side)) d (meets k r e).high in
-      subst (λ w. AtMost w (of side)) (sym (row_is k r e)) (of_at_most (row_sum r.coefs x) side holds)
+    high_holds : (k : ℕ) (o : Option Row) → slice_get m.rows k ≡ o → (side : ℤ) → option_and_then (λ r. r.high) o ≡ Some side →
+        AtMost (row_total m (λ j. of (at x j)) k) (of side)
+    high_holds k None e side d = absurd cc
+    high_holds k (Some r) e side d =
+        let holds : row_sum r.coefs x ≤ℤ side = subst (λ o. IfSome o (λ side. row_sum r.coefs x ≤ℤ side)) d (meets k r e).high in
+        subst (λ w. AtMost w (of side)) (sym (row_is k r e)) (of_at_most (row_sum r.coefs x) side holds)
 
-  relaxed : IsRelaxed m b (λ j. of (at x j))
-  relaxed = record {
-    low = λ j l. of_at_most (low_at b j) (at x j) (inside.low j (omega arith));
-    high = λ j l. of_at_most (at x j) (high_at b j) (inside.high j (omega arith));
-    rows = λ k l. record { low = low_holds k (slice_get m.rows k) refl; high = high_holds k (slice_get m.rows k) refl };
-  }
+    relaxed : IsRelaxed m b (λ j. of (at x j))
+    relaxed = record {
+      low = λ j l. of_at_most (low_at b j) (at x j) (inside.low j (omega arith));
+      high = λ j l. of_at_most (at x j) (high_at b j) (inside.high j (omega arith));
+      rows = λ k l. record { low = low_holds k (slice_get m.rows k) refl; high = high_holds k (slice_get m.rows k) refl };
+    }
 
-  cost_is : total_cost m (λ j. of (at x j)) ≡ of (cost m x)
-  cost_is = whole_cost m (λ j. of (at x j)) x (inside.size ∙ size) (λ j l. refl)
+    cost_is : total_cost m (λ j. of (at x j)) ≡ of (cost m x)
+    cost_is = whole_cost m (λ j. of (at x j)) x (inside.size ∙ size) (λ j l. refl)
 
 pub feasible_points_are_relaxed : FeasiblePointsAreRelaxed
 feasible_points_are_relaxed m b x size feasible inside = (relaxed m b x size feasible inside, cost_is m b x size feasible inside)

@@ -9,10 +9,10 @@ use Rattle.frac128.specs.Rationals.{Rational, of, mul}
 abbrev pub multiplier : Cert → ℕ → Rational
 multiplier c k = of (coefficient c.y k)
 
--- the multipliers of a certificate for so many rows are a times others
+-- the multipliers of a certificate, for a number of rows, are a times other multipliers
 abbrev pub AreMultiples : Cert → ℕ → Rational → (ℕ → Rational) → Type 0
 AreMultiples c rows a y = (k : ℕ) → k < rows → multiplier c k ≡ mul a (y k)
 
--- the least whole number at least a rational one
+-- a rational number rounded up
 abbrev pub rounded_up : Rational → ℤ
 rounded_up g = ceiling g.numerator (suc g.less)

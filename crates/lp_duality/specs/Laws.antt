@@ -22,13 +22,14 @@ abbrev pub CertificatesHaveTheirDuals : Type 0
 CertificatesHaveTheirDuals = (m : Parts) (b : List (ℤ × ℤ)) (c : Cert) → AreOrdered (length m.rows) c.y → length b ≡ length m.columns →
     dual m b (of c.q) (multiplier c) ≡ option_map of (dual_value m b c.q c.y)
 
--- a certificate whose multipliers are its positive q times y bounds by the dual value of y, rounded up
+-- the leaf bound of a certificate whose multipliers are its positive q times y is the dual value of y, rounded up
 abbrev pub PricesBound : Type 0
 PricesBound = (m : Parts) (b : List (ℤ × ℤ)) (c : Cert) (y : ℕ → Rational) (g : Rational) → AreOrdered (length m.rows) c.y →
     length b ≡ length m.columns → IsOpen b → pos 0 <ℤ c.q → AreMultiples c (length m.rows) (of c.q) y → dual m b (of (pos 1)) y ≡ Some g →
     leaf_bound m b c ≡ At (rounded_up g)
 
--- a certificate with q = 0 whose multipliers are a positive multiple of y leaves no point, where the dual value of y is positive
+-- the leaf bound of a certificate with q = 0 whose multipliers are a positive multiple of y is infinite, where the dual value of y is
+-- positive
 abbrev pub RaysBound : Type 0
 RaysBound = (m : Parts) (b : List (ℤ × ℤ)) (c : Cert) (a : Rational) (y : ℕ → Rational) (g : Rational) → AreOrdered (length m.rows) c.y →
     length b ≡ length m.columns → c.q ≡ pos 0 → pos 0 <ℤ a.numerator → AreMultiples c (length m.rows) a y →

@@ -1,4 +1,4 @@
--- The relaxation of a node: its points may have fractions. The numbers of a point are rational, one for each column.
+-- The relaxation of a node, whose points have rational coordinates, one for each column.
 use Rattle.std.specs.Prelude.{◌≡◌, ℕ, ◌<◌, length, Option, Some, slice_get, slice_index_or, option_and_then, ℤ, pos, List, ◌≤ℤ◌}
 use Rattle.ip_defs.specs.Program.{at, costs_of, low_at, high_at}
 use Rattle.ip_defs.specs.Certificates.{coefficient_of}
@@ -26,16 +26,16 @@ cost_of m j = of (at (costs_of m) j)
 abbrev pub row_total : Parts → (ℕ → Rational) → ℕ → Rational
 row_total m x k = sum (λ j. mul (of (coefficient_of m.rows k j)) (x j)) (length m.columns)
 
--- what a point costs
+-- the cost of a point
 abbrev pub total_cost : Parts → (ℕ → Rational) → Rational
 total_cost m x = add (of m.constant) (sum (λ j. mul (cost_of m j) (x j)) (length m.columns))
 
--- a number lies between two sides, where they are there
+-- a number lies between the sides that exist
 pub record IsBetween (l h : Option ℤ) (x : Rational) : Type 0 where
   pub low : (side : ℤ) → l ≡ Some side → AtMost (of side) x
   pub high : (side : ℤ) → h ≡ Some side → AtMost x (of side)
 
--- a point of the relaxation: each column lies within its sides of the box, and each row within its own
+-- a point of the relaxation: each column lies between its bounds in the box, and each row between its sides
 pub record IsRelaxed (m : Parts) (b : List (ℤ × ℤ)) (x : ℕ → Rational) : Type 0 where
   pub low : (j : ℕ) → j < length m.columns → AtMost (of (low_at b j)) (x j)
   pub high : (j : ℕ) → j < length m.columns → AtMost (x j) (of (high_at b j))

@@ -1,4 +1,4 @@
-//! A growing list of fractions.
+//! Lists of fractions.
 use frac128::Frac;
 use ip_defs::Listed;
 

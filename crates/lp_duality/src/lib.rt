@@ -1,4 +1,4 @@
-//! The relaxation of a node and dual values of multipliers over the rational numbers: definitions and laws.
+//! Relaxations of nodes and dual values over the rational numbers: definitions and laws.
 #![tactic(auto)]
 
 mod fracs;

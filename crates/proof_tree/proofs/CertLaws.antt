@@ -1,6 +1,6 @@
 -- The test of a certificate answers true exactly where the certificate is within its limits.
-use Rattle.std.specs.Prelude.{IsTrue, ◌↔◌, ◌≡◌, ◌≢◌, ℕ, zero, suc, ◌^◌, ◌<◌, ◌≤◌, ◌&&◌, not, nat_lt, List, [], ◌∷◌, length, Bool, true,
-    false, ℤ, pos, negsuc, ◌≤ℤ◌}
+use Rattle.std.specs.Prelude.{IsTrue, ◌↔◌, ◌≡◌, ◌≢◌, ℕ, zero, suc, ◌^◌, ◌<◌, ◌≤◌, ◌&&◌, not, nat_lt, List, [], ◌∷◌, length, Bool, true}
+use Rattle.std.specs.Prelude.{false, ℤ, pos, negsuc, ◌≤ℤ◌}
 use Rattle.std.specs.Int.RustNames.{unsigned_abs}
 use Rattle.std.specs.Int.Signed.{lt_z}
 use Rattle.std.specs.List.{list_all}
@@ -19,7 +19,8 @@ join false t e f = absurd cc
 -- the numbers rise from a least one
 risen : (least : ℕ) (ps : List (ℕ × ℤ)) → rise_from least ps ≡ true → (i : ℕ) → i < length ps → least ≤ index_at ps i
 risen least [] e i l = absurd (omega arith)
-risen least (p ∷ ps) e zero l = let h = lt_is least (suc p.0) (both_true (is_at_most least p.0) (rise_from (suc p.0) ps) e).0 in omega arith
+risen least (p ∷ ps) e zero l = let h = lt_is least (suc p.0) (both_true (is_at_most least p.0) (rise_from (suc p.0) ps) e).0 in
+    omega arith
 risen least (p ∷ ps) e (suc i) l =
     let b = both_true (is_at_most least p.0) (rise_from (suc p.0) ps) e in
     let h = lt_is least (suc p.0) b.0 in
@@ -129,7 +130,7 @@ cert_exact rows c = (to, back)
         (join (not (lt_z c.q (pos 0)) && not (lt_z (pos (2 ^ 36)) c.q)) (rise_from 0 c.y)
         (join (not (lt_z c.q (pos 0))) (not (lt_z (pos (2 ^ 36)) c.q)) a b) r) o
 
--- a test that answers whether a certificate is within its limits is the definition's
+-- a test that decides whether a certificate is within its limits agrees with the definition
 pub cert_test : (rows : ℕ) (c : Cert) (t : Bool) → (IsTrue t ↔ IsCert rows c) → is_cert rows c ≡ t
 cert_test rows c true h = (cert_exact rows c).1 (h.0 refl)
 cert_test rows c false h = by (is_cert rows c) refl

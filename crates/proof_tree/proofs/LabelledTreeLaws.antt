@@ -5,8 +5,8 @@ use Rattle.std.proofs.lemmas.List.{length-append, map-append}
 use Rattle.ip_defs.proofs.ListLaws.{each_left, each_right, each_append}
 use Rattle.ip_defs.specs.Boxes.{below, above}
 use Rattle.ip_defs.specs.Lists.{Each}
-use Rattle.proof_tree.specs.LabelledTrees.{LabelledTree, leaf, split, LabelledNode, split_node, Place, node_count, depth, nodes,
-    nodes_from, places_from, leaves, splits_over, split_labels, relabelled}
+use Rattle.proof_tree.specs.LabelledTrees.{LabelledTree, leaf, split, LabelledNode, split_node, Place, node_count, depth, nodes}
+use Rattle.proof_tree.specs.LabelledTrees.{nodes_from, places_from, leaves, splits_over, split_labels, relabelled}
 
 -- ---- nodes in preorder
 

@@ -10,7 +10,7 @@ option_or_assoc : {A : Type 0} (a b c : Option A) → option_or (option_or a b) 
 option_or_assoc None b c = refl
 option_or_assoc (Some x) b c = refl
 
--- over two lists in a row
+-- over two lists, one after the other
 first_append : {A B : Type 0} (f : ℕ → A → Option B) (k : ℕ) (xs ys : List A)
     → first_from f k (xs ++ ys) ≡ option_or (first_from f k xs) (first_from f (k + length xs) ys)
 first_append f k [] ys = let e : k ≡ k + 0 = omega arith in ap (λ n. first_from f n ys) e
@@ -44,7 +44,7 @@ pass_right {B = B} f k x xs ys n is left = rw (is, first_append f (k + 1) xs ys)
         ap (λ i. next_or i (first_from f (k + 1 + length xs) ys)) size ∙ ap (λ i. next_or (n + length ys) (first_from f i ys)) same
     by (Some x) g h = absurd cc
 
--- ---- what a pass answers
+-- ---- the result of a pass
 
 -- the number after a pass
 pub pass_count : {A B : Type 0} (f : ℕ → A → Option B) (k : ℕ) (xs : List A) (n : ℕ) → passed_over f k xs ≡ Ok n → n ≡ k + length xs

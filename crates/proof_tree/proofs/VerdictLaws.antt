@@ -15,8 +15,8 @@ use Rattle.proof_tree.specs.declared.claims.Claim.{Claim}
 use Rattle.proof_tree.specs.declared.claims.Claim.TheVariants.{Best, Empty}
 use Rattle.proof_tree.specs.declared.verdicts.Verdict.TheVariants.{Proved, Short}
 use Rattle.proof_tree.specs.Trees.{PlainTree, plain, FitsColumns, tree_bound}
-use Rattle.proof_tree.specs.Verdicts.{IsAtLeast, AreProvedBy, is_at_least, on_point, judged, IsProvedVerdict, IsTrueClaim, ProofsAreTrue,
-    HasLength, VerdictsAreExact}
+use Rattle.proof_tree.specs.Verdicts.{IsAtLeast, AreProvedBy, is_at_least, on_point, judged, IsProvedVerdict, IsTrueClaim, ProofsAreTrue}
+use Rattle.proof_tree.specs.Verdicts.{HasLength, VerdictsAreExact}
 use Rattle.proof_tree.proofs.TreeLaws.{trees_bound}
 use Rattle.ip_defs.proofs.OrderLaws.{less_false, not_less}
 

@@ -1,4 +1,4 @@
--- What a walk through a tree owes: halves without a point, boxes within the limits, and a box put back.
+-- The walk through a tree: halves without a point, boxes within the limits, and a box restored.
 use Rattle.std.specs.Prelude.{◌≡◌, ℕ, ◌^◌, ◌<◌, ◌≤◌, ◌==◌, Bool, true, false, IsTrue, ◌↔◌, List, length, ℤ, pos, ◌+ℤ◌, ◌≤ℤ◌, ◌<ℤ◌}
 use Rattle.std.specs.Int.{int_min, int_max}
 use Rattle.std.specs.Int.RustNames.{unsigned_abs}
@@ -22,7 +22,7 @@ use Rattle.proof_tree.specs.Trees.{PlainTree, bound_min, bound_over}
 use Rattle.proof_tree.proofs.TreeLaws.{bound_split}
 use Rattle.ip_defs.proofs.OrderLaws.{less_true}
 
--- a column stays empty when a side of the box is cut
+-- a column stays empty when the box is cut
 gap_stays : (b : List (ℤ × ℤ)) (j col : ℕ) (s : ℤ × ℤ) → j < length b → high_at b j <ℤ low_at b j → (j ≡ col → s.1 <ℤ s.0)
     → high_at (set b col s) j <ℤ low_at (set b col s) j
 gap_stays b j col s l gap own = by (j == col) refl
@@ -62,7 +62,7 @@ closed t low high e h = by (lt_z high low) refl
     by true f = omega (arith, ints)
     by false f = let true' : t ≡ true = h.1 (omega (arith, ints)) in absurd cc
 
--- a half that is found without a point is infinite
+-- the bound of a half without a point is infinite
 pub no_half : (m : Parts) (t : PlainTree) (b : List (ℤ × ℤ)) (j : ℕ) (some : Bool) → j < length b → some ≡ false
     → (IsTrue some ↔ low_at b j ≤ℤ high_at b j) → bound_over m t b ≡ Infinite
 no_half m t b j some l e h = bound_gap m t b j l (closed some (low_at b j) (high_at b j) e h)
@@ -73,7 +73,7 @@ below_size b j cut l = omega (arith, length-set b j (low_at b j, int_min (high_a
 pub above_size : (b : List (ℤ × ℤ)) (j : ℕ) (cut : ℤ) → j < length b → j < length (above b j cut)
 above_size b j cut l = omega (arith, length-set b j (int_max (low_at b j) (cut +ℤ pos 1), high_at b j))
 
--- a box cut at a number within the limit is within the limits, where it has a number left
+-- a box cut within the limit stays within the limits, where the column is not empty
 pub below_within : (n : ℕ) (b : List (ℤ × ℤ)) (j : ℕ) (cut : ℤ) → j < n → unsigned_abs cut ≤ 2 ^ 24 → IsArea n b → IsArea n (below b j cut)
 below_within n b j cut l small area =
     let s = area.low j l in
@@ -90,7 +90,7 @@ above_within n b j cut l small area some =
     let t = area.high j l in
     area_cut b j (int_max (low_at b j) (cut +ℤ pos 1)) (high_at b j) within n (omega (arith, ints, clamps)) t area
 
--- a box is as it was, once its side is put back
+-- a box is as it was, once the bounds of its column are restored
 pub put_back : (b b' : List (ℤ × ℤ)) (j : ℕ) (x : ℤ × ℤ) → b' ≡ set b j x → set b' j (get_or b j (pos 0, pos 0)) ≡ b
 put_back b b' j x e = ap (λ l. set l j (get_or b j (pos 0, pos 0))) e ∙ set-set b j x (get_or b j (pos 0, pos 0))
     ∙ set-get_or b j (pos 0, pos 0)

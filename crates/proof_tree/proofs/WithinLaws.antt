@@ -1,6 +1,6 @@
--- What the absence of a first fault means.
-use Rattle.std.specs.Prelude.{◌≡◌, ℕ, ℤ, zero, suc, ◌+◌, ◌^◌, ◌<◌, ◌≤◌, ◌&&◌, ◌==◌, not, nat_lt, if◌then◌else◌, List, [], ◌∷◌, length,
-    Bool, true, false, Option, Some, None}
+-- What it means that a tree exceeds no limit or has no misfit.
+use Rattle.std.specs.Prelude.{◌≡◌, ℕ, ℤ, zero, suc, ◌+◌, ◌^◌, ◌<◌, ◌≤◌, ◌&&◌, ◌==◌, not, nat_lt, if◌then◌else◌, List, [], ◌∷◌, length}
+use Rattle.std.specs.Prelude.{Bool, true, false, Option, Some, None}
 use Rattle.std.specs.Int.RustNames.{unsigned_abs}
 use Rattle.std.specs.List.{list_all}
 use Rattle.std.proofs.Common.{refl, arith}
@@ -17,8 +17,8 @@ use Rattle.proof_tree.specs.declared.faults.ShapeWhat.{ShapeWhat}
 use Rattle.proof_tree.specs.declared.faults.ShapeWhat.TheVariants.{ColumnNumber, RowNumber}
 use Rattle.proof_tree.specs.declared.faults.TreeLimit.TheVariants as Exceeded
 use Rattle.proof_tree.specs.LabelledTrees.{leaf, split, leaf_node, split_node, nodes, nodes_from}
-use Rattle.proof_tree.specs.Trees.{plain, PlainTree, Node, FitsColumns, FitsRows, is_cert, own_limit, limit_at, first_from, tree_limit,
-    own_misfit, with_number, misfit_at, tree_misfit}
+use Rattle.proof_tree.specs.Trees.{plain, PlainTree, Node, FitsColumns, FitsRows, is_cert, own_limit, limit_at, first_from, tree_limit}
+use Rattle.proof_tree.specs.Trees.{own_misfit, with_number, misfit_at, tree_misfit}
 use Rattle.proof_tree.specs.Verdicts.{HasLength, claim_misfit, length_misfit}
 use Rattle.proof_tree.specs.Within.{AreNumbersWithin, IsTreeWithin, LimitsAreExact, MisfitsAreTrue}
 use Rattle.proof_tree.proofs.CertLaws.{cert_exact}
@@ -49,7 +49,7 @@ fits_by columns rows (split col cut y left right) h = (
   fits_by columns rows right (each_right _ (nodes left) (nodes right) h.1),
 )
 
--- all row numbers of a certificate are within
+-- all row numbers of a certificate are those of rows
 in_rows : (rows : ℕ) (y : List (ℕ × ℤ)) → list_all (λ p. nat_lt p.0 rows) y ≡ true → (i : ℕ) → i < length y → index_at y i < rows
 in_rows rows [] e i l = absurd (omega arith)
 in_rows rows (p ∷ ps) e zero l = by (nat_lt p.0 rows) (list_all (λ q. nat_lt q.0 rows) ps) refl e

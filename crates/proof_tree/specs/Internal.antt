@@ -1,2 +1,2 @@
--- What only the contracts of private functions and the proofs of this crate speak of.
+-- Definitions for the contracts of private functions and for proofs of this crate alone.
 pub mod Numbered

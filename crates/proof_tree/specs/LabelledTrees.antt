@@ -1,15 +1,15 @@
--- Binary trees with a label at each leaf and at each split: their sizes, their nodes in preorder, and their boxes.
+-- Binary trees with a label at each leaf and at each split: their counts and depths, their nodes in preorder, and their boxes.
 use Rattle.std.specs.Prelude.{ℕ, suc, ◌+◌, max, List, [], ◌∷◌, ◌++◌, ℤ}
 use Rattle.ip_defs.specs.Boxes.{below, above}
 
--- a tree with labels of L at its leaves and of S at its splits; a split has a column and a number
+-- a tree with labels of type L at its leaves and of type S at its splits; a split has a column and a cut
 pub data LabelledTree (L S : Type 0) : Type 0 where
   leaf : L → LabelledTree L S
   split : ℕ → ℤ → S → LabelledTree L S → LabelledTree L S → LabelledTree L S
 
--- ---- sizes
+-- ---- counts and depths
 
--- how many nodes a tree has
+-- the number of nodes of a tree
 abbrev pub node_count : {L S : Type 0} → LabelledTree L S → ℕ
 node_count (leaf x) = 1
 node_count (split col cut y left right) = suc (node_count left + node_count right)
@@ -26,12 +26,12 @@ pub data LabelledNode (L S : Type 0) : Type 0 where
   leaf_node : L → LabelledNode L S
   split_node : ℕ → ℤ → S → LabelledNode L S
 
--- the nodes: each split before its left side, and that before its right side
+-- the nodes in preorder: each split before its left half, and that before its right half
 abbrev pub nodes : {L S : Type 0} → LabelledTree L S → List (LabelledNode L S)
 nodes (leaf x) = leaf_node x ∷ []
 nodes (split col cut y left right) = split_node col cut y ∷ (nodes left ++ nodes right)
 
--- the nodes with their depths, where the root has a given depth
+-- the nodes with their depths, given the depth of the root
 abbrev pub nodes_from : {L S : Type 0} → ℕ → LabelledTree L S → List (ℕ × LabelledNode L S)
 nodes_from d (leaf x) = (d, leaf_node x) ∷ []
 nodes_from d (split col cut y left right) = (d, split_node col cut y) ∷ (nodes_from (d + 1) left ++ nodes_from (d + 1) right)
@@ -45,7 +45,7 @@ pub record Place (L S : Type 0) : Type 0 where
 abbrev pub place : {L S : Type 0} → ℕ → List (ℤ × ℤ) → LabelledNode L S → Place L S
 place d b n = record { depth = d; box = b; node = n }
 
--- the nodes with their depths and boxes, where the root has a given depth and box
+-- the nodes with their depths and boxes, given those of the root
 abbrev pub places_from : {L S : Type 0} → ℕ → List (ℤ × ℤ) → LabelledTree L S → List (Place L S)
 places_from d b (leaf x) = place d b (leaf_node x) ∷ []
 places_from d b (split col cut y left right) =
@@ -60,7 +60,7 @@ leaves (split col cut y left right) b = leaves left (below b col cut) ++ leaves 
 
 -- ---- splits
 
--- a split of a box: its left half has the numbers of a column up to the cut, its right half those after it
+-- a split of a box: in its left half the column is at most the cut, in its right half above it
 pub record Split : Type 0 where
   pub box : List (ℤ × ℤ)
   pub col : ℕ

@@ -1,6 +1,6 @@
--- Proof trees as plain data: their bound, and their first faults.
-use Rattle.std.specs.Prelude.{ℕ, suc, ◌+◌, ◌^◌, ◌<◌, if◌then◌else◌, ◌&&◌, not, List, [], ◌∷◌, length, map, ℤ, pos, Bool, true, nat_lt,
-    Option, Some, None}
+-- Proof trees as plain data: their bound, and the first limit or misfit of one.
+use Rattle.std.specs.Prelude.{ℕ, suc, ◌+◌, ◌^◌, ◌<◌, if◌then◌else◌, ◌&&◌, not, List, [], ◌∷◌, length, map, ℤ, pos, Bool, true, nat_lt}
+use Rattle.std.specs.Prelude.{Option, Some, None}
 use Rattle.std.specs.Int.{int_min}
 use Rattle.std.specs.Int.RustNames.{unsigned_abs}
 use Rattle.std.specs.Int.Signed.{lt_z}
@@ -21,7 +21,7 @@ use Rattle.proof_tree.specs.declared.faults.Shape.{Shape}
 use Rattle.proof_tree.specs.declared.faults.ShapeWhat.{ShapeWhat}
 use Rattle.proof_tree.specs.declared.faults.ShapeWhat.TheVariants.{ColumnNumber, RowNumber}
 
--- a tree without where it lies in memory: a certificate at each leaf, and no labels at its splits
+-- a tree as plain data, without pointers: a certificate at each leaf, and no labels at its splits
 abbrev pub PlainTree : Type 0
 PlainTree = LabelledTree Cert (Unit {0})
 
@@ -63,7 +63,7 @@ abbrev pub FitsRows : ℕ → PlainTree → Type 0
 FitsRows n (leaf c) = (i : ℕ) → i < length c.y → index_at c.y i < n
 FitsRows n (split col cut y left right) = FitsRows n left × FitsRows n right
 
--- what a tree names is there: each column and each row
+-- the columns and rows that a tree names exist in a model
 pub record FitsModel (m : Parts) (t : PlainTree) : Type 0 where
   pub columns : FitsColumns (length m.columns) t
   pub rows : FitsRows (length m.rows) t
@@ -72,12 +72,12 @@ pub record FitsModel (m : Parts) (t : PlainTree) : Type 0 where
 abbrev pub is_at_most : ℕ → ℕ → Bool
 is_at_most a b = nat_lt a (suc b)
 
--- each number is above the one before it
+-- the numbers increase, from a least one on
 abbrev pub rise_from : ℕ → List (ℕ × ℤ) → Bool
 rise_from least_next [] = true
 rise_from least_next (p ∷ ps) = is_at_most least_next p.0 && rise_from (suc p.0) ps
 
--- a multiplier of one of the rows: not 0, and at most 2 ^ 36 in size
+-- a multiplier of one of the rows: not 0, and at most 2 ^ 36 in absolute value
 abbrev pub is_multiplier : ℕ → ℕ × ℤ → Bool
 is_multiplier rows p = nat_lt p.0 rows && nat_lt 0 (unsigned_abs p.1) && is_at_most (unsigned_abs p.1) (2 ^ 36)
 
@@ -85,17 +85,18 @@ is_multiplier rows p = nat_lt p.0 rows && nat_lt 0 (unsigned_abs p.1) && is_at_m
 abbrev pub is_cert : ℕ → Cert → Bool
 is_cert rows c = not (lt_z c.q (pos 0)) && not (lt_z (pos (2 ^ 36)) c.q) && rise_from 0 c.y && list_all (is_multiplier rows) c.y
 
--- what is wrong with node i itself
+-- the limit that the numbers of node i exceed
 abbrev pub own_limit : ℕ → Node → Option TreeLimit
 own_limit i (leaf_node c) = if is_cert 1024 c then None else Some (Exceeded.Cert i)
 own_limit i (split_node col cut y) = if is_at_most col 4095 && is_at_most (unsigned_abs cut) (2 ^ 24) then None else Some (Exceeded.At i)
 
--- what is wrong with node i, given with its depth
+-- the first limit that node i exceeds, given with its depth
 abbrev pub limit_at : ℕ → ℕ × Node → Option TreeLimit
-limit_at i n = if not (is_at_most n.0 800) then Some Exceeded.Depth else if not (nat_lt i 1000000) then Some Exceeded.Nodes else own_limit
-    i n.1
+limit_at i n =
+    if not (is_at_most n.0 800) then Some Exceeded.Depth
+    else if not (nat_lt i 1000000) then Some Exceeded.Nodes else own_limit i n.1
 
--- what f answers at the first element at which it answers, where the elements are numbered from k on
+-- what f answers at the first element at which it answers, the elements numbered from k on
 abbrev pub first_from : {A B : Type 0} → (ℕ → A → Option B) → ℕ → List A → Option B
 first_from f k [] = None
 first_from f k (x ∷ xs) = option_or (f k x) (first_from f (k + 1) xs)
@@ -104,25 +105,25 @@ first_from f k (x ∷ xs) = option_or (f k x) (first_from f (k + 1) xs)
 abbrev pub tree_limit : PlainTree → Option TreeLimit
 tree_limit t = first_from limit_at 0 (nodes_from 0 t)
 
--- what a node names that is not there
+-- the misfit of a node that names a column or a row which does not exist
 abbrev pub own_misfit : ℕ → ℕ → Node → Option ShapeWhat
 own_misfit columns rows (leaf_node c) = if list_all (λ p. nat_lt p.0 rows) c.y then None else Some RowNumber
 own_misfit columns rows (split_node col cut y) = if nat_lt col columns then None else Some ColumnNumber
 
--- a misfit at a node
+-- a misfit with the number of its node
 abbrev pub with_number : ℕ → Option ShapeWhat → Option Shape
 with_number i None = None
 with_number i (Some x) = Some (record { node = i; what = x })
 
--- what node i names that is not there
+-- the misfit of node i
 abbrev pub misfit_at : ℕ → ℕ → ℕ → Node → Option Shape
 misfit_at columns rows i n = with_number i (own_misfit columns rows n)
 
--- the first node in preorder that names a column or row that is not there
+-- the first misfit in preorder
 abbrev pub tree_misfit : ℕ → ℕ → PlainTree → Option Shape
 tree_misfit columns rows t = first_from (misfit_at columns rows) 0 (nodes t)
 
 -- every feasible point costs at least the bound of any tree that fits
 abbrev pub TreesBound : Type 0
-TreesBound = (m : Parts) (t : PlainTree) (x : List ℤ) → FitsColumns (length m.columns) t → IsFeasible m x
-    → IsAtMost (tree_bound m t) (cost m x)
+TreesBound = (m : Parts) (t : PlainTree) (x : List ℤ) → FitsColumns (length m.columns) t → IsFeasible m x →
+    IsAtMost (tree_bound m t) (cost m x)

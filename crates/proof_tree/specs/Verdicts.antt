@@ -17,17 +17,17 @@ use Rattle.proof_tree.specs.declared.faults.ShapeWhat.TheVariants.{PointLength}
 use Rattle.proof_tree.specs.declared.verdicts.Verdict.{Verdict}
 use Rattle.proof_tree.specs.declared.verdicts.Verdict.TheVariants.{Proved, NotFeasible, Short}
 
--- a point of another length, where the test holds
+-- the misfit of a point of another length, where the test holds
 abbrev pub length_misfit : Bool → Option Shape
 length_misfit true = Some (record { node = 0; what = PointLength })
 length_misfit false = None
 
--- a claimed point of another length
+-- the misfit of a claimed point of another length
 abbrev pub claim_misfit : ℕ → Claim → Option Shape
 claim_misfit columns Empty = None
 claim_misfit columns (Best x) = length_misfit (not (length x == columns))
 
--- what does not fit the model: the point first, with node 0, then the nodes in preorder
+-- the first misfit of a proof: of the point, with node 0, then of the nodes in preorder
 abbrev pub proof_misfit : Parts → Proof → Option Shape
 proof_misfit m p = option_or (claim_misfit (length m.columns) p.claim) (tree_misfit (length m.columns) (length m.rows) (plain p.tree))
 
@@ -55,12 +55,12 @@ abbrev pub on_point : Option Breach → Bound → ℤ → Verdict
 on_point (Some breach) bound w = NotFeasible breach
 on_point None bound w = if is_at_least bound w then Proved (Some w) else Short bound (Some w)
 
--- the verdict on a claim of emptiness
+-- the verdict on the claim that the program is infeasible
 abbrev pub on_empty : Bound → Verdict
 on_empty (At v) = Short (At v) None
 on_empty Infinite = Proved None
 
--- the verdict on a claim by the bound of a tree
+-- the verdict on a claim, given the bound of its tree
 abbrev pub judged : Parts → Claim → Bound → Verdict
 judged m (Best x) bound = on_point (first_breach m x) bound (cost m x)
 judged m Empty bound = on_empty bound
@@ -69,13 +69,13 @@ judged m Empty bound = on_empty bound
 abbrev pub verdict_of : Parts → Proof → Verdict
 verdict_of m p = judged m p.claim (tree_bound m (plain p.tree))
 
--- the verdict that a claim is proved
+-- a verdict says that the claim is proved
 abbrev pub IsProvedVerdict : Verdict → Type 0
 IsProvedVerdict (Proved c) = Unit {0}
 IsProvedVerdict (NotFeasible breach) = ⊥
 IsProvedVerdict (Short bound c) = ⊥
 
--- what a claim says of the program
+-- a claim is true of a program: the point is optimal, or no point is feasible
 abbrev pub IsTrueClaim : Parts → Claim → Type 0
 IsTrueClaim m (Best x) = IsLeast m x
 IsTrueClaim m Empty = (x : List ℤ) → IsFeasible m x → ⊥
@@ -89,7 +89,7 @@ abbrev pub HasLength : ℕ → Claim → Type 0
 HasLength n (Best x) = length x ≡ n
 HasLength n Empty = Unit {0}
 
--- the verdict is proved where the proof is, and nowhere else
+-- the verdict says proved exactly where the proof is proved
 abbrev pub VerdictsAreExact : Type 0
-VerdictsAreExact = (m : Parts) (p : Proof) → HasLength (length m.columns) p.claim → (IsProvedVerdict (verdict_of m p) → IsProved m p)
-    × (IsProved m p → IsProvedVerdict (verdict_of m p))
+VerdictsAreExact = (m : Parts) (p : Proof) → HasLength (length m.columns) p.claim →
+    (IsProvedVerdict (verdict_of m p) → IsProved m p) × (IsProved m p → IsProvedVerdict (verdict_of m p))

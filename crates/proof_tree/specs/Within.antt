@@ -1,4 +1,4 @@
--- Trees within the limits, said of each node, and what the absence of a first fault means.
+-- Trees within the limits, in terms of each node, and what it means that a tree exceeds no limit or has no misfit.
 use Rattle.std.specs.Prelude.{◌≡◌, ◌^◌, ◌≤◌, length, None}
 use Rattle.std.specs.Int.RustNames.{unsigned_abs}
 use Rattle.ip_defs.specs.declared.programs.Parts.{Parts}
@@ -23,6 +23,6 @@ pub record IsTreeWithin (t : PlainTree) : Type 0 where
 abbrev pub LimitsAreExact : Type 0
 LimitsAreExact = (t : PlainTree) → (tree_limit t ≡ None → IsTreeWithin t) × (IsTreeWithin t → tree_limit t ≡ None)
 
--- a proof with no misfit: its point has one coordinate for each column, and what its tree names is there
+-- a proof without a misfit: its point has one coordinate for each column, and the columns and rows that its tree names exist
 abbrev pub MisfitsAreTrue : Type 0
 MisfitsAreTrue = (m : Parts) (p : Proof) → proof_misfit m p ≡ None → HasLength (length m.columns) p.claim × FitsModel m (plain p.tree)

@@ -5,9 +5,9 @@ use ip_defs::Point;
 /// What a proof claims of a model.
 #[derive(Debug, Drop)]
 pub enum Claim {
-    /// The point is feasible, and none costs less.
+    /// The point is optimal: feasible, and no feasible point costs less.
     Best(Point),
-    /// No point is feasible.
+    /// The model is infeasible: no point is feasible.
     Empty,
 }
 

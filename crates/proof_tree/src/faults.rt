@@ -1,18 +1,19 @@
-//! What may be wrong with a tree: the limits that it exceeds, and what of it does not fit a model.
-/// The first limit that a tree exceeds. Nodes count in preorder from 0.
+//! What may be wrong with a tree: the limits that it exceeds, and the places where it does not fit a model.
+
+/// The first limit that a tree exceeds. Nodes are numbered in preorder from 0.
 #[derive(Clone, Copy, Debug, PartialEq, Eq)]
 pub enum TreeLimit {
     /// A node lies deeper than 800 splits.
     Depth,
     /// There are more than 1,000,000 nodes.
     Nodes,
-    /// The column of a split is above 4,095, or its number above 2^24 in size.
+    /// The column of a split is above 4,095, or the absolute value of its cut above 2^24.
     At { node: u32 },
     /// The certificate of a leaf is out of order or exceeds a limit.
     Cert { node: u32 },
 }
 
-/// What of a proof does not fit a model.
+/// The part of a proof that does not fit a model.
 #[derive(Clone, Copy, Debug, PartialEq, Eq)]
 pub enum ShapeWhat {
     /// The claimed point has another number of coordinates than the model has columns.

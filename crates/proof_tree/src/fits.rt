@@ -11,14 +11,14 @@ use crate::{Claim, Proof, Shape, ShapeWhat, Tree};
 use ip_defs::Cert;
 use ip_model::IntModel;
 
-/// Whether each row that multipliers name is one of `rows`.
+/// Whether the row number of each multiplier is below `rows`.
 fn are_below(y: &[(u32, i64)], rows: usize) -> bool
     ensures { result ≡ list_all (λ p. nat_lt p.0 rows) y.now }
 {
     y.iter().all(|pair| (pair.0 as usize) < rows)
 }
 
-/// A row that a certificate names and that is not one of `rows`.
+/// The misfit of a certificate that names a row which does not exist.
 fn cert_misfit(cert: &Cert, rows: usize) -> Option<ShapeWhat>
     ensures { result ≡ own_misfit 0 rows (leaf_node cert.now) }
 {
@@ -29,7 +29,7 @@ fn cert_misfit(cert: &Cert, rows: usize) -> Option<ShapeWhat>
     }
 }
 
-/// What one node names that is not there.
+/// The misfit of one node that names a column or a row which does not exist.
 fn node_misfit(tree: &Tree, columns: usize, rows: usize) -> Option<ShapeWhat>
     ensures { result ≡ own_misfit columns rows (top (plain tree.now)) }
 {
@@ -45,7 +45,7 @@ fn node_misfit(tree: &Tree, columns: usize, rows: usize) -> Option<ShapeWhat>
     }
 }
 
-/// The number after the nodes of a subtree, or the first of them that names what is not there.
+/// The number after the nodes of a subtree, or the first misfit of one of them.
 fn pass(tree: &Tree, columns: usize, rows: usize, node: u32) -> Result<u32, Shape>
     requires { node + node_count (plain tree.now) ≤ 1000000 }
     ensures { result ≡ passed_over (misfit_at columns rows) node (nodes (plain tree.now)) }
@@ -63,7 +63,7 @@ fn pass(tree: &Tree, columns: usize, rows: usize, node: u32) -> Result<u32, Shap
     }
 }
 
-/// The first node that names what is not there.
+/// The first misfit of a node.
 fn tree_misfit_of(tree: &Tree, columns: usize, rows: usize) -> Option<Shape>
     requires { node_count (plain tree.now) ≤ 1000000 }
     ensures { result ≡ tree_misfit columns rows (plain tree.now) }
@@ -74,7 +74,7 @@ fn tree_misfit_of(tree: &Tree, columns: usize, rows: usize) -> Option<Shape>
     }
 }
 
-/// A claimed point of another length.
+/// The misfit of a claimed point of another length.
 fn claim_misfit_of(claim: &Claim, columns: usize) -> Option<Shape>
     ensures { result ≡ claim_misfit columns claim.now }
 {
@@ -93,7 +93,7 @@ fn claim_misfit_of(claim: &Claim, columns: usize) -> Option<Shape>
     }
 }
 
-/// What does not fit first: the point, then the nodes.
+/// The first misfit: of the point, then of the nodes.
 fn first_misfit(model: &IntModel, proof: &Proof) -> Option<Shape>
     requires { node_count (plain proof.now.tree) ≤ 1000000 }
     ensures { result ≡ proof_misfit model.now proof.now }
@@ -106,8 +106,8 @@ fn first_misfit(model: &IntModel, proof: &Proof) -> Option<Shape>
     }
 }
 
-/// Whether a proof fits a model: a claimed point has a coordinate for each column, each split names a column of the model and each
-/// multiplier a row. The point is tested first, with node 0, then the nodes in preorder; the first misfit is handed back. Takes no memory.
+/// Whether a proof fits a model: a claimed point has one coordinate for each column, each split names a column of the model and each
+/// multiplier a row. The error is the first misfit: of the point, with node 0, then of the nodes in preorder. Allocates nothing.
 pub fn fits_model(model: &IntModel, proof: &Proof) -> Result<(), Shape>
     requires limits { IsTreeWithin (plain proof.now.tree) }
     ensures none { IfOk result (λ fine. proof_misfit model.now proof.now ≡ None) }

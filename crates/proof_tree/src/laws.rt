@@ -14,7 +14,7 @@ pub fn proofs_are_true()
     ensures { ProofsAreTrue }
 {}
 
-/// The verdict is Proved exactly for the proved proofs.
+/// The verdict is Proved exactly where the proof is proved.
 pub fn verdicts_are_exact()
     ensures { VerdictsAreExact }
 {}

@@ -1,4 +1,4 @@
-//! Owned proof trees: what they claim, the bound that they prove, and what may be wrong with them.
+//! Proof trees: their claims, the bound that they prove, and what may be wrong with them.
 #![tactic(auto)]
 
 mod claims;

@@ -9,19 +9,19 @@ use crate::{Tree, TreeLimit};
 use ip_defs::Cert;
 use leaf_cert::cert_ok;
 
-/// The most splits above a node.
+/// The greatest depth of a node.
 const DEEPEST: u32 = 800;
 
-/// The most nodes of a tree.
+/// The greatest number of nodes of a tree.
 const MOST_NODES: u32 = 1_000_000;
 
 /// The greatest column number.
 const LAST_COLUMN: u32 = 4_095;
 
-/// The greatest size of the number of a split.
+/// The greatest absolute value of the cut of a split.
 const LARGEST_CUT: u64 = 1 << 24;
 
-/// For how many rows a certificate is tested.
+/// The number of rows for which a certificate is tested.
 const MOST_ROWS: u32 = 1_024;
 
 /// The limit that a certificate exceeds.
@@ -35,7 +35,7 @@ fn cert_limit(cert: &Cert, node: u32) -> Option<TreeLimit>
     }
 }
 
-/// The limit that the numbers of a split exceed.
+/// The limit that the column or the cut of a split exceeds.
 fn split_limit(col: u32, at: i64, node: u32) -> Option<TreeLimit>
     ensures { result ≡ own_limit node (split_node col at tt) }
 {
@@ -46,7 +46,7 @@ fn split_limit(col: u32, at: i64, node: u32) -> Option<TreeLimit>
     }
 }
 
-/// The first limit that one node exceeds, by its depth and its number.
+/// The first limit that one node exceeds, given its depth and its number.
 fn node_limit(tree: &Tree, depth: u32, node: u32) -> Option<TreeLimit>
     ensures { result ≡ limit_at node (depth, top (plain tree.now)) }
 {
@@ -62,7 +62,7 @@ fn node_limit(tree: &Tree, depth: u32, node: u32) -> Option<TreeLimit>
     }
 }
 
-/// The number after the nodes of a subtree, or the first limit that one of them exceeds. Goes no deeper than a limit allows.
+/// The number after the nodes of a subtree, or the first limit that one of them exceeds. The recursion ends at the greatest depth.
 fn pass(tree: &Tree, depth: u32, node: u32) -> Result<u32, TreeLimit>
     ensures { result ≡ passed_over limit_at node (nodes_from depth (plain tree.now)) }
 {
@@ -89,8 +89,8 @@ fn first_limit(tree: &Tree) -> Option<TreeLimit>
     }
 }
 
-/// The first limit that a tree exceeds, its nodes in preorder from 0, or none where the tree is within the limits. Of one node the
-/// depth is tested first, then the number of nodes, then its own numbers. Takes no memory.
+/// The first limit that a tree exceeds, in preorder with nodes numbered from 0; None where the tree is within the limits. At each node
+/// the depth is tested first, then the number of nodes, then the numbers of the node. Allocates nothing.
 pub fn tree_limits(tree: &Tree) -> Option<TreeLimit>
     ensures first { result ≡ tree_limit (plain tree.now) }
     ensures within { result ≡ None → IsTreeWithin (plain tree.now) }

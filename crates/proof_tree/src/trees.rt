@@ -1,8 +1,8 @@
 //! Proof trees.
 use ip_defs::Cert;
 
-/// A tree of splits with a certificate at each leaf. The left side of a split keeps the points whose number at column `col` is at most
-/// `at`, the right side the others. After the trees of branch and bound.
+/// A branch-and-bound tree with a certificate at each leaf. The left half of a split keeps the points with `x_col <= at`, the right half
+/// those with `x_col >= at + 1`.
 #[derive(Debug, Drop)]
 pub enum Tree {
     Leaf(Cert),

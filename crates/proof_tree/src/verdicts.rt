@@ -1,13 +1,13 @@
 //! Verdicts on proofs.
 use ip_defs::{Bound, Breach};
 
-/// What a check says of a proof.
+/// The result of checking a proof.
 #[derive(Clone, Copy, Debug, PartialEq, Eq)]
 pub enum Verdict {
-    /// The claim is proved; the cost is that of the claimed point, or none for a claim of emptiness.
+    /// The claim is proved; the cost is that of the claimed point, or None for the claim that the model is infeasible.
     Proved { cost: Option<i128> },
-    /// The claimed point breaks a column or a row.
+    /// The claimed point violates the bounds of a column or the sides of a row.
     NotFeasible(Breach),
-    /// The tree bounds less than is claimed; a claim of none is that of emptiness.
+    /// The bound of the tree is below the claimed cost; a claim of None is that of infeasibility.
     Short { bound: Bound, claim: Option<i128> },
 }

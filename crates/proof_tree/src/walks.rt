@@ -1,3 +1,4 @@
+//! The bound of a tree, by a walk that cuts one box in place.
 ghost use Rattle.std.specs.Prelude.{List, ℤ, ◌≡◌, length};
 ghost use Rattle.ip_defs.specs.Limits.{IsArea};
 ghost use Rattle.ip_defs.specs.Certificates.{IsAtMost};
@@ -25,8 +26,8 @@ fn lesser(first: Bound, second: Bound) -> Bound
     }
 }
 
-/// The bound of a subtree over an area, which is changed on the way and is as it was in the end. A half without a point is infinite,
-/// whatever its leaves are, so the walk leaves it out.
+/// The bound of a subtree over a box, which the walk changes and restores. The bound of a half without a point is infinite whatever its
+/// leaves are, so the walk skips that half.
 fn walk(model: &IntModel, tree: &Tree, area: &mut Area, scratch: &mut Scratch) -> Bound
     requires numbers { AreNumbersWithin (plain tree.now) }
     requires columns { FitsColumns (length model.now.columns) (plain tree.now) }
@@ -64,7 +65,7 @@ fn walk(model: &IntModel, tree: &Tree, area: &mut Area, scratch: &mut Scratch) -
     }
 }
 
-/// The bound of a tree by the walk from the box of the model, in an area that the walk changes.
+/// The bound of a tree, by the walk from the box of the model, in a box that the walk changes.
 fn bound_in(model: &IntModel, tree: &Tree, area: &mut Area, scratch: &mut Scratch) -> Bound
     requires limits { IsTreeWithin (plain tree.now) }
     requires fits { FitsModel model.now (plain tree.now) }
@@ -78,11 +79,12 @@ fn bound_in(model: &IntModel, tree: &Tree, area: &mut Area, scratch: &mut Scratc
     walk(model, tree, area, scratch)
 }
 
-/// The bound of a tree: the least bound of its leaves, each over the model's box cut by the splits above it. Each feasible point of the
-/// model costs at least it, and where it is infinite there is no such point, whatever made the tree and whatever model it was made for.
+/// The bound of a tree: the least bound of its leaves, each over the model's box cut by the splits above the leaf. Every feasible point of
+/// the model costs at least this bound, and if it is infinite there is no such point, whatever made the tree and for whatever model.
 ///
-/// The scratch may come from any model with as many columns: its area is set to the model's box first, and is that box again in the
-/// end. Takes no memory; the allocator stands in for the area while the walk cuts it. The walk is a recursion as deep as the tree.
+/// The scratch may come from any model with the same number of columns: its box is set to the model's box first, and is that box again
+/// at the end. Allocates nothing: the allocator makes the empty box that stands in while the walk has the scratch's. The recursion is as
+/// deep as the tree.
 pub fn tree_bound(alloc: Global, model: &IntModel, tree: &Tree, scratch: &mut Scratch) -> Bound
     requires limits { IsTreeWithin (plain tree.now) }
     requires fits { FitsModel model.now (plain tree.now) }

@@ -1,9 +1,14 @@
-//! Columns, rows and models from their numbers.
+//! Columns, rows and models from their numbers, and a test of boxes.
+ghost use Rattle.std.specs.Prelude.{IsTrue};
+ghost use Rattle.ip_defs.specs.Limits.{IsArea};
 
 use crate::SampleError;
-use ip_defs::{Coefs, Column, ColumnList, Memory, Name, Parts, Row, RowList};
+use ip_defs::{Area, Coefs, Column, ColumnList, Memory, Name, Parts, Row, RowList};
 use ip_model::{IntModel, make, well_shaped};
 use std::alloc::{Alloc, Global};
+
+/// The greatest absolute value of a bound of a column.
+const LARGEST_BOUND: u64 = 1 << 24;
 
 fn no_name(alloc: Global) -> Name {
     Name::new(String::new(alloc))
@@ -60,4 +65,13 @@ pub fn model_of(parts: Parts) -> Result<IntModel, SampleError> {
 /// The model of columns and rows, with the constant 0.
 pub fn model(alloc: Global, columns: Vec<Column>, rows: Vec<Row>) -> Result<IntModel, SampleError> {
     model_of(parts(alloc, 0, columns, rows))
+}
+
+/// Whether a box has one pair for each of `columns` columns, and no bound exceeds 2^24 in absolute value.
+pub fn is_box(area: &Area, columns: usize) -> bool
+    ensures { IsTrue result → IsArea columns area.now }
+{
+    area.as_slice().len() == columns
+        && area.as_slice().iter().all(|side| side.0.unsigned_abs() <= LARGEST_BOUND
+            && side.1.unsigned_abs() <= LARGEST_BOUND)
 }

@@ -9,7 +9,7 @@ mod errors;
 mod large;
 mod small;
 
-pub use builders::{column, model, model_of, parts, row};
+pub use builders::{column, is_box, model, model_of, parts, row};
 pub use errors::SampleError;
 pub use large::{at_every_limit, block_model, dense_model, wide_columns};
 pub use small::{

@@ -1,15 +1,15 @@
 -- A ray divided by the absolute value of its first number that is not 0.
-use Rattle.std.specs.Prelude.{◌≡◌, ℕ, suc, ◌^◌, ◌<◌, ◌≤◌, ◌==◌, if◌then◌else◌, List, [], ◌∷◌, length, map, Option, None, Some,
-    slice_index_or, pos, unsigned_abs}
+use Rattle.std.specs.Prelude.{◌≡◌, ℕ, suc, ◌^◌, ◌<◌, ◌≤◌, ◌==◌, if◌then◌else◌, List, [], ◌∷◌, length, map, Option, None, Some}
+use Rattle.std.specs.Prelude.{slice_index_or, pos, unsigned_abs}
 use Rattle.std.proofs.Common.{◌⊎◌}
 use Rattle.frac128.specs.Fractions.{Fraction}
 use Rattle.frac128.specs.Rationals.{Rational, of, absolute, quotient}
 use Rattle.dual_rays.specs.Certificates.{values}
 
 -- the absolute value of the first number that is not 0
-abbrev pub first_size : List Rational → Option Rational
-first_size [] = None
-first_size (p ∷ ps) = if unsigned_abs p.numerator == 0 then first_size ps else Some (absolute p)
+abbrev pub first_absolute : List Rational → Option Rational
+first_absolute [] = None
+first_absolute (p ∷ ps) = if unsigned_abs p.numerator == 0 then first_absolute ps else Some (absolute p)
 
 -- the numerator or the denominator has more than 127 bits
 abbrev pub IsWide : Rational → Type 0

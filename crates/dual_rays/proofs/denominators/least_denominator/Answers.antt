@@ -10,7 +10,7 @@ returns-in-None c =
     let xs = c.args.prices.now in
     let i = c.loop-price.price-index in
     let next = denominator-next xs i c.price-item.result c.denominator.result c.loop-price.q c.loop-price-test.true c.price-item.is
-            c.denominator.ensures c.loop-price.invariant.is in
+    c.denominator.ensures c.loop-price.invariant.is in
     let past = divisor_past (lcm c.denominator.result c.loop-price.q) (sym c.common.ensures ∙ c.in-None.is) in
     let grows = denominator-prefix xs (i + 1) in
     divisor_none (common_denominator (values xs)) (omega (arith, next))
@@ -22,7 +22,7 @@ loop-price-preserved c =
     let q = c.loop-price.q in
     let d = c.denominator.result in
     let next = denominator-next xs i c.price-item.result d q c.loop-price-test.true c.price-item.is c.denominator.ensures
-            c.loop-price.invariant.is in
+    c.loop-price.invariant.is in
     let within = divisor_within (lcm d q) c.in-Some.more (sym c.common.ensures ∙ c.in-Some.is) in
     let positive : 0 < d = subst (λ z. 0 < z) (sym c.denominator.ensures) (omega arith) in
     record {

@@ -9,16 +9,16 @@ pub returns-clause-meaning : goal.returns-clause-meaning
 returns-clause-meaning c =
     let xs = c.args.prices.now in
     of-answer (IsOfPrices xs) (certificate_of_prices xs) c.certificate.result (is-of-prices xs)
-        (rw c.as_slice.ensures at c.certificate.ensures)
+    (rw c.as_slice.ensures at c.certificate.ensures)
 
 pub returns-clause-bound : goal.returns-clause-bound
 returns-clause-bound c =
     let xs = c.args.prices.now in
     of-answer (BoundsByPrices xs) (certificate_of_prices xs) c.certificate.result (bounds-by-prices xs)
-        (rw c.as_slice.ensures at c.certificate.ensures)
+    (rw c.as_slice.ensures at c.certificate.ensures)
 
 pub returns-clause-none : goal.returns-clause-none
 returns-clause-none c =
     let xs = c.args.prices.now in
     of-no-answer (HasNoCertificate xs) (certificate_of_prices xs) c.certificate.result (no-certificate xs)
-        (rw c.as_slice.ensures at c.certificate.ensures)
+    (rw c.as_slice.ensures at c.certificate.ensures)

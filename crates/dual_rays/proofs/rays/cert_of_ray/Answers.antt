@@ -9,16 +9,16 @@ pub returns-clause-meaning : goal.returns-clause-meaning
 returns-clause-meaning c =
     let xs = c.args.ray.now in
     of-answer (IsOfRay xs) (certificate_of_ray xs) c.ray_certificate.result (is-of-ray xs)
-        (rw c.as_slice.ensures at c.ray_certificate.ensures)
+    (rw c.as_slice.ensures at c.ray_certificate.ensures)
 
 pub returns-clause-bound : goal.returns-clause-bound
 returns-clause-bound c =
     let xs = c.args.ray.now in
     of-answer (BoundsByRay xs) (certificate_of_ray xs) c.ray_certificate.result (bounds-by-ray xs)
-        (rw c.as_slice.ensures at c.ray_certificate.ensures)
+    (rw c.as_slice.ensures at c.ray_certificate.ensures)
 
 pub returns-clause-none : goal.returns-clause-none
 returns-clause-none c =
     let xs = c.args.ray.now in
     of-no-answer (HasNoRay xs) (certificate_of_ray xs) c.ray_certificate.result (no-ray xs)
-        (rw c.as_slice.ensures at c.ray_certificate.ensures)
+    (rw c.as_slice.ensures at c.ray_certificate.ensures)

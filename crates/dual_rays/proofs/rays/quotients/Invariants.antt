@@ -7,5 +7,5 @@ use Rattle.dual_rays.proofs.rays.quotients.Given as goal
 
 abbrev pub invariant-loop-number : goal.invariant-loop-number
 invariant-loop-number l = record {
-  divided : values l.quotients ≡ map (λ p. quotient p (value_of l.size)) (values (take l.number-index l.ray));
+  divided : values l.quotients ≡ map (λ p. quotient p (value_of l.divisor)) (values (take l.number-index l.ray));
 }

@@ -12,13 +12,13 @@ returns-in-None c = ap (λ y. Some (certificate 0 y)) (c.from_vec.ensures ∙ c.
 pub returns-in-None-2 : goal.returns-in-None-2
 returns-in-None-2 c =
     let xs = c.args.ray.now in
-    let s = value_of c.in-Some.size in
+    let s = value_of c.in-Some.divisor in
     wide-ray xs s (sym c.in-Some.ensures.value) (subst (AreQuotients (values xs) s) c.in-None-2.is c.in_ok-numbers.ensures)
 
 pub returns-in-Some-3 : goal.returns-in-Some-3
 returns-in-Some-3 c =
     let xs = c.args.ray.now in
-    let s = value_of c.in-Some.size in
+    let s = value_of c.in-Some.divisor in
     let divided = subst (AreQuotients (values xs) s) c.in-Some-2.is c.in_ok-numbers.ensures in
     ap without_divisor (sym c.in-Some-3.is ∙ c.in_ok-cert.ensures ∙ ap certificate_of_prices c.as_slice.ensures)
     ∙ unit-ray xs s (sym c.in-Some.ensures.value) c.in-Some-2.numbers divided
@@ -26,7 +26,7 @@ returns-in-Some-3 c =
 pub returns : goal.returns
 returns c =
     let xs = c.args.ray.now in
-    let s = value_of c.in-Some.size in
+    let s = value_of c.in-Some.divisor in
     let divided = subst (AreQuotients (values xs) s) c.in-Some-2.is c.in_ok-numbers.ensures in
     ap without_divisor (sym c.in-None-3.is ∙ c.in_ok-cert.ensures ∙ ap certificate_of_prices c.as_slice.ensures)
     ∙ unit-ray xs s (sym c.in-Some.ensures.value) c.in-Some-2.numbers divided

@@ -29,6 +29,7 @@ returns-then-other_rest-eq0-2 t c = nat_cmp_is (c.args.a * c.args.d) (c.args.c *
 pub returns : goal.returns
 returns t c =
     let h = rests c.args.a c.args.b c.args.c c.args.d c.requires.first c.requires.second (omega arith) in
-    let e : c.args.a * c.args.d + c.args.b * (c.args.c % c.args.d) ≡ c.args.c * c.args.b + c.args.d * (c.args.a % c.args.b) = omega arith in
+    let e : c.args.a * c.args.d + c.args.b * (c.args.c % c.args.d)
+    ≡ c.args.c * c.args.b + c.args.d * (c.args.a % c.args.b) = omega arith in
     c.compare.ensures ∙ same_order (c.args.a * c.args.d) (c.args.c * c.args.b) (c.args.d * (c.args.a % c.args.b))
-        (c.args.b * (c.args.c % c.args.d)) e
+    (c.args.b * (c.args.c % c.args.d)) e

@@ -10,4 +10,4 @@ returns-then-a-c-clause-exact c =
     let same : c.args.a.den ≡ c.args.c.den = search rules in
     let is : c.cmp.result ≡ int_cmp c.args.a.num c.args.c.num = search rules in
     times-order c.args.a.num c.args.c.num c.args.a.den c.cmp.result first.positive is
-        ∙ ap (λ d. int_cmp (c.args.a.num *ℤ d) (c.args.c.num *ℤ c.args.a.den)) same
+    ∙ ap (λ d. int_cmp (c.args.a.num *ℤ d) (c.args.c.num *ℤ c.args.a.den)) same

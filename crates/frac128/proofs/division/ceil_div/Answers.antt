@@ -7,5 +7,5 @@ use Rattle.frac128.proofs.division.ceil_div.Goals as goal
 pub returns-else-a-gt0-clause-least : goal.returns-else-a-gt0-clause-least
 returns-else-a-gt0-clause-least c =
     let is : to_z w128 (of_z w128 (int_div (to_z w128 (of_z w128 c.args.a)) (to_z w128 (of_z w128 c.args.b))))
-            ≡ ceiling_of c.args.a c.args.b = search rules in
+    ≡ ceiling_of c.args.a c.args.b = search rules in
     subst (λ (z : ℤ). ((z -ℤ pos 1) *ℤ c.args.b) <ℤ c.args.a) (sym is) (ceiling-least c.args.a c.args.b c.requires)

@@ -22,8 +22,8 @@ returns c =
     let positive : 0 < c.args.b = omega arith in
     let all = shifted-twos w128 c.args.a c.args.b (omega arith) positive (omega arith) (omega arith) in
     let is : c.odd_long_gcd.result * 2 ^ c.min.result ≡ gcd c.args.a c.args.b = ap (λ n. n * 2 ^ c.min.result) c.odd_long_gcd.ensures
-            ∙ ap (λ n. gcd (c.args.a / 2 ^ trailing_zeros w128 c.args.a) (c.args.b / 2 ^ trailing_zeros w128 c.args.b) * 2 ^ n)
-            c.min.ensures ∙ all in
+    ∙ ap (λ n. gcd (c.args.a / 2 ^ trailing_zeros w128 c.args.a) (c.args.b / 2 ^ trailing_zeros w128 c.args.b) * 2 ^ n)
+    c.min.ensures ∙ all in
     let small = gcd-small c.args.a c.args.b positive in
     omega arith
 

@@ -9,9 +9,9 @@ fraction_of-requires c =
     let first : IsFraction c.args.a.num c.args.a.den = search rules in
     let second : IsFraction c.args.c.num c.args.c.den = search rules in
     let numerator : within (int_div c.args.a.num (shared c.args.a.num c.args.c.den) *ℤ int_div c.args.c.num
-            (shared c.args.c.num c.args.a.den)) ≡ Some (to_z w128 (of_z w128 c.in-Some-Some.num)) = search rules in
+    (shared c.args.c.num c.args.a.den)) ≡ Some (to_z w128 (of_z w128 c.in-Some-Some.num)) = search rules in
     let under : within (int_div c.args.a.den (shared c.args.c.num c.args.a.den) *ℤ int_div c.args.c.den (shared c.args.a.num c.args.c.den))
-            ≡ Some (to_z w128 (of_z w128 c.in-Some-Some.den)) = search rules in
+    ≡ Some (to_z w128 (of_z w128 c.in-Some-Some.den)) = search rules in
     IsFraction-product c.args.a.num c.args.a.den c.args.c.num c.args.c.den first second _ _ numerator under
 
 pub returns-in-Some-Some : goal.returns-in-Some-Some

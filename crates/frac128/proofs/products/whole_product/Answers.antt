@@ -16,8 +16,8 @@ returns-in-Some c =
     let second : IsFraction c.args.c.num c.args.c.den = search rules in
     let is : within (c.args.a.num *ℤ c.args.c.num) ≡ Some (to_z w128 (of_z w128 c.in-Some.num)) = search rules in
     ap (λ (r : Fraction). Ok r) c.fraction_of.ensures.value
-        ∙ sym (whole-product c.args.a c.args.c first second c.requires.first c.requires.second
-        ∙ ap (λ z. fraction_where z (Some (pos 1))) is)
+    ∙ sym (whole-product c.args.a c.args.c first second c.requires.first c.requires.second
+    ∙ ap (λ z. fraction_where z (Some (pos 1))) is)
 
 pub returns-in-None : goal.returns-in-None
 returns-in-None c =

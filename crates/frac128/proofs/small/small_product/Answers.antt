@@ -9,11 +9,11 @@ fraction_of-requires c =
     let first : IsFraction c.args.a.num c.args.a.den = search rules in
     let second : IsFraction c.args.c.num c.args.c.den = search rules in
     let numerator : to_z w128 (of_z w128 c.word_product.result)
-            ≡ int_div c.args.a.num (shared c.args.a.num c.args.c.den) *ℤ int_div c.args.c.num (shared c.args.c.num c.args.a.den) =
-            search rules in
+    ≡ int_div c.args.a.num (shared c.args.a.num c.args.c.den) *ℤ int_div c.args.c.num (shared c.args.c.num c.args.a.den) =
+    search rules in
     let under : to_z w128 (of_z w128 c.word_product-2.result)
-            ≡ int_div c.args.a.den (shared c.args.c.num c.args.a.den) *ℤ int_div c.args.c.den (shared c.args.a.num c.args.c.den) =
-            search rules in
+    ≡ int_div c.args.a.den (shared c.args.c.num c.args.a.den) *ℤ int_div c.args.c.den (shared c.args.a.num c.args.c.den) =
+    search rules in
     small-product-fraction c.args.a c.args.c first second c.requires.first c.requires.second _ _ numerator under
 
 pub returns : goal.returns
@@ -21,10 +21,10 @@ returns c =
     let first : IsFraction c.args.a.num c.args.a.den = search rules in
     let second : IsFraction c.args.c.num c.args.c.den = search rules in
     let numerator : to_z w128 (of_z w128 c.word_product.result)
-            ≡ int_div c.args.a.num (shared c.args.a.num c.args.c.den) *ℤ int_div c.args.c.num (shared c.args.c.num c.args.a.den) =
-            search rules in
+    ≡ int_div c.args.a.num (shared c.args.a.num c.args.c.den) *ℤ int_div c.args.c.num (shared c.args.c.num c.args.a.den) =
+    search rules in
     let under : to_z w128 (of_z w128 c.word_product-2.result)
-            ≡ int_div c.args.a.den (shared c.args.c.num c.args.a.den) *ℤ int_div c.args.c.den (shared c.args.a.num c.args.c.den) =
-            search rules in
+    ≡ int_div c.args.a.den (shared c.args.c.num c.args.a.den) *ℤ int_div c.args.c.den (shared c.args.a.num c.args.c.den) =
+    search rules in
     ap (λ (r : Fraction). Ok r) c.fraction_of.ensures.value
-        ∙ sym (small-product-is c.args.a c.args.c first second c.requires.first c.requires.second _ _ numerator under)
+    ∙ sym (small-product-is c.args.a c.args.c first second c.requires.first c.requires.second _ _ numerator under)

@@ -10,12 +10,12 @@ total-sum-requires c =
     let first : IsFraction c.args.a.num c.args.a.den = search rules in
     let second : IsFraction c.args.c.num c.args.c.den = search rules in
     let left : to_z w128 (of_z w128 c.word_product.result) ≡ c.args.a.num *ℤ int_div c.args.c.den (shared c.args.a.den c.args.c.den) =
-            search rules in
+    search rules in
     let right : to_z w128 (of_z w128 c.word_product-2.result) ≡ c.args.c.num *ℤ int_div c.args.a.den (shared c.args.a.den c.args.c.den) =
-            search rules in
+    search rules in
     let sum = to_z w128 (of_z w128 c.word_product.result) +ℤ to_z w128 (of_z w128 c.word_product-2.result) in
     let numerator : sum ≡ c.args.a.num *ℤ int_div c.args.c.den (shared c.args.a.den c.args.c.den)
-            +ℤ c.args.c.num *ℤ int_div c.args.a.den (shared c.args.a.den c.args.c.den) = cc in
+    +ℤ c.args.c.num *ℤ int_div c.args.a.den (shared c.args.a.den c.args.c.den) = cc in
     fits_signed_from_abs w128 sum (small-sum-fits c.args.a c.args.c first second c.requires.first c.requires.second _ _ numerator refl)
 
 pub divided_by_word-requires-clause-positive : goal.divided_by_word-requires-clause-positive
@@ -23,7 +23,7 @@ divided_by_word-requires-clause-positive c =
     let first : IsFraction c.args.a.num c.args.a.den = search rules in
     let second : IsFraction c.args.c.num c.args.c.den = search rules in
     let under : to_z w128 (of_z w128 c.word_product-3.result) ≡ int_div c.args.a.den (shared c.args.a.den c.args.c.den) *ℤ c.args.c.den =
-            search rules in
+    search rules in
     small-sum-positive c.args.a c.args.c first second c.requires.first c.requires.second _ _ refl under
 
 pub divided_by_word-requires-clause-num_fits : goal.divided_by_word-requires-clause-num_fits
@@ -31,7 +31,7 @@ divided_by_word-requires-clause-num_fits c =
     let first : IsFraction c.args.a.num c.args.a.den = search rules in
     let second : IsFraction c.args.c.num c.args.c.den = search rules in
     let numerator : to_z w128 (of_z w128 c.total-sum.result) ≡ c.args.a.num *ℤ int_div c.args.c.den (shared c.args.a.den c.args.c.den)
-            +ℤ c.args.c.num *ℤ int_div c.args.a.den (shared c.args.a.den c.args.c.den) = search rules in
+    +ℤ c.args.c.num *ℤ int_div c.args.a.den (shared c.args.a.den c.args.c.den) = search rules in
     small-sum-fits c.args.a c.args.c first second c.requires.first c.requires.second _ _ numerator refl
 
 pub divided_by_word-requires-clause-factor : goal.divided_by_word-requires-clause-factor
@@ -39,11 +39,11 @@ divided_by_word-requires-clause-factor c =
     let first : IsFraction c.args.a.num c.args.a.den = search rules in
     let second : IsFraction c.args.c.num c.args.c.den = search rules in
     let numerator : to_z w128 (of_z w128 c.total-sum.result) ≡ c.args.a.num *ℤ int_div c.args.c.den (shared c.args.a.den c.args.c.den)
-            +ℤ c.args.c.num *ℤ int_div c.args.a.den (shared c.args.a.den c.args.c.den) = search rules in
+    +ℤ c.args.c.num *ℤ int_div c.args.a.den (shared c.args.a.den c.args.c.den) = search rules in
     let under : to_z w128 (of_z w128 c.word_product-3.result) ≡ int_div c.args.a.den (shared c.args.a.den c.args.c.den) *ℤ c.args.c.den =
-            search rules in
+    search rules in
     let factor : to_z w64 (of_z w64 c.shared_factor.result)
-            ≡ shared (to_z w128 (of_z w128 c.total-sum.result)) (shared c.args.a.den c.args.c.den) = search rules in
+    ≡ shared (to_z w128 (of_z w128 c.total-sum.result)) (shared c.args.a.den c.args.c.den) = search rules in
     factor ∙ small-sum-shared c.args.a c.args.c first second c.requires.first c.requires.second _ _ numerator under
 
 pub returns : goal.returns
@@ -51,8 +51,8 @@ returns c =
     let first : IsFraction c.args.a.num c.args.a.den = search rules in
     let second : IsFraction c.args.c.num c.args.c.den = search rules in
     let numerator : to_z w128 (of_z w128 c.total-sum.result) ≡ c.args.a.num *ℤ int_div c.args.c.den (shared c.args.a.den c.args.c.den)
-            +ℤ c.args.c.num *ℤ int_div c.args.a.den (shared c.args.a.den c.args.c.den) = search rules in
+    +ℤ c.args.c.num *ℤ int_div c.args.a.den (shared c.args.a.den c.args.c.den) = search rules in
     let under : to_z w128 (of_z w128 c.word_product-3.result) ≡ int_div c.args.a.den (shared c.args.a.den c.args.c.den) *ℤ c.args.c.den =
-            search rules in
+    search rules in
     ap (λ (r : Fraction). Ok r) c.divided_by_word.ensures ∙ sym (small-sum-is c.args.a c.args.c first second c.requires.first
-        c.requires.second _ _ numerator under)
+    c.requires.second _ _ numerator under)

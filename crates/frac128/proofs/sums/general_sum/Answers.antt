@@ -10,7 +10,7 @@ divided-requires-clause-positive c =
     let first : IsFraction c.args.a.num c.args.a.den = search rules in
     let second : IsFraction c.args.c.num c.args.c.den = search rules in
     let is : within (sum_den c.args.a.num c.args.a.den c.args.c.num c.args.c.den first second)
-            ≡ Some (to_z w128 (of_z w128 c.in-Some-Some-Some.den)) = search rules in
+    ≡ Some (to_z w128 (of_z w128 c.in-Some-Some-Some.den)) = search rules in
     subst (λ z. pos 0 <ℤ z) (sym (within-some _ _ is).0) (sum-positive c.args.a.num c.args.a.den c.args.c.num c.args.c.den first second)
 
 pub divided-requires-clause-num_fits : goal.divided-requires-clause-num_fits
@@ -24,37 +24,37 @@ divided-requires-clause-factor c =
     let first : IsFraction c.args.a.num c.args.a.den = search rules in
     let second : IsFraction c.args.c.num c.args.c.den = search rules in
     let left : within (c.args.a.num *ℤ int_div c.args.c.den (shared c.args.a.den c.args.c.den))
-            ≡ Some (to_z w128 (of_z w128 c.in-Some-Some-Some.left)) = search rules in
+    ≡ Some (to_z w128 (of_z w128 c.in-Some-Some-Some.left)) = search rules in
     let right : within (c.args.c.num *ℤ int_div c.args.a.den (shared c.args.a.den c.args.c.den))
-            ≡ Some (to_z w128 (of_z w128 c.in-Some-Some-Some.right)) = search rules in
+    ≡ Some (to_z w128 (of_z w128 c.in-Some-Some-Some.right)) = search rules in
     let num : within (to_z w128 (of_z w128 c.in-Some-Some-Some.left) +ℤ to_z w128 (of_z w128 c.in-Some-Some-Some.right))
-            ≡ Some (to_z w128 (of_z w128 c.in-Some.num)) = search rules in
+    ≡ Some (to_z w128 (of_z w128 c.in-Some.num)) = search rules in
     let den : within (int_div c.args.a.den (shared c.args.a.den c.args.c.den) *ℤ c.args.c.den)
-            ≡ Some (to_z w128 (of_z w128 c.in-Some-Some-Some.den)) = search rules in
+    ≡ Some (to_z w128 (of_z w128 c.in-Some-Some-Some.den)) = search rules in
     let factor : to_z w128 (of_z w128 c.shared.result) ≡ shared (to_z w128 (of_z w128 c.in-Some.num)) (shared c.args.a.den c.args.c.den) =
-            search rules in
+    search rules in
     factor ∙ sum-factor_within c.args.a c.args.c first second _ _ _ _ left right num den
 
 pub returns-in-Some : goal.returns-in-Some
 returns-in-Some c =
     let left : within (c.args.a.num *ℤ int_div c.args.c.den (shared c.args.a.den c.args.c.den))
-            ≡ Some (to_z w128 (of_z w128 c.in-Some-Some-Some.left)) = search rules in
+    ≡ Some (to_z w128 (of_z w128 c.in-Some-Some-Some.left)) = search rules in
     let right : within (c.args.c.num *ℤ int_div c.args.a.den (shared c.args.a.den c.args.c.den))
-            ≡ Some (to_z w128 (of_z w128 c.in-Some-Some-Some.right)) = search rules in
+    ≡ Some (to_z w128 (of_z w128 c.in-Some-Some-Some.right)) = search rules in
     let num : within (to_z w128 (of_z w128 c.in-Some-Some-Some.left) +ℤ to_z w128 (of_z w128 c.in-Some-Some-Some.right))
-            ≡ Some (to_z w128 (of_z w128 c.in-Some.num)) = search rules in
+    ≡ Some (to_z w128 (of_z w128 c.in-Some.num)) = search rules in
     let den : within (int_div c.args.a.den (shared c.args.a.den c.args.c.den) *ℤ c.args.c.den)
-            ≡ Some (to_z w128 (of_z w128 c.in-Some-Some-Some.den)) = search rules in
+    ≡ Some (to_z w128 (of_z w128 c.in-Some-Some-Some.den)) = search rules in
     ap (λ (r : Fraction). Ok r) c.divided.ensures.value ∙ sym (sum-made c.args.a c.args.c _ _ left right _ _ num den)
 
 pub returns-in-None : goal.returns-in-None
 returns-in-None c =
     let left : within (c.args.a.num *ℤ int_div c.args.c.den (shared c.args.a.den c.args.c.den))
-            ≡ Some (to_z w128 (of_z w128 c.in-Some-Some-Some.left)) = search rules in
+    ≡ Some (to_z w128 (of_z w128 c.in-Some-Some-Some.left)) = search rules in
     let right : within (c.args.c.num *ℤ int_div c.args.a.den (shared c.args.a.den c.args.c.den))
-            ≡ Some (to_z w128 (of_z w128 c.in-Some-Some-Some.right)) = search rules in
+    ≡ Some (to_z w128 (of_z w128 c.in-Some-Some-Some.right)) = search rules in
     let num : within (to_z w128 (of_z w128 c.in-Some-Some-Some.left) +ℤ to_z w128 (of_z w128 c.in-Some-Some-Some.right)) ≡ None =
-            search rules in
+    search rules in
     sym (sum-wide c.args.a c.args.c _ _ left right num)
 
 pub returns-in_default : goal.returns-in_default

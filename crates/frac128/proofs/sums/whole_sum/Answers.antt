@@ -16,7 +16,7 @@ returns-in-Some c =
     let second : IsFraction c.args.c.num c.args.c.den = search rules in
     let is : within (c.args.a.num +ℤ c.args.c.num) ≡ Some (to_z w128 (of_z w128 c.in-Some.num)) = search rules in
     ap (λ (r : Fraction). Ok r) c.fraction_of.ensures.value
-        ∙ sym (whole-sum c.args.a c.args.c first second c.requires.first c.requires.second _ is)
+    ∙ sym (whole-sum c.args.a c.args.c first second c.requires.first c.requires.second _ is)
 
 pub returns-in-None : goal.returns-in-None
 returns-in-None c =

@@ -22,7 +22,7 @@ loop-x-preserved c =
       same = ap (λ n. gcd (n / 2 ^ trailing_zeros w64 n) c.min-y.result) gap
           ∙ ap (gcd (abs_diff c.loop-x.x c.loop-x.y / 2 ^ trailing_zeros w64 (abs_diff c.loop-x.x c.loop-x.y))) lesser
           ∙ gcd-step w64 c.loop-x.x c.loop-x.y c.loop-x-test.true small other_small c.loop-x.invariant.first c.loop-x.invariant.second
-              ∙ c.loop-x.invariant.same;
+          ∙ c.loop-x.invariant.same;
     }
 
 pub returns : goal.returns

@@ -8,10 +8,10 @@ use Rattle.proof_tree.specs.Trees.{plain, bound_min, bound_over}
 use Rattle.proof_tree.proofs.TreeLaws.{bound_split}
 use Rattle.proof_tree.proofs.WalkLaws.{no_half, below_size, above_size, below_within, above_within, put_back}
 use Rattle.proof_tree.proofs.walks.+walk.Goals as goal
-use Rattle.proof_tree.proofs.walks.+walk.Goals.{In-Split, After-cut_below, After-cut_above, then-cut_below, else-cut_below, then-cut_above,
-    else-cut_above}
+use Rattle.proof_tree.proofs.walks.+walk.Goals.{In-Split, After-cut_below, After-cut_above, then-cut_below, else-cut_below}
+use Rattle.proof_tree.proofs.walks.+walk.Goals.{then-cut_above, else-cut_above}
 
--- ---- the area on the way
+-- ---- the box during the walk
 
 same_number : (t : ℕ) (c : In-Split t) → to_z w64 (of_z w64 c.in-Split.at) ≡ c.in-Split.at
 same_number t c = search rules
@@ -19,7 +19,7 @@ same_number t c = search rules
 is_below : (t : ℕ) (c : After-cut_below t) → c.cut_below.new.area ≡ below c.args.area.now c.in-Split.col c.in-Split.at
 is_below t c = rw (same_number t (goal.at.After-cut_below t c).In-Split) at c.cut_below.ensures.cut
 
--- the left half leaves it cut, and then its side is put back
+-- after the left half the box is still cut, and then its column is restored
 is_put_back : (t : ℕ) (c : After-cut_above t) → c.set.new.self ≡ c.args.area.now
 is_put_back t c =
     let cut = is_below t (goal.at.After-cut_above t c).After-cut_below in

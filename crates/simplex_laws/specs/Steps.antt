@@ -31,8 +31,9 @@ can_move T up v = allows up (position_at T.positions v) && not (is_fixed (variab
 
 -- the direction of a variable by a number's sign: up below 0 where it can rise, down above 0 where it can fall
 abbrev pub direction : Table → Rational → ℕ → Option Bool
-direction T p v = if lt_z p.numerator (pos 0) && can_move T true v then Some true else if lt_z (pos 0) p.numerator && can_move T false v
-    then Some false else None
+direction T p v =
+    if lt_z p.numerator (pos 0) && can_move T true v then Some true
+    else if lt_z (pos 0) p.numerator && can_move T false v then Some false else None
 
 -- ---- a basic variable outside its sides
 -- whether it has to rise, where a number is outside two sides
@@ -46,8 +47,9 @@ outside x (Some low) high = if is_below x (of low) then Some true else over_high
 
 -- the row of a basic variable that is outside its sides, and whether it has to rise
 abbrev pub infeasible : Table → ℕ → Option (ℕ × Bool)
-infeasible T v = option_and_then (λ i. option_map (λ up. (i, up)) (outside (value_number T i) (variable_at T.variables v).low
-    (variable_at T.variables v).high)) (position (λ w. w == v) T.basics)
+infeasible T v = option_and_then
+    (λ i. option_map (λ up. (i, up)) (outside (value_number T i) (variable_at T.variables v).low (variable_at T.variables v).high))
+    (position (λ w. w == v) T.basics)
 
 -- the side at which a variable leaves that moves up or down
 abbrev pub side_towards : Bool → Rest
@@ -56,8 +58,8 @@ side_towards false = Low
 
 -- the variable that enters to let the basic variable of a row rise or fall
 abbrev pub row_entering : Table → ℕ → Bool → Option ℕ
-row_entering T i up = first (λ v. option_map (λ up. v) (direction T (if up then number T i v else neg (number T i v)) v))
-    (length T.variables)
+row_entering T i up = first
+    (λ v. option_map (λ up. v) (direction T (if up then number T i v else neg (number T i v)) v)) (length T.variables)
 
 -- the row's basic variable leaves at the side that it broke
 abbrev pub restore : ℕ → Bool → Option ℕ → Next
@@ -67,8 +69,9 @@ restore i up (Some v) = Pivot i v (side_towards (not up))
 -- ---- a variable that lowers the cost
 -- the side towards which a basic variable moves, by its entry's sign, where v moves up or down
 abbrev pub side_met : Bool → Rational → Option Rest
-side_met up t = if lt_z t.numerator (pos 0) then Some (side_towards up) else if lt_z (pos 0) t.numerator then Some (side_towards (not up))
-    else None
+side_met up t =
+    if lt_z t.numerator (pos 0) then Some (side_towards up)
+    else if lt_z (pos 0) t.numerator then Some (side_towards (not up)) else None
 
 -- row i's basic variable blocks v at a side, where it has that side: how far v moves until then, and the pivot
 abbrev pub block_at : Table → ℕ → ℕ → Rest → Option (Rational × Next)

@@ -43,8 +43,8 @@ less_nonbasic_value x t (Some z) = less_product x t (whole z)
 
 -- the value of a row's basic variable: 0 less each entry times the value of its nonbasic variable, over the variables by number
 abbrev pub value : Table → ℕ → Result Fraction Wide
-value T i = after_steps (λ v x. less_nonbasic_value x (entry T.rows i v) (nonbasic_value (variable_at T.variables v)
-    (position_at T.positions v)))
+value T i = after_steps
+    (λ v x. less_nonbasic_value x (entry T.rows i v) (nonbasic_value (variable_at T.variables v) (position_at T.positions v)))
     (whole (pos 0)) (length T.variables)
 
 -- the cost of a variable

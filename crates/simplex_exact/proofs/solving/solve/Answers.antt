@@ -1,4 +1,4 @@
-use Rattle.std.proofs.Common.{arith, rules, ◌≡◌, ◌<◌, ◌+◌, ◌-◌, ◌∙◌, sym, ap, subst, length, List, Ok}
+use Rattle.std.proofs.Common.{arith, rules, ◌≡◌, ◌+◌, ◌-◌, ◌∙◌, sym, ap, subst, length, List, Ok}
 use Rattle.frac128.specs.Fractions.{Fraction}
 use Rattle.tableau.specs.Tables.{at}
 use Rattle.simplex_exact.specs.Answers.{IsLpAnswer}

@@ -7,7 +7,7 @@ use Rattle.std.proofs.Common.{refl, arith, ap, sym, ◌∙◌}
 use Rattle.std.proofs.lemmas.Bool.{ne_eqb}
 use Rattle.mps_defs.specs.Lists.{is_among, last_of, AreDistinct}
 use Rattle.ip_defs.specs.Lists.{when, Each}
-use Rattle.mps_defs.specs.CanonicalText.{Written, triple, columns_block}
+use Rattle.mps_defs.specs.CanonicalText.{Written, columns_block}
 use Rattle.mps_defs.specs.Records.{Line, items_of, is_marker, in_force, column_name, column_names, first_lines, field, bounds_on, item}
 use Rattle.mps_defs.specs.Records.{opening}
 use Rattle.mps_defs.specs.TextModels.{kind_is}

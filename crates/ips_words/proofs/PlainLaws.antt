@@ -90,3 +90,14 @@ options_more cs o v ws =
       by false true others false = refl
       by false false others true = refl
       by false false others false = refl
+
+-- words whose first two are an option and its value: a new choice or not, as t says
+pub options_step : {A : Type 0} (f : A → Word) (cs : List Choice) (xs : List A) (o v : A) (b t : Bool) → 2 ≤ length xs
+    → o ≡ get_or xs 0 o → v ≡ get_or xs 1 v
+    → b ≡ (is_choice cs (f o, f v) && not (is_among (f o) (map (λ p. p.0) (twos (map f (take (length xs - 2) (drop 2 xs)))))))
+    → b ≡ t → are_options cs (map f xs) ≡ (t && are_options cs (map f (take (length xs - 2) (drop 2 xs))))
+options_step f cs xs o v b t some first second new is =
+    let later = map f (take (length xs - 2) (drop 2 xs)) in
+    ap (are_options cs) (two_words f xs o v some first second)
+    ∙ options_more cs (f o) (f v) later
+    ∙ ap (λ u. u && are_options cs later) (sym new ∙ is)

@@ -7,7 +7,7 @@ use Rattle.std.proofs.Common.{refl, arith, ap, sym, ◌∙◌}
 use Rattle.std.proofs.lemmas.Bool.{ne_eqb}
 use Rattle.mps_defs.specs.Lists.{is_among, last_of, AreDistinct}
 use Rattle.ip_defs.specs.Lists.{when, Each}
-use Rattle.mps_defs.specs.CanonicalText.{Written, triple, columns_block}
+use Rattle.mps_defs.specs.CanonicalText.{Written, columns_block}
 use Rattle.mps_defs.specs.Records.{Line, items_of, is_marker, in_force, column_name, column_names, first_lines, field, bounds_on, item}
 use Rattle.mps_defs.specs.Records.{opening}
 use Rattle.mps_defs.specs.TextModels.{kind_is}
@@ -21,7 +21,7 @@ use Rattle.text_laws.proofs.SectionLaws.{after_columns, after_right_sides, after
 use Rattle.text_laws.proofs.CanonicalLaws.{sections_of, are_sections}
 use Rattle.text_laws.proofs.ReadableLaws.{IsProgramText}
 use Rattle.text_laws.proofs.EntryReadLaws.{AreTriples}
-use Rattle.text_laws.proofs.RecordReadLaws.{blocks_of, blocks_triples}
+use Rattle.text_laws.proofs.RecordReadLaws.{blocks_of, blocks_triples, first_mark, last_mark}
 use Rattle.text_laws.proofs.NameReadLaws.{names_read}
 use Rattle.text_laws.proofs.IntegerReadLaws.{begins_whole}
 use Rattle.ip_defs.proofs.TextLaws.{text_turned}
@@ -67,9 +67,6 @@ front m = opening 1 (codes "NAME" ∷ []) (codes "NAME") ∷ opening 2 (codes "R
 abbrev block_part : Parts → List Line
 block_part m = lines_from (suc (suc (row_end m))) (codes "COLUMNS") (blocks_of m)
 
-abbrev last_mark : Written
-last_mark = triple (codes "M") (codes "'MARKER'") (codes "'INTEND'")
-
 abbrev column_end : Parts → ℕ
 column_end m = number_after (suc (suc (row_end m))) (blocks_of m)
 
@@ -79,8 +76,8 @@ rest m = lines_from (column_end m) (codes "COLUMNS") (last_mark ∷ after_column
 lines_cut : (m : Parts) → IsProgramText m → (length m.columns == 0) ≡ false → lines_in (sections_of m) ≡ front m ++ (block_part m ++ rest m)
 lines_cut m h some =
     let s = sections_of m in
-    let block : columns_block m ≡ triple (codes "M") (codes "'MARKER'") (codes "'INTORG'") ∷ (blocks_of m ++ last_mark ∷ []) =
-    ap (λ t. if t then [] else triple (codes "M") (codes "'MARKER'") (codes "'INTORG'") ∷ (blocks_of m ++ last_mark ∷ [])) some in
+    let block : columns_block m ≡ first_mark ∷ (blocks_of m ++ last_mark ∷ []) =
+    ap (λ t. if t then [] else first_mark ∷ (blocks_of m ++ last_mark ∷ [])) some in
     ap (λ k. opening 1 (codes "NAME" ∷ []) (codes "NAME") ∷ opening 2 (codes "ROWS" ∷ []) (codes "ROWS") ∷ k)
     (items_first 3 (codes "ROWS") s.rows (after_rows s) ((are_sections m).rows)
     ∙ ap (λ k. row_part m ++ opening (row_end m) (codes "COLUMNS" ∷ []) (codes "COLUMNS") ∷ lines_from (suc (row_end m)) (codes "COLUMNS")

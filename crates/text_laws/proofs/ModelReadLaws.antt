@@ -1,8 +1,7 @@
 -- The model of a canonical text is the program that it was written of.
-use Rattle.std.specs.Prelude.{◌≡◌, ℕ, zero, suc, ◌+◌, ◌==◌, true, false, ◌&&◌, not, if◌then◌else◌, List, [], ◌∷◌, ◌++◌, length, map}
+use Rattle.std.specs.Prelude.{◌≡◌, ℕ, zero, suc, ◌+◌, ◌==◌, false, not, if◌then◌else◌, List, [], ◌∷◌, ◌++◌, length, map}
 use Rattle.std.specs.Prelude.{filter}
 use Rattle.std.specs.Prelude.{flat_map, find, Option, None, Some, option_map, unwrap_or, slice_get, bytes_eq, codes, ℤ, pos, negsuc, neg_ℤ}
-use Rattle.std.specs.List.{list_any, list_all}
 use Rattle.std.specs.Option.{option_map_or, option_or}
 use Rattle.std.specs.Ordering.{int_eq}
 use Rattle.std.proofs.Common.{refl, arith, ap, sym, ◌∙◌, subst}
@@ -10,7 +9,6 @@ use Rattle.std.proofs.lemmas.Int.{ints}
 use Rattle.mps_defs.specs.Lists.{is_among}
 use Rattle.mps_defs.specs.Numbers.{decimal_text}
 use Rattle.mps_defs.specs.CanonicalText.{kind_text, right_side, rhs_line, range_line, constant_line, value_text, canonical_text}
-use Rattle.mps_defs.specs.CanonicalText.{is_printable, is_printable_name}
 use Rattle.ip_defs.specs.Program.{is_crossed}
 use Rattle.mps_defs.specs.Records.{kept_entries, column_names, row_lines, row_kind, row_name, is_free}
 use Rattle.mps_defs.specs.Faults.{model_of}
@@ -35,7 +33,7 @@ use Rattle.text_laws.proofs.BoundReadLaws.{lower_read, upper_read}
 use Rattle.text_laws.proofs.SideReadLaws.{AreOfRow, none_for, none_of, own_of, rhs_bare, range_bare, rhs_own, range_own, sides_read}
 use Rattle.text_laws.proofs.SideReadLaws.{when_row, amount_for, amount_number}
 use Rattle.text_laws.proofs.DecimalReadLaws.{flat_flat, coef_decimals, cost_decimals_read, rhs_decimals, range_decimals, constant_decimals}
-use Rattle.ip_defs.proofs.BoolLaws.{both_true, left_false, right_false}
+use Rattle.ip_defs.proofs.BoolLaws.{left_false, right_false}
 use Rattle.ip_defs.proofs.ListLaws.{each_get, or_none}
 use Rattle.std.proofs.lemmas.List.{append-nil, map-append}
 use Rattle.ip_defs.specs.Lists.{Each}
@@ -43,7 +41,6 @@ use Rattle.mps_defs.proofs.PlaceLaws.{apart_turned, not_at}
 use Rattle.mps_defs.proofs.ListLaws.{get_map, map_same, fails_at}
 use Rattle.mps_defs.proofs.NumberLaws.{largest-append}
 use Rattle.std.proofs.lemmas.Simd.{map-map}
-use Rattle.std.proofs.lemmas.Bool.{not-true}
 
 pub each_apart : (m : Parts) (rs : List Row) → is_among m.objective (map (λ r. r.name) rs) ≡ false → Each (λ r. IsApart m r.name) rs
 each_apart m [] e = tt

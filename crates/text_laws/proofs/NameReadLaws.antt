@@ -19,7 +19,7 @@ use Rattle.text_laws.proofs.SectionLaws.{lines_in, columns_are, columns_at, new_
 use Rattle.text_laws.proofs.CanonicalLaws.{sections_of, are_sections}
 use Rattle.text_laws.proofs.ReadableLaws.{IsProgramText}
 use Rattle.text_laws.proofs.EntryReadLaws.{BareEntry, listed, AreTriples, listed_append}
-use Rattle.text_laws.proofs.RecordReadLaws.{blocks_of, blocks_triples}
+use Rattle.text_laws.proofs.RecordReadLaws.{first_mark, last_mark, blocks_of, blocks_triples}
 use Rattle.text_laws.proofs.CoefReadLaws.{bare_from, block_bare}
 use Rattle.ip_defs.proofs.BoolLaws.{left_false, right_false}
 use Rattle.std.proofs.lemmas.List.{append-nil, append_assoc, map-append}
@@ -38,28 +38,23 @@ lines_bare m h =
     first : ℕ
     first = columns_at (sections_of m)
 
-    start : Written
-    start = triple (codes "M") (codes "'MARKER'") (codes "'INTORG'")
-
-    last : Written
-    last = triple (codes "M") (codes "'MARKER'") (codes "'INTEND'")
-
     plain : ℕ → List Written → List (List ℕ)
     plain n ds = map column_name (filter (λ l. not (is_marker l)) (lines_from n (codes "COLUMNS") ds))
 
     after : (n : ℕ) (ds : List Written) → AreTriples ds
-        → map column_name (filter (λ l. not (is_marker l)) (lines_from n (codes "COLUMNS") (ds ++ last ∷ []))) ≡ owners (flat_map listed ds)
+        → map column_name (filter (λ l. not (is_marker l)) (lines_from n (codes "COLUMNS") (ds ++ last_mark ∷ [])))
+        ≡ owners (flat_map listed ds)
     after n [] t = refl
     after n (d ∷ ds) t = two d ds t (after (suc n) ds t.1)
       where
         two : (e : Written) (es : List Written) → AreTriples (e ∷ es)
-            → map column_name (filter (λ l. not (is_marker l)) (lines_from (suc n) (codes "COLUMNS") (es ++ last ∷ [])))
+            → map column_name (filter (λ l. not (is_marker l)) (lines_from (suc n) (codes "COLUMNS") (es ++ last_mark ∷ [])))
             ≡ owners (flat_map listed es)
-            → map column_name (filter (λ l. not (is_marker l)) (lines_from n (codes "COLUMNS") (e ∷ (es ++ last ∷ []))))
+            → map column_name (filter (λ l. not (is_marker l)) (lines_from n (codes "COLUMNS") (e ∷ (es ++ last_mark ∷ []))))
             ≡ owners (flat_map listed (e ∷ es))
         two (true, a ∷ b ∷ c ∷ []) es k rest =
             let l : Line = record { number = n; is_item = true; section = codes "COLUMNS"; fields = a ∷ b ∷ c ∷ [] } in
-            let later = filter (λ y. not (is_marker y)) (lines_from (suc n) (codes "COLUMNS") (es ++ last ∷ [])) in
+            let later = filter (λ y. not (is_marker y)) (lines_from (suc n) (codes "COLUMNS") (es ++ last_mark ∷ [])) in
             ap (λ u. map column_name (cond (not u) (l ∷ later) later)) k.0 ∙ ap (λ y. a ∷ y) rest
         two (true, a ∷ b ∷ c ∷ d' ∷ fs) es k rest = absurd k.0
         two (true, a ∷ b ∷ []) es k rest = absurd k.0
@@ -69,14 +64,14 @@ lines_bare m h =
 
     by : (cs : List Column)
         → map column_name (filter (λ l. not (is_marker l)) (lines_from first (codes "COLUMNS") (if length cs == 0 then []
-        else start ∷ flat_map (column_block m) (enumerate_from 0 cs) ++ last ∷ [])))
+        else first_mark ∷ flat_map (column_block m) (enumerate_from 0 cs) ++ last_mark ∷ [])))
         ≡ owners (flat_map listed (flat_map (column_block m) (enumerate_from 0 cs)))
     by [] = refl
     by (c ∷ cs) =
         ap (λ t. map column_name (filter (λ l. not (is_marker l))
         (lines_from first (codes "COLUMNS")
-        (if t then [] else start ∷ flat_map (column_block m)
-        (enumerate_from 0 (c ∷ cs)) ++ last ∷ [])))) (ne_eqb (length (c ∷ cs)) 0 (λ e. omega arith))
+        (if t then [] else first_mark ∷ flat_map (column_block m)
+        (enumerate_from 0 (c ∷ cs)) ++ last_mark ∷ [])))) (ne_eqb (length (c ∷ cs)) 0 (λ e. omega arith))
         ∙ after (suc first) (flat_map (column_block m) (enumerate_from 0 (c ∷ cs))) (blocks_triples m h (enumerate_from 0 (c ∷ cs)))
 
 abbrev pub AreOwned : List ℕ → List BareEntry → Type 0

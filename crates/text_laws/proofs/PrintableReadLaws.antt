@@ -1,33 +1,30 @@
 -- A model that is read of a text without a fault is printable but for a column named 'MARKER' and a carriage return inside a name: its
 -- rows are not crossed, and its names are fields, which are not empty and have no blank, tab or line feed.
 use Rattle.std.specs.Prelude.{◌≡◌, ℕ, ◌==◌, nat_le, ◌-◌, Bool, true, false, ◌&&◌, ◌||◌, not, cond, if◌then◌else◌, List, [], ◌∷◌, ◌++◌}
-use Rattle.std.specs.Prelude.{length, take, map, filter, find, Option, None, Some, option_map, unwrap_or, slice_index_or, bytes_eq, codes}
-use Rattle.std.specs.Prelude.{zero, suc, nat_eq}
+use Rattle.std.specs.Prelude.{length, take, map, option_map, unwrap_or, slice_index_or, bytes_eq, codes}
+use Rattle.std.specs.Prelude.{zero, suc}
 use Rattle.std.specs.List.{slice_split, onto_first, list_any, list_all, enumerate_from}
 use Rattle.std.proofs.Common.{refl, arith, ap, sym, ◌∙◌, subst}
-use Rattle.std.proofs.lemmas.Bool.{not-false, eqb-true, ne_eqb}
+use Rattle.std.proofs.lemmas.Bool.{eqb-true, ne_eqb}
 use Rattle.std.proofs.lemmas.List.Folds.{list_any-append}
 use Rattle.std.proofs.lemmas.List.Splits.{slice_split-cons_yes, slice_split-cons_no}
 use Rattle.std.proofs.lemmas.Slice.Eq.{bytes_eq-Decides}
-use Rattle.ip_defs.specs.Lists.{when, Each}
-use Rattle.ip_defs.specs.Program.{is_crossed}
+use Rattle.ip_defs.specs.Lists.{Each}
 use Rattle.ip_defs.specs.declared.programs.Column.{Column}
 use Rattle.ip_defs.specs.declared.programs.Row.{Row}
 use Rattle.ip_defs.specs.declared.programs.Parts.{Parts}
 use Rattle.ip_defs.proofs.BoolLaws.{left_false, right_false, left_true}
-use Rattle.ip_defs.proofs.ListLaws.{each_weaker, each_numbered, none_append, none_when}
+use Rattle.ip_defs.proofs.ListLaws.{each_weaker, each_numbered, none_append}
 use Rattle.ip_defs.proofs.TextLaws.{text_turned}
 use Rattle.mps_defs.specs.Lists.{is_among, with_earlier, through_first}
 use Rattle.mps_defs.specs.Records.{Line, is_line_end, is_blank, without_return, fields_of, is_read, numbered, is_end_line, line_of}
 use Rattle.mps_defs.specs.Records.{lines_of}
-use Rattle.mps_defs.specs.Records.{field, items_of, words_of, row_kind, row_name, row_lines, row_names, is_free, objective, column_name}
+use Rattle.mps_defs.specs.Records.{row_name, row_lines, is_free, column_name}
 use Rattle.mps_defs.specs.Records.{column_names, first_lines, is_new_column}
-use Rattle.mps_defs.specs.CanonicalText.{is_separator, is_printable_name, is_printable}
-use Rattle.mps_defs.specs.Faults.{line_faults, faults_after, mps_fault, model_of}
-use Rattle.mps_defs.specs.declared.reading.How.{How}
-use Rattle.mps_defs.specs.declared.reading.MpsError.TheVariants.{SectionOrder, FieldCount, RowKind, TwiceRow, Marker}
+use Rattle.mps_defs.specs.CanonicalText.{is_separator, is_printable_name}
+use Rattle.mps_defs.specs.Faults.{line_faults, faults_after, model_of}
 use Rattle.mps_defs.proofs.UncrossedLaws.{no_row_crossed}
-use Rattle.text_laws.specs.ReadBack.{has_return, program_names, column_names_of, ModelsReadArePrintable}
+use Rattle.text_laws.specs.ReadBack.{has_return, ModelsReadArePrintable}
 use Rattle.text_laws.proofs.EachLaws.{each_filter, each_kept, each_of_map, each_through, each_those}
 use Rattle.text_laws.proofs.DistinctReadLaws.{row_line}
 use Rattle.text_laws.proofs.ListLaws.{each_both}

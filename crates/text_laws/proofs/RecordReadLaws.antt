@@ -130,6 +130,13 @@ blocks_triples m h xs =
     any [] = tt
     any (y ∷ ys) = (tt, any ys)
 
+-- the two marker lines
+abbrev pub first_mark : Written
+first_mark = triple (codes "M") (codes "'MARKER'") (codes "'INTORG'")
+
+abbrev pub last_mark : Written
+last_mark = triple (codes "M") (codes "'MARKER'") (codes "'INTEND'")
+
 -- what the entries of COLUMNS are
 pub columns_bare : (m : Parts) → IsProgramText m
     → map bare (all_entries (codes "COLUMNS") (lines_in (sections_of m))) ≡ flat_map listed (blocks_of m)
@@ -138,23 +145,17 @@ columns_bare m h = ap (λ ls. map bare (flat_map entries_of ls)) (columns_are (s
     first : ℕ
     first = columns_at (sections_of m)
 
-    start : Written
-    start = triple (codes "M") (codes "'MARKER'") (codes "'INTORG'")
-
-    last : Written
-    last = triple (codes "M") (codes "'MARKER'") (codes "'INTEND'")
-
     after : (n : ℕ) (ds : List Written) → AreTriples ds
-        → map bare (flat_map entries_of (lines_from n (codes "COLUMNS") (ds ++ last ∷ []))) ≡ flat_map listed ds
+        → map bare (flat_map entries_of (lines_from n (codes "COLUMNS") (ds ++ last_mark ∷ []))) ≡ flat_map listed ds
     after n [] t = refl
     after n (d ∷ ds) t = two d ds t (after (suc n) ds t.1)
       where
         two : (e : Written) (es : List Written) → AreTriples (e ∷ es)
-            → map bare (flat_map entries_of (lines_from (suc n) (codes "COLUMNS") (es ++ last ∷ []))) ≡ flat_map listed es
-            → map bare (flat_map entries_of (lines_from n (codes "COLUMNS") (e ∷ (es ++ last ∷ [])))) ≡ flat_map listed (e ∷ es)
+            → map bare (flat_map entries_of (lines_from (suc n) (codes "COLUMNS") (es ++ last_mark ∷ []))) ≡ flat_map listed es
+            → map bare (flat_map entries_of (lines_from n (codes "COLUMNS") (e ∷ (es ++ last_mark ∷ [])))) ≡ flat_map listed (e ∷ es)
         two (true, a ∷ b ∷ c ∷ []) es k rest =
             ap (λ u. map bare ((if u then [] else record { line = n; owner = a; row = b; text = c } ∷ [])
-            ++ flat_map entries_of (lines_from (suc n) (codes "COLUMNS") (es ++ last ∷ [])))) k.0
+            ++ flat_map entries_of (lines_from (suc n) (codes "COLUMNS") (es ++ last_mark ∷ [])))) k.0
             ∙ ap (λ l. record { owner = a; row = b; text = c } ∷ l) rest
         two (true, a ∷ b ∷ c ∷ d' ∷ fs) es k rest = absurd k.0
         two (true, a ∷ b ∷ []) es k rest = absurd k.0
@@ -164,14 +165,14 @@ columns_bare m h = ap (λ ls. map bare (flat_map entries_of ls)) (columns_are (s
 
     by : (cs : List Column)
         → map bare (flat_map entries_of (lines_from first (codes "COLUMNS") (if length cs == 0 then []
-        else start ∷ flat_map (column_block m) (enumerate_from 0 cs) ++ last ∷ [])))
+        else first_mark ∷ flat_map (column_block m) (enumerate_from 0 cs) ++ last_mark ∷ [])))
         ≡ flat_map listed (flat_map (column_block m) (enumerate_from 0 cs))
     by [] = refl
     by (c ∷ cs) =
         ap (λ t. map bare (flat_map entries_of
         (lines_from first (codes "COLUMNS")
-        (if t then [] else start ∷ flat_map (column_block m)
-        (enumerate_from 0 (c ∷ cs)) ++ last ∷ [])))) (ne_eqb (length (c ∷ cs)) 0 (λ e. omega arith))
+        (if t then [] else first_mark ∷ flat_map (column_block m)
+        (enumerate_from 0 (c ∷ cs)) ++ last_mark ∷ [])))) (ne_eqb (length (c ∷ cs)) 0 (λ e. omega arith))
         ∙ after (suc first) (flat_map (column_block m) (enumerate_from 0 (c ∷ cs))) (blocks_triples m h (enumerate_from 0 (c ∷ cs)))
 
 -- ---- kept entries

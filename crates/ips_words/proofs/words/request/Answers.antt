@@ -8,30 +8,24 @@ use Rattle.ips_words.proofs.words.request.Goals as goal
 
 pub request_by-requires-clause-limits : goal.request_by-requires-clause-limits
 request_by-requires-clause-limits c =
-    let command = c.in-Some.command in
-    let words = c.args.words.now in
-    let plain = plain_words string_bytes words command c.are_plain.result c.are_plain.ensures c.if-not-are_plain.false in
-    limits_read command (map string_bytes words) (found_of c.in-Ok.matches) plain c.in-Ok.ensures
+    limits_read c.in-Some.command (map string_bytes c.args.words.now) (found_of c.in-Ok.matches)
+    (plain_words string_bytes c.args.words.now c.in-Some.command _ c.are_plain.ensures c.if-not-are_plain.false) c.in-Ok.ensures
 
 pub request_by-requires-clause-reading : goal.request_by-requires-clause-reading
 request_by-requires-clause-reading c =
-    let command = c.in-Some.command in
-    let words = c.args.words.now in
-    let plain = plain_words string_bytes words command c.are_plain.result c.are_plain.ensures c.if-not-are_plain.false in
-    reading_read command (map string_bytes words) (found_of c.in-Ok.matches) plain c.in-Ok.ensures
+    reading_read c.in-Some.command (map string_bytes c.args.words.now) (found_of c.in-Ok.matches)
+    (plain_words string_bytes c.args.words.now c.in-Some.command _ c.are_plain.ensures c.if-not-are_plain.false) c.in-Ok.ensures
 
 pub request_by-requires-clause-number : goal.request_by-requires-clause-number
 request_by-requires-clause-number c =
-    let command = c.in-Some.command in
-    let words = c.args.words.now in
-    let plain = plain_words string_bytes words command c.are_plain.result c.are_plain.ensures c.if-not-are_plain.false in
-    number_read command (map string_bytes words) (found_of c.in-Ok.matches) plain c.in-Ok.ensures
+    number_read c.in-Some.command (map string_bytes c.args.words.now) (found_of c.in-Ok.matches)
+    (plain_words string_bytes c.args.words.now c.in-Some.command _ c.are_plain.ensures c.if-not-are_plain.false) c.in-Ok.ensures
 
 pub returns-in-Ok-request_by-clause-request : goal.returns-in-Ok-request_by-clause-request
 returns-in-Ok-request_by-clause-request c =
     let command = c.in-Some.command in
     let words = c.args.words.now in
-    let plain = plain_words string_bytes words command c.are_plain.result c.are_plain.ensures c.if-not-are_plain.false in
+    let plain = plain_words string_bytes words command _ c.are_plain.ensures c.if-not-are_plain.false in
     let named = sym (ap (option_map command_row) c.in-Some.is) ∙ c.named.ensures ∙ ap command_named c.as_str.ensures.value in
     let read = same_request command (map string_bytes words) (found_of c.in-Ok.matches) plain c.in-Ok.ensures in
     request_is string_bytes words c.first-item.result command c.in-len1-up.len_at_least c.first-item.is named plain
@@ -39,16 +33,10 @@ returns-in-Ok-request_by-clause-request c =
 
 pub returns-in-Ok-request_by-clause-ranges : goal.returns-in-Ok-request_by-clause-ranges
 returns-in-Ok-request_by-clause-ranges c =
-    let command = c.in-Some.command in
-    let words = c.args.words.now in
-    let plain = plain_words string_bytes words command c.are_plain.result c.are_plain.ensures c.if-not-are_plain.false in
-    let read = same_request command (map string_bytes words) (found_of c.in-Ok.matches) plain c.in-Ok.ensures in
-    rw (c.in-Ok-request_by.ensures ∙ read) (is_in_range command (drop 1 (map string_bytes words)) plain)
+    let plain = plain_words string_bytes c.args.words.now c.in-Some.command _ c.are_plain.ensures c.if-not-are_plain.false in
+    rw (c.in-Ok-request_by.ensures ∙ same_request c.in-Some.command _ (found_of c.in-Ok.matches) plain c.in-Ok.ensures) (is_in_range c.in-Some.command _ plain)
 
 pub returns-in-Ok-request_by-clause-built : goal.returns-in-Ok-request_by-clause-built
 returns-in-Ok-request_by-clause-built c =
-    let command = c.in-Some.command in
-    let words = c.args.words.now in
-    let plain = plain_words string_bytes words command c.are_plain.result c.are_plain.ensures c.if-not-are_plain.false in
-    let read = same_request command (map string_bytes words) (found_of c.in-Ok.matches) plain c.in-Ok.ensures in
-    rw (c.in-Ok-request_by.ensures ∙ read) (is_request_built command (drop 1 (map string_bytes words)) plain)
+    let plain = plain_words string_bytes c.args.words.now c.in-Some.command _ c.are_plain.ensures c.if-not-are_plain.false in
+    rw (c.in-Ok-request_by.ensures ∙ same_request c.in-Some.command _ (found_of c.in-Ok.matches) plain c.in-Ok.ensures) (is_request_built c.in-Some.command _ plain)

@@ -1,6 +1,6 @@
 -- Files by name, and what the outside of a run shows of its shelf of files and its sink of output. A table of files, the names that
 -- were begun and the bytes taken may be unknown, before a call or after it.
-use Rattle.std.specs.Prelude.{◌≡◌, ℕ, ◌++◌, ◌∷◌, [], false, List, find, take, Option, Some, option_map, bytes_eq}
+use Rattle.std.specs.Prelude.{◌≡◌, ℕ, ◌++◌, false, List, find, take, Option, Some, option_map, bytes_eq}
 use Rattle.std.specs.Option.{ForSome}
 
 -- a table of files: names with their bytes

@@ -1,11 +1,10 @@
 -- Files that are read agree with the table that is known, one after another.
 use Rattle.std.specs.Prelude.{◌≡◌, ℕ, ◌+◌, ◌<◌, List, [], ◌∷◌, length, replicate, Option, Some, None}
-use Rattle.std.specs.Option.{MatchOption}
-use Rattle.std.proofs.Common.{refl, arith, sym, ◌∙◌}
+use Rattle.std.proofs.Common.{refl, arith, sym}
 use Rattle.std.proofs.lemmas.List.{length-replicate}
 use Rattle.ips_io.specs.Files.{Files, file_of, Keeps}
 use Rattle.ips_io.specs.Shelves.{IsTooLong, BecomesUnknown, IsWhole}
-use Rattle.ipsens_core.specs.Reads.{Reads, Agrees}
+use Rattle.ipsens_core.specs.Reads.{Agrees}
 
 -- one file that was read whole
 pub one_read : (before after : Option Files) (name bytes : List ℕ) → Keeps before after → BecomesUnknown before after name →

@@ -32,7 +32,7 @@ use Rattle.std.proofs.lemmas.Bool.Decides.{nat_tests}
 use Rattle.std.proofs.Math.Seq.{take-length}
 use Rattle.ip_defs.specs.declared.programs.Parts.{Parts}
 use Rattle.ips_io.specs.Causes.{Rose}
-use Rattle.ips_io.specs.Files.{Began, BeganFirst, Files, Keeps, Names, Takes}
+use Rattle.ips_io.specs.Files.{Began, BeganFirst, Files, Keeps, Names}
 use Rattle.ips_words.specs.Commands.{Word, request_of}
 use Rattle.ips_words.specs.Requests.{usage_text}
 use Rattle.ips_words.specs.declared.requests.Request.{Request}
@@ -43,7 +43,7 @@ use Rattle.mps_defs.specs.declared.reading.MpsError.TheVariants as Out
 use Rattle.ipsens_core.specs.Answers.{Answer, says, ReadsNoMore}
 use Rattle.ipsens_core.specs.Models.{ReadsModel, longest_model, refuses_model}
 use Rattle.ipsens_core.specs.Reads.{Reads, Agrees}
-use Rattle.ipsens_core.specs.RefusalTexts.{refusal_text, refused_model}
+use Rattle.ipsens_core.specs.RefusalTexts.{refusal_text}
 use Rattle.ipsens_core.specs.Runs.{
   Outside,
   shows,
@@ -56,16 +56,7 @@ use Rattle.ipsens_core.specs.Runs.{
   files_asked,
   files_named,
 }
-use Rattle.ipsens_core.specs.Internal.Made.{
-  IsWritten,
-  IsMade,
-  IsModelRead,
-  IsModelText,
-  IsModelFile,
-  IsFileRefused,
-  IsRefusalOf,
-  IsWithoutModel,
-}
+use Rattle.ipsens_core.specs.Internal.Made.{IsWritten, IsMade, IsModelRead, IsModelText, IsModelFile, IsFileRefused, IsRefusalOf}
 use Rattle.ipsens_core.specs.Internal.Writes.{Writes, IsSent}
 use Rattle.ipsens_core.specs.declared.answers.Stop.{Stop}
 use Rattle.ipsens_core.specs.declared.answers.Stop.TheVariants as Stops

@@ -1,6 +1,5 @@
 -- The printed text of the refusal of a model file.
 use Rattle.std.specs.Prelude.{ℕ, List, [], ◌++◌, codes, decimal}
-use Rattle.ip_defs.specs.Program.{cost}
 use Rattle.mps_defs.specs.declared.reading.Side.{Side}
 use Rattle.mps_defs.specs.declared.reading.Side.TheVariants.{Lower, Upper}
 use Rattle.ip_defs.specs.declared.limits.What as What

@@ -1,6 +1,6 @@
 -- How reading the files of a command and making its answer end, before anything is written.
 use Rattle.std.specs.declared.alloc.Global.{Global}
-use Rattle.std.specs.Prelude.{◌≡◌, ◌⊎◌, ◌≤◌, ℕ, List, [], ◌∷◌, length, Vec, Option, Some, None, Result, Ok, Err, codes}
+use Rattle.std.specs.Prelude.{◌≡◌, ◌⊎◌, ◌≤◌, ℕ, List, [], ◌∷◌, length, Vec, Option, Some, None, Result, Ok, Err}
 use Rattle.ip_defs.specs.declared.programs.Parts.{Parts}
 use Rattle.ips_io.specs.Files.{Files}
 use Rattle.mps_defs.specs.Faults.{mps_fault, model_of}

@@ -1,4 +1,4 @@
-use Rattle.std.proofs.Common.{◌≡◌, ◌∙◌, ◌≤◌, ◌<◌, ◌++◌, ◌∷◌, [], Some, None, length, true, false, refl, sym, ap, arith, rules, length-append}
+use Rattle.std.proofs.Common.{◌≡◌, ◌∙◌, ◌≤◌, ◌<◌, ◌∷◌, [], length, true, false, refl, sym, ap, arith, rules, length-append}
 use Rattle.ips_io.specs.BegunNames.{total_of}
 use Rattle.ips_io.proofs.NameLaws.{noted_kept, noted_beyond, noted_long, total_more}
 use Rattle.ips_io.proofs.begun_names.BegunNames.note.Goals.{

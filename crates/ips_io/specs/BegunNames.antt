@@ -1,22 +1,5 @@
 -- The names that a shelf in memory was asked to begin: they are known while they are few and short.
-use Rattle.std.specs.Prelude.{
-  ℕ,
-  nat_lt,
-  nat_le,
-  ◌&&◌,
-  List,
-  [],
-  ◌∷◌,
-  ◌++◌,
-  ◌+◌,
-  take,
-  drop,
-  length,
-  Option,
-  Some,
-  None,
-  if◌then◌else◌,
-}
+use Rattle.std.specs.Prelude.{ℕ, nat_lt, nat_le, ◌&&◌, List, [], ◌∷◌, ◌++◌, ◌+◌, take, drop, length, Option, Some, None, if◌then◌else◌}
 use Rattle.ips_io.specs.Files.{Names}
 
 -- one more name: from the ninth name on, or the first of more than 255 bytes, no name is known

@@ -1,23 +1,6 @@
 -- Files that stand one after another in a buffer, each as its name and then its content, and where a file stands there.
-use Rattle.std.specs.Prelude.{
-  ℕ,
-  zero,
-  suc,
-  ◌+◌,
-  List,
-  [],
-  ◌∷◌,
-  ◌++◌,
-  take,
-  drop,
-  sum_by,
-  Option,
-  Some,
-  None,
-  option_map,
-  bytes_eq,
-  if◌then◌else◌,
-}
+use Rattle.std.specs.Prelude.{ℕ, zero, suc, ◌+◌, List, [], ◌∷◌, ◌++◌, take, drop, sum_by, Option, Some, None, option_map, bytes_eq}
+use Rattle.std.specs.Prelude.{if◌then◌else◌}
 use Rattle.ips_io.specs.Files.{Files}
 use Rattle.ips_io.specs.declared.places.Lengths.{Lengths}
 use Rattle.ips_io.specs.declared.places.Place.{Place}

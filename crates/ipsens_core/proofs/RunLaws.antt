@@ -1,30 +1,7 @@
 -- What the outside of a call shows, from what reading, answering and writing say.
 use Rattle.std.specs.declared.alloc.Global.{Global}
-use Rattle.std.specs.Prelude.{
-  ◌≡◌,
-  ◌⊎◌,
-  ℕ,
-  ◌<◌,
-  ◌≤◌,
-  nat_lt,
-  Bool,
-  true,
-  false,
-  List,
-  [],
-  ◌∷◌,
-  length,
-  take,
-  Vec,
-  Option,
-  Some,
-  None,
-  Result,
-  Ok,
-  Err,
-  IfOk,
-  codes,
-}
+use Rattle.std.specs.Prelude.{◌≡◌, ◌⊎◌, ℕ, ◌<◌, ◌≤◌, nat_lt, Bool, true, false, List, [], ◌∷◌, length, take, Vec, Option, Some, None}
+use Rattle.std.specs.Prelude.{Result, Ok, Err, IfOk, codes}
 use Rattle.std.specs.Option.{MatchOption}
 use Rattle.std.specs.Bool.{MatchBool}
 use Rattle.std.proofs.Common.{refl, arith, ap, sym, ◌∙◌, subst, inl, inr}
@@ -44,18 +21,8 @@ use Rattle.ipsens_core.specs.Answers.{Answer, says, ReadsNoMore}
 use Rattle.ipsens_core.specs.Models.{ReadsModel, longest_model, refuses_model}
 use Rattle.ipsens_core.specs.Reads.{Reads, Agrees}
 use Rattle.ipsens_core.specs.RefusalTexts.{refusal_text}
-use Rattle.ipsens_core.specs.Runs.{
-  Outside,
-  shows,
-  IsOwed,
-  IsAnswered,
-  IsCutOff,
-  IsRunOf,
-  RunMeets,
-  AnswersRequest,
-  files_asked,
-  files_named,
-}
+use Rattle.ipsens_core.specs.Runs.{Outside, shows, IsOwed, IsAnswered, IsCutOff, IsRunOf, RunMeets, AnswersRequest, files_asked}
+use Rattle.ipsens_core.specs.Runs.{files_named}
 use Rattle.ipsens_core.specs.Internal.Made.{IsWritten, IsMade, IsModelRead, IsModelText, IsModelFile, IsFileRefused, IsRefusalOf}
 use Rattle.ipsens_core.specs.Internal.Writes.{Writes, IsSent}
 use Rattle.ipsens_core.specs.declared.answers.Stop.{Stop}
@@ -63,17 +30,8 @@ use Rattle.ipsens_core.specs.declared.answers.Stop.TheVariants as Stops
 use Rattle.ipsens_core.specs.declared.models.NoModel.{NoModel}
 use Rattle.ipsens_core.specs.declared.models.NoModel.TheVariants as No
 use Rattle.ipsens_core.specs.declared.statuses.Status.{Status}
-use Rattle.ipsens_core.specs.declared.statuses.Status.TheVariants.{
-  Answered,
-  NotProved,
-  Usage,
-  Refused,
-  Budget,
-  Wide,
-  ReadFault,
-  WriteFault,
-  Memory,
-}
+use Rattle.ipsens_core.specs.declared.statuses.Status.TheVariants.{Answered, NotProved, Usage, Refused, Budget, Wide, ReadFault}
+use Rattle.ipsens_core.specs.declared.statuses.Status.TheVariants.{WriteFault, Memory}
 use Rattle.ipsens_core.proofs.ReadLaws.{none_read, HasLongFile}
 
 -- ---- the model file

@@ -1,30 +1,6 @@
 -- Printed values, one column at a time.
-use Rattle.std.specs.Prelude.{
-  ◌≡◌,
-  ℕ,
-  zero,
-  suc,
-  ◌/◌,
-  ◌%◌,
-  ◌<◌,
-  ◌≤◌,
-  List,
-  [],
-  ◌∷◌,
-  ◌++◌,
-  length,
-  take,
-  zip,
-  flat_map,
-  Some,
-  slice_get,
-  ℤ,
-  pos,
-  negsuc,
-  decimal,
-  codes,
-  refl,
-}
+use Rattle.std.specs.Prelude.{◌≡◌, ℕ, zero, suc, ◌/◌, ◌%◌, ◌<◌, ◌≤◌, List, [], ◌∷◌, ◌++◌, length, take, zip, flat_map, Some, slice_get}
+use Rattle.std.specs.Prelude.{ℤ, pos, negsuc, decimal, codes, refl}
 use Rattle.std.specs.Fmt.{signed_decimal}
 use Rattle.std.proofs.Common.{arith, ap, sym, ◌∙◌, append_assoc}
 use Rattle.mps_defs.specs.Numbers.{decimal_text, unsigned_text}

@@ -5,29 +5,10 @@ use Rattle.mps_defs.specs.declared.reading.Side.TheVariants.{Lower, Upper}
 use Rattle.ip_defs.specs.declared.limits.What as What
 use Rattle.ip_defs.specs.declared.limits.What.TheVariants as Whats
 use Rattle.mps_defs.specs.declared.reading.MpsError.{MpsError}
-use Rattle.mps_defs.specs.declared.reading.MpsError.TheVariants.{
-  NotUtf8,
-  SectionOrder,
-  UnknownSection,
-  FieldCount,
-  RowKind,
-  TwiceRow,
-  UnknownRow,
-  SplitColumn,
-  TwiceEntry,
-  Number,
-  Marker,
-  BoundKind,
-  UnknownColumn,
-  Continuous,
-  NoBound,
-  NegativeUpper,
-  Limit,
-  NoObjective,
-  NoEnd,
-  Digits,
-  Memory,
-}
+use Rattle.mps_defs.specs.declared.reading.MpsError.TheVariants.{NotUtf8, SectionOrder, UnknownSection, FieldCount, RowKind, TwiceRow}
+use Rattle.mps_defs.specs.declared.reading.MpsError.TheVariants.{UnknownRow, SplitColumn, TwiceEntry, Number, Marker, BoundKind}
+use Rattle.mps_defs.specs.declared.reading.MpsError.TheVariants.{UnknownColumn, Continuous, NoBound, NegativeUpper, Limit, NoObjective}
+use Rattle.mps_defs.specs.declared.reading.MpsError.TheVariants.{NoEnd, Digits, Memory}
 use Rattle.mps_defs.specs.CanonicalText.{newline}
 
 abbrev pub on_line : ℕ → List ℕ

@@ -12,17 +12,8 @@ use Rattle.ips_words.specs.Requests.{usage_text}
 use Rattle.ips_words.specs.declared.requests.Request.{Request}
 use Rattle.ips_words.specs.declared.requests.Request.TheVariants.{Solve, Check, Ask, Sweep, Recheck, Show, Trial}
 use Rattle.ipsens_core.specs.declared.statuses.Status.{Status}
-use Rattle.ipsens_core.specs.declared.statuses.Status.TheVariants.{
-  Answered,
-  NotProved,
-  Usage,
-  Refused,
-  Budget,
-  Wide,
-  ReadFault,
-  WriteFault,
-  Memory,
-}
+use Rattle.ipsens_core.specs.declared.statuses.Status.TheVariants.{Answered, NotProved, Usage, Refused, Budget, Wide, ReadFault}
+use Rattle.ipsens_core.specs.declared.statuses.Status.TheVariants.{WriteFault, Memory}
 
 -- ---- the run relation
 

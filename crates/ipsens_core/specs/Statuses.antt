@@ -3,17 +3,8 @@ use Rattle.std.specs.Prelude.{◌≡◌, ◌⊎◌, ℕ, List, [], take, Option,
 use Rattle.ips_io.specs.Causes.{Rose}
 use Rattle.ips_io.specs.Files.{Takes}
 use Rattle.ipsens_core.specs.declared.statuses.Status.{Status}
-use Rattle.ipsens_core.specs.declared.statuses.Status.TheVariants.{
-  Answered,
-  NotProved,
-  Usage,
-  Refused,
-  Budget,
-  Wide,
-  ReadFault,
-  WriteFault,
-  Memory,
-}
+use Rattle.ipsens_core.specs.declared.statuses.Status.TheVariants.{Answered, NotProved, Usage, Refused, Budget, Wide, ReadFault}
+use Rattle.ipsens_core.specs.declared.statuses.Status.TheVariants.{WriteFault, Memory}
 
 -- the number of a status
 abbrev pub code_of : Status → ℕ

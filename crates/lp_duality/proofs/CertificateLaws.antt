@@ -1,29 +1,6 @@
 -- The dual value of a certificate is that of its multipliers over the rational numbers.
-use Rattle.std.specs.Prelude.{
-  ◌≡◌,
-  ◌≢◌,
-  ℕ,
-  zero,
-  suc,
-  ◌<◌,
-  List,
-  [],
-  ◌∷◌,
-  length,
-  Option,
-  Some,
-  None,
-  slice_get,
-  option_map,
-  option_and_then,
-  ℤ,
-  pos,
-  negsuc,
-  ◌+ℤ◌,
-  ◌-ℤ◌,
-  ◌*ℤ◌,
-  ◌≤ℤ◌,
-}
+use Rattle.std.specs.Prelude.{◌≡◌, ◌≢◌, ℕ, zero, suc, ◌<◌, List, [], ◌∷◌, length, Option, Some, None, slice_get, option_map}
+use Rattle.std.specs.Prelude.{option_and_then, ℤ, pos, negsuc, ◌+ℤ◌, ◌-ℤ◌, ◌*ℤ◌, ◌≤ℤ◌}
 use Rattle.std.specs.Int.{int_min}
 use Rattle.std.proofs.Common.{arith, refl, ap, sym, ◌∙◌, ◌⊎◌, inl, inr}
 use Rattle.std.proofs.lemmas.Int.{ints, clamps}

@@ -14,21 +14,8 @@ use Rattle.frac128.proofs.Order.{AtMost, NotNegative, at_most_total, mul_at_most
 use Rattle.lp_duality.specs.Relaxations.{row_low, row_high, cost_of}
 use Rattle.lp_duality.specs.Duals.{paid, sum_of_all, lesser, left_of, dual}
 use Rattle.lp_duality.specs.Laws.{DualsAreScaled}
-use Rattle.lp_duality.proofs.SignLaws.{
-  Sign,
-  up,
-  down,
-  none,
-  sign_of,
-  top_zero,
-  mul_positive,
-  mul_negative,
-  paid_up,
-  paid_down,
-  paid_zero,
-  lesser_first,
-  lesser_second,
-}
+use Rattle.lp_duality.proofs.SignLaws.{Sign, up, down, none, sign_of, top_zero, mul_positive, mul_negative, paid_up, paid_down}
+use Rattle.lp_duality.proofs.SignLaws.{paid_zero, lesser_first, lesser_second}
 use Rattle.lp_duality.proofs.OptionSumLaws.{plus, sum_of_all_same}
 
 -- the columns' part of a dual value, by the reduced costs

@@ -1,26 +1,6 @@
 -- Signs of rational numbers, tests of their order, and payments of multipliers.
-use Rattle.std.specs.Prelude.{
-  ◌≡◌,
-  ℕ,
-  zero,
-  suc,
-  Bool,
-  true,
-  false,
-  cond,
-  Option,
-  Some,
-  option_map,
-  ℤ,
-  pos,
-  negsuc,
-  neg_ℤ,
-  ◌+ℤ◌,
-  ◌-ℤ◌,
-  ◌*ℤ◌,
-  ◌≤ℤ◌,
-  ◌<ℤ◌,
-}
+use Rattle.std.specs.Prelude.{◌≡◌, ℕ, zero, suc, Bool, true, false, cond, Option, Some, option_map, ℤ, pos, negsuc, neg_ℤ, ◌+ℤ◌, ◌-ℤ◌}
+use Rattle.std.specs.Prelude.{◌*ℤ◌, ◌≤ℤ◌, ◌<ℤ◌}
 use Rattle.std.specs.Int.Signed.{lt_z}
 use Rattle.std.proofs.Common.{arith, refl, ap, sym, ◌∙◌, subst}
 use Rattle.std.proofs.lemmas.Int.{ints}

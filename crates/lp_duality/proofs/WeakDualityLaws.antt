@@ -1,26 +1,6 @@
 -- Weak duality over relaxations, and feasible points as points of relaxations.
-use Rattle.std.specs.Prelude.{
-  ◌≡◌,
-  ℕ,
-  zero,
-  suc,
-  ◌<◌,
-  List,
-  [],
-  ◌∷◌,
-  length,
-  Option,
-  Some,
-  None,
-  IfSome,
-  slice_get,
-  option_map,
-  option_and_then,
-  ℤ,
-  pos,
-  ◌≤ℤ◌,
-  ◌<ℤ◌,
-}
+use Rattle.std.specs.Prelude.{◌≡◌, ℕ, zero, suc, ◌<◌, List, [], ◌∷◌, length, Option, Some, None, IfSome, slice_get, option_map}
+use Rattle.std.specs.Prelude.{option_and_then, ℤ, pos, ◌≤ℤ◌, ◌<ℤ◌}
 use Rattle.std.proofs.Common.{arith, refl, ap, sym, ◌∙◌, subst, ◌⊎◌, inl, inr}
 use Rattle.std.proofs.lemmas.Int.{ints}
 use Rattle.ip_defs.specs.Program.{at, low_at, high_at, row_sum, Meets, IsIn, IsFeasible, cost}
@@ -36,22 +16,8 @@ use Rattle.frac128.proofs.Order.{AtMost, NotNegative, at_most_total, at_most_tra
 use Rattle.lp_duality.specs.Relaxations.{row_low, row_high, cost_of, row_total, total_cost, IsBetween, IsRelaxed}
 use Rattle.lp_duality.specs.Duals.{paid, sum_of_all, lesser, left_of, dual}
 use Rattle.lp_duality.specs.Laws.{RelaxedWeakDuality, FeasiblePointsAreRelaxed}
-use Rattle.lp_duality.proofs.SignLaws.{
-  Sign,
-  up,
-  down,
-  none,
-  sign_of,
-  top_zero,
-  of_at_most,
-  at_most_self,
-  mul_at_least,
-  paid_up,
-  paid_down,
-  paid_zero,
-  lesser_first,
-  lesser_second,
-}
+use Rattle.lp_duality.proofs.SignLaws.{Sign, up, down, none, sign_of, top_zero, of_at_most, at_most_self, mul_at_least, paid_up}
+use Rattle.lp_duality.proofs.SignLaws.{paid_down, paid_zero, lesser_first, lesser_second}
 use Rattle.lp_duality.proofs.OptionSumLaws.{plus}
 use Rattle.lp_duality.proofs.ScaleLaws.{column_sum, paid_sum, dual_of}
 use Rattle.lp_duality.proofs.PointLaws.{row_whole, whole_cost}

@@ -1,8 +1,8 @@
 -- Numbers of texts and decimal texts, computed.
 use Rattle.std.specs.Prelude.{◌≡◌, [], ◌∷◌, codes, refl, None, Some, pos, negsuc, true, false}
 use Rattle.std.specs.Fmt.{digits}
-use Rattle.mps_defs.specs.Numbers.{exact_units, decimal_text}
-use Rattle.worked_examples.specs.Texts.{ReadsNumbers}
+use Rattle.mps_defs.specs.Numbers.{exact_units}
+use Rattle.worked_examples.specs.Texts.{ReadsNumbers, WritesDecimals}
 use Rattle.mps_defs.specs.declared.reading.Number.TheVariants.{Dec, Large}
 
 pub numbers : ReadsNumbers (
@@ -42,18 +42,11 @@ scaled_2 = refl
 pub scaled_3 : exact_units (Dec (pos 10) 1) 0 ≡ Some (pos 1)
 scaled_3 = refl
 
-pub text_1 : decimal_text (negsuc 2499) 3 ≡ codes "-2.5"
+pub decimal_texts : WritesDecimals (
+    (negsuc 2499, 3, codes "-2.5")
+    ∷ (pos 5, 2, codes "0.05")
+    ∷ (pos 0, 2, codes "0")
+    ∷ (negsuc 299, 2, codes "-3")
+    ∷ [])
 unfolding digits
-text_1 = refl
-
-pub text_2 : decimal_text (pos 5) 2 ≡ codes "0.05"
-unfolding digits
-text_2 = refl
-
-pub text_3 : decimal_text (pos 0) 2 ≡ codes "0"
-unfolding digits
-text_3 = refl
-
-pub text_4 : decimal_text (negsuc 299) 2 ≡ codes "-3"
-unfolding digits
-text_4 = refl
+decimal_texts = refl

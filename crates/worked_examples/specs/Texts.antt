@@ -4,7 +4,7 @@ use Rattle.ip_defs.specs.declared.programs.Column.{Column}
 use Rattle.ip_defs.specs.declared.programs.Row.{Row}
 use Rattle.ip_defs.specs.declared.programs.Parts.{Parts}
 use Rattle.mps_defs.specs.Faults.{mps_fault, model_of}
-use Rattle.mps_defs.specs.Numbers.{number_of}
+use Rattle.mps_defs.specs.Numbers.{number_of, decimal_text}
 use Rattle.mps_defs.specs.declared.reading.How.{How}
 use Rattle.mps_defs.specs.declared.reading.MpsError.{MpsError}
 use Rattle.mps_defs.specs.declared.reading.Number.{Number}
@@ -40,3 +40,7 @@ RefusesEach cases = map (λ c. mps_fault c.0 c.1) cases ≡ map (λ c. Some c.2)
 -- the numbers that texts are
 abbrev pub ReadsNumbers : List (List ℕ × Option Number) → Type 0
 ReadsNumbers cases = map (λ c. number_of c.0) cases ≡ map (λ c. c.1) cases
+
+-- numbers of units and their decimals, with their decimal texts
+abbrev pub WritesDecimals : List (ℤ × ℕ × List ℕ) → Type 0
+WritesDecimals cases = map (λ c. decimal_text c.0 c.1) cases ≡ map (λ c. c.2) cases

@@ -29,7 +29,7 @@ value_from-requires-2-clause-fits c =
     let most = c.requires.short in
     let small = c.value_from.ensures.small in
     let within = fits c.value_from.result (length c.whole_part.result.now) (length c.fraction_part.result.now) (omega arith)
-        (omega arith) in
+    (omega arith) in
     omega arith
 
 pub returns-clause-value : goal.returns-clause-value
@@ -48,5 +48,5 @@ returns-clause-small c =
     let small = c.value_from.ensures.small in
     let small' = c.value_from-2.ensures.small in
     let within = fits c.value_from.result (length c.whole_part.result.now) (length c.fraction_part.result.now) (omega arith)
-        (omega arith) in
+    (omega arith) in
     omega arith

@@ -22,7 +22,7 @@ returns-in-Some-clause-value c =
     (c.take_rows.ensures j (omega (arith, c.requires.area.size)))) in
     let sum = rw same at c.column_sum-columns.ensures.sum in
     let back : to_z w128 (of_z w128 c.total_of-in-Some.result)
-        ≡ (paid +ℤ (q *ℤ m.constant)) +ℤ column_part m b q y = omega (arith, ints) in
+    ≡ (paid +ℤ (q *ℤ m.constant)) +ℤ column_part m b q y = omega (arith, ints) in
     ap Some back ∙ ap (option_map (λ paid. (paid +ℤ (q *ℤ m.constant)) +ℤ column_part m b q y)) (sym has)
 
 pub column_sum-columns-requires-clause-taken_small :

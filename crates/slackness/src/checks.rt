@@ -1,5 +1,5 @@
 //! The check of a proposal.
-ghost use Rattle.std.specs.Prelude.{◌≡◌, ◌↔◌, IsTrue, length};
+ghost use Rattle.std.specs.Prelude.{◌≡◌, ◌↔◌, IsTrue, length, pos, ◌<ℤ◌};
 ghost use Rattle.ip_defs.specs.Limits.{IsArea, IsCert, IsWithinLimits};
 ghost use Rattle.slackness.specs.Points.{IsOptimal};
 ghost use Rattle.slackness.specs.Proposals.{point_of_proposal, IsRight, HasSmallDenominator};
@@ -24,6 +24,14 @@ fn denominator_ok(denominator: i128) -> bool
     0 < denominator && denominator <= LARGEST_DENOMINATOR
 }
 
+/// Whether a divisor is positive: with 0 a certificate is a ray, which bounds no cost.
+#[inline]
+fn is_positive(q: i64) -> bool
+    ensures { IsTrue result ↔ pos 0 <ℤ q }
+{
+    0 < q
+}
+
 /// Whether a point over a small denominator lies in the box and within the sides of the rows, and stands at the sides that a certificate
 /// with a positive divisor pays.
 fn is_tight(
@@ -42,7 +50,7 @@ fn is_tight(
     requires taken { length taken.old ≡ length parts.now.columns }
     ensures { IsTrue result ↔ IsTight parts.now area.now denominator point.now cert.now }
 {
-    if cert.q <= 0 {
+    if !is_positive(cert.q) {
         return false;
     }
     let y = cert.y.as_slice();

@@ -66,7 +66,7 @@ returns c =
       λ t. record {
         size = c.requires.point;
         positive = c.requires.denominator.positive;
-        divisor = let divisor = c.if-cert-le0.false in search rules;
+        divisor = rw same at (c.if-not-is_positive.ensures.0 refl);
         columns = tight;
         rows = rows.0 refl;
         paid = paid.0 t;

@@ -3,7 +3,7 @@ use Rattle.std.specs.Prelude.{◌≡◌, ℕ, length}
 use Rattle.dual_proposals.specs.declared.proposers.Proposed.{Proposed}
 use Rattle.dual_proposals.specs.declared.proposers.Proposed.TheVariants.{Best, Cut, Empty, GaveUp}
 
--- a proposed point has a number for each of so many columns
+-- a proposed point has a number for each column
 abbrev pub HasPointFor : ℕ → Proposed → Type 0
 HasPointFor columns (Best p) = length p.numerators ≡ columns
 HasPointFor columns (Cut c) = Unit {0}

@@ -28,7 +28,7 @@ fn common_divisor(duals: &Duals) -> u128 {
     shared.max(1)
 }
 
-/// By how many bits the numbers pass the limit once they are divided.
+/// How many bits more than the limit the numbers have once they are divided.
 fn shift_of(duals: &Duals, shared: i128) -> u32 {
     let most = greatest(duals.multipliers.as_slice()).max(duals.divisor.unsigned_abs());
     match most.checked_div(shared.unsigned_abs()) {
@@ -53,8 +53,8 @@ fn shortened(number: i128, shared: i128, shift: u32) -> Option<i64> {
     })
 }
 
-/// The certificate of numbers: divided by what they have in common, and where they pass the limit even so, rounded, if that is allowed. None
-/// where it is not, or where a positive divisor comes to 0.
+/// The certificate of numbers: divided by what they have in common, and where they exceed the limit even so, rounded toward 0, if that is
+/// allowed. None where it is not, or where a positive divisor becomes 0.
 fn certificate_of(alloc: Global, duals: &Duals, may_round: bool) -> Result<Option<Cert>, Memory> {
     let Ok(shared) = i128::try_from(common_divisor(duals)) else {
         return Ok(None);
@@ -100,7 +100,7 @@ fn put_slacks(
 }
 
 impl DualTableau {
-    /// The certificate of the tableau's bound. None where its numbers pass the limit and may not be rounded.
+    /// The certificate of the tableau's bound. None where its numbers exceed the limit and may not be rounded.
     pub(crate) fn bound_certificate(
         &self,
         alloc: Global,

@@ -5,10 +5,10 @@ use crate::entering::Candidate;
 use crate::leaving::{Choice, Leaving};
 use crate::tableaus::DualTableau;
 
-/// After so many steps in turn that do not raise the bound, ties are broken by a perturbation.
+/// The number of steps in turn that do not raise the bound after which ties are broken by a perturbation.
 const FLAT_STEPS: u32 = 30;
 
-/// After so many, and two for each row, both choices are by the least number, which ends for certain.
+/// The number of such steps, besides two for each row, after which both choices are by the least number, so that no basis comes again.
 const MANY_FLAT_STEPS: u32 = 1000;
 
 /// How a run of steps ended.

@@ -1,4 +1,4 @@
-//! The exact ratio test: of the nonbasic variables that help the leaving one, the first whose reduced cost comes to 0 enters.
+//! The exact ratio test: of the nonbasic variables that help the leaving one, the one whose reduced cost becomes 0 first enters.
 use crate::leaving::Leaving;
 use crate::quotients::is_less;
 use crate::tableaus::DualTableau;
@@ -60,7 +60,7 @@ impl Candidate {
 }
 
 impl DualTableau {
-    /// The candidate at a place, where its variable can move so that the leaving one comes nearer to its side.
+    /// The candidate at a place, where its variable can move so that the leaving one approaches its side.
     #[inline]
     fn candidate(&self, place: usize, number: i128, rises: bool) -> Option<Candidate> {
         if number == 0 {

@@ -1,4 +1,4 @@
-//! One living dual tableau for a whole search, which proposes what a node may be answered. Nothing of what it proposes is believed: a check
+//! One living dual tableau for a whole search, which proposes the answers of nodes. Nothing of what it proposes is believed: a check
 //! decides. So the contracts say that it is safe, ends within its limit, and gives lists of the right length, and no more.
 //!
 //! Each column has two sides, so the tableau of the rows with each column at the side that its cost favours is dual feasible. Dual

@@ -36,7 +36,7 @@ impl DualTableau {
     /// Moves each nonbasic column to the side of a box that its reduced cost favours.
     fn move_columns(&mut self, area: &[(i64, i64)]) -> bool {
         for place in 0..self.columns {
-            let distance = self.rest_again(place, area);
+            let distance = self.choose_side(place, area);
             if distance != 0 && !self.shift_rows(place, distance) {
                 return false;
             }
@@ -44,8 +44,8 @@ impl DualTableau {
         true
     }
 
-    /// Chooses the side where the variable of a place rests in a box, and returns how far it moves. A slack stays where it is.
-    fn rest_again(&mut self, place: usize, area: &[(i64, i64)]) -> i128 {
+    /// Chooses the side of a box at which the variable of a place is from now on, and returns how far it moves. A slack does not move.
+    fn choose_side(&mut self, place: usize, area: &[(i64, i64)]) -> i128 {
         let reduced_cost = self.costs.number(place);
         let Some(nonbasic) = self.nonbasic.as_mut_slice().get_mut(place) else {
             return 0;

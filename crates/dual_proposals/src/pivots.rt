@@ -1,11 +1,11 @@
 //! The exchange of a basic and a nonbasic variable. Either every row changes, or none does.
 use crate::entering::Candidate;
 use crate::leaving::Leaving;
-use crate::tableaus::{DualTableau, Nonbasic, rest_of};
+use crate::tableaus::{DualTableau, Nonbasic, nonbasic_value};
 
 impl DualTableau {
-    /// Exchanges a basic variable, which leaves to the side that it is outside of, for a nonbasic one. Returns false where a number does not
-    /// fit; the tableau says what it said then.
+    /// Exchanges a basic variable, which leaves to the side that it is outside of, for a nonbasic one. Returns false where a number does
+    /// not fit; the tableau has the same basis then.
     pub(crate) fn exchange(&mut self, leaving: &Leaving, entering: &Candidate) -> bool {
         let place = entering.place;
         let at_high = !leaving.rises;
@@ -17,13 +17,13 @@ impl DualTableau {
             return false;
         }
         self.eliminate_rows(leaving.index, pivot, place);
-        let rest = rest_of(self.ranges.as_slice(), self.nonbasic.as_slice(), place);
-        self.return_pivot_row(leaving.index, pivot, rest);
+        let value = nonbasic_value(self.ranges.as_slice(), self.nonbasic.as_slice(), place);
+        self.return_pivot_row(leaving.index, pivot, value);
         self.exchange_variables(leaving, entering, at_high);
         true
     }
 
-    /// Divides the row of a leaving variable by its common divisor, and copies it, with its value counted from the side where it will rest.
+    /// Divides the row of a leaving variable by its common divisor, and copies it, with its value counted from the side to which it leaves.
     fn copy_pivot_row(&mut self, leaving: &Leaving, at_high: bool) -> bool {
         let side = match self.ranges.as_slice().get(leaving.variable) {
             Some(range) => range.side(at_high),
@@ -74,8 +74,8 @@ impl DualTableau {
         self.ties.eliminate(&self.pivot_row, pivot, place);
     }
 
-    /// Makes the pivot row that of the entering variable, which comes from the side where it rested.
-    fn return_pivot_row(&mut self, index: usize, pivot: i128, rest: i128) {
+    /// Makes the pivot row that of the entering variable, which leaves a side with the value given.
+    fn return_pivot_row(&mut self, index: usize, pivot: i128, from: i128) {
         if pivot > 0 {
             self.pivot_row.negate();
         }
@@ -83,7 +83,7 @@ impl DualTableau {
         self.pivot_row.value = self
             .pivot_row
             .value
-            .wrapping_add(rest.wrapping_mul(denominator));
+            .wrapping_add(from.wrapping_mul(denominator));
         self.pivot_row.denominator = denominator;
         match self.basic.as_mut_slice().get_mut(index) {
             Some(basic) => basic.row.copy_from(&self.pivot_row),

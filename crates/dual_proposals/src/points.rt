@@ -2,7 +2,7 @@
 ghost use Rattle.std.specs.Prelude.{◌≡◌, IfOk, IfSome, length};
 
 use crate::places::put;
-use crate::tableaus::{DualTableau, rest_of};
+use crate::tableaus::{DualTableau, nonbasic_value};
 use frac128::gcd;
 use ip_defs::Memory;
 use slackness::Numerators;
@@ -74,11 +74,11 @@ impl DualTableau {
     {
         for (place, nonbasic) in self.nonbasic.iter().enumerate() {
             if nonbasic.variable < self.columns {
-                let rest = rest_of(self.ranges.as_slice(), self.nonbasic.as_slice(), place);
+                let value = nonbasic_value(self.ranges.as_slice(), self.nonbasic.as_slice(), place);
                 put(
                     numerators,
                     nonbasic.variable,
-                    rest.wrapping_mul(denominator),
+                    value.wrapping_mul(denominator),
                 );
             }
         }

@@ -69,11 +69,11 @@ fn proposed_at(
     }
 }
 
-/// Moves a living tableau to a box of its model, and runs it there, at most `limit` dual steps. With a cost to cut at, the run ends as soon as
-/// the bound, rounded up, is at least that cost.
+/// Moves a living tableau to a box of its model, and makes at most `limit` dual steps there. With a cost to cut at, it ends as soon as the
+/// bound, rounded up, is at least that cost.
 ///
-/// Whatever is proposed has to be checked: nothing is promised but that a point has a number for each column, and that the steps are at most
-/// `limit`. The tableau may be used again after each answer, and after a want of memory too.
+/// Whatever is proposed has to be checked: nothing is promised but that a point has a number for each column, and that the steps are at
+/// most `limit`. The tableau may be used again after each answer, also where memory ran out.
 pub fn propose(
     alloc: Global,
     tableau: &mut DualTableau,

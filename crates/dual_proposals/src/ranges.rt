@@ -17,7 +17,7 @@ impl Range {
         }
     }
 
-    /// The side at which a nonbasic variable rests, 0 where it has none there.
+    /// The low or the high side, 0 where the variable has none there.
     #[inline]
     pub fn side(&self, at_high: bool) -> i128 {
         let side = if at_high { self.high } else { self.low };

@@ -25,7 +25,7 @@ pub const NO_ELIMINATION: Elimination = Elimination {
 };
 
 /// A row: `denominator` times its basic variable is `value` and the sum, over the nonbasic places, of number times the distance of the
-/// nonbasic variable from the side where it rests. The row of the costs is kept likewise.
+/// nonbasic variable from its side. The row of the costs is kept likewise.
 #[derive(Drop)]
 pub struct TableauRow {
     /// One number for each nonbasic place.
@@ -158,7 +158,8 @@ impl TableauRow {
         }
     }
 
-    /// Sets the elimination that makes the number at a place 0, where the row keeps within its limits with a denominator up to a greatest one.
+    /// Sets the elimination that makes the number at a place 0. Returns false where the row would leave its limits, or its denominator
+    /// would be above the greatest one given.
     fn choose(&mut self, pivot_row: &TableauRow, pivot: i128, place: usize, most: u128) -> bool {
         let number = self.number(place);
         let shared = gcd(pivot.unsigned_abs(), number.unsigned_abs()).max(1);

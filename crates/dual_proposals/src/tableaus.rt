@@ -6,7 +6,7 @@ use ip_defs::{Area, Memory, Parts};
 use ip_model::IntModel;
 use std::alloc::Global;
 
-/// A nonbasic variable, and the side where it rests.
+/// A nonbasic variable, and the side at which it is.
 #[derive(Clone, Copy)]
 pub struct Nonbasic {
     pub variable: usize,
@@ -34,7 +34,7 @@ pub struct DualTableau {
     /// The costs without the constant, whose numbers are the reduced costs.
     pub(crate) costs: TableauRow,
     pub(crate) ties: TieRow,
-    /// Room for the pivot row of a step.
+    /// The pivot row of the step under way.
     pub(crate) pivot_row: TableauRow,
     /// Whether a number did not fit, so that the next move begins anew.
     pub(crate) is_spent: bool,
@@ -51,22 +51,22 @@ fn zero_row(alloc: Global, places: usize) -> Result<TableauRow, Memory> {
     })
 }
 
-/// Writes coefficients into a row of zeros, and its value where the columns rest.
+/// Writes coefficients into a row of zeros, and its value with each column at its side.
 fn fill(row: &mut TableauRow, coefs: &[(u32, i64)], ranges: &[Range], nonbasic: &[Nonbasic]) {
     for (column, coefficient) in coefs {
         let place = *column as usize;
         let number = i128::from(*coefficient);
         row.put(place, number);
-        row.value = row
-            .value
-            .wrapping_add(number.wrapping_mul(rest_of(ranges, nonbasic, place)));
+        row.value = row.value.wrapping_add(number.wrapping_mul(nonbasic_value(
+            ranges, nonbasic, place,
+        )));
     }
     row.count();
 }
 
-/// The side where the variable of a nonbasic place rests.
+/// The value of the variable of a nonbasic place: the side at which it is.
 #[inline]
-pub fn rest_of(ranges: &[Range], nonbasic: &[Nonbasic], place: usize) -> i128 {
+pub fn nonbasic_value(ranges: &[Range], nonbasic: &[Nonbasic], place: usize) -> i128 {
     match nonbasic.get(place) {
         Some(variable) => match ranges.get(variable.variable) {
             Some(range) => range.side(variable.at_high),
@@ -118,7 +118,7 @@ pub fn start(alloc: Global, model: &IntModel) -> Result<DualTableau, Memory> {
 }
 
 impl DualTableau {
-    /// Makes each slack basic, and rests each column at the side that its cost favours.
+    /// Makes each slack basic, with each column at the side that its cost favours.
     fn begin(&mut self, parts: &Parts) {
         let columns = parts.columns.as_slice();
         for ((j, nonbasic), column) in self.nonbasic.iter_mut().enumerate().zip(columns) {
@@ -137,9 +137,9 @@ impl DualTableau {
         self.costs.clear();
         for (j, column) in parts.columns.as_slice().iter().enumerate() {
             let cost = i128::from(column.cost);
-            let rest = rest_of(self.ranges.as_slice(), self.nonbasic.as_slice(), j);
+            let value = nonbasic_value(self.ranges.as_slice(), self.nonbasic.as_slice(), j);
             self.costs.put(j, cost);
-            self.costs.value = self.costs.value.wrapping_add(cost.wrapping_mul(rest));
+            self.costs.value = self.costs.value.wrapping_add(cost.wrapping_mul(value));
         }
         self.costs.count();
     }

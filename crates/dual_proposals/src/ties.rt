@@ -42,17 +42,17 @@ impl TieRow {
         self.is_on = false;
     }
 
-    /// Turns the perturbation on: each nonbasic variable gets a reduced cost that keeps it at the side where it rests.
+    /// Turns the perturbation on: each nonbasic variable gets a reduced cost that keeps it at the side at which it is.
     pub fn turn_on(&mut self, nonbasic: &[Nonbasic]) {
         if self.is_on {
             return;
         }
         for (number, variable) in self.numbers.as_mut_slice().iter_mut().zip(nonbasic) {
-            let size = scattered(variable.variable);
+            let cost = scattered(variable.variable);
             *number = if variable.at_high {
-                size.wrapping_neg()
+                cost.wrapping_neg()
             } else {
-                size
+                cost
             };
         }
         self.is_on = true;

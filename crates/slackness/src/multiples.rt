@@ -42,7 +42,7 @@ fn add_row(taken: &mut [i128], coefs: &[(u32, i64)], multiplier: i64)
     }
 }
 
-/// What the multipliers take from the cost of each column: it is at most 2^10 times 2^36 times 2^40 in size, which is 2^86.
+/// What the multipliers take from the cost of each column: an absolute value of at most 2^10 times 2^36 times 2^40, which is 2^86.
 pub fn take_rows(parts: &Parts, y: &[(u32, i64)], taken: &mut [i128])
     requires limits { IsWithinLimits parts.now }
     requires ordered { AreOrdered (length parts.now.rows) y.now }

@@ -11,7 +11,7 @@ use crate::wide::{scaled, term};
 use ip_defs::{Parts, Row};
 use ip_model::total_of;
 
-/// The value of a row at a point, from its coefficients alone. With at most 4,096 columns it is at most 2^126 in size.
+/// The value of a row at a point, from its coefficients alone. With at most 4,096 columns its absolute value is at most 2^126.
 fn row_value(coefs: &[(u32, i64)], point: &[i128]) -> i128
     requires ordered { AreOrdered (length point.now) coefs.now }
     requires coefs_small { AreSmall (2 ^ 40) coefs.now }

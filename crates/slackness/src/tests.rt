@@ -2,14 +2,14 @@
 ghost use Rattle.std.specs.Prelude.{IsTrue};
 ghost use Rattle.ip_defs.specs.Limits.{IsArea};
 
-use crate::{Numerators, Proposal, is_optimal};
+use crate::{Numerators, Proposal, optimum};
 use ip_defs::{
     Area, Cert, Coefs, Column, ColumnList, Memory, Multipliers, Name, Parts, Row, RowList,
 };
 use ip_model::{IntModel, make, well_shaped};
 use std::alloc::{Alloc, Global};
 
-/// The greatest size of a side of a column.
+/// The greatest absolute value of a side of a column.
 const LARGEST_SIDE: u64 = 1 << 24;
 
 fn column(alloc: Global, cost: i64, lo: i64, hi: i64) -> Column {
@@ -46,7 +46,7 @@ fn model(alloc: Global, constant: i64, columns: Vec<Column>, rows: Vec<Row>) -> 
     make(parts).ok()
 }
 
-/// Whether an area is one for so many columns.
+/// Whether an area is one for a number of columns.
 fn area_ok(area: &Area, columns: usize) -> bool
     ensures { IsTrue result → IsArea columns area.now }
 {
@@ -55,19 +55,28 @@ fn area_ok(area: &Area, columns: usize) -> bool
             && side.1.unsigned_abs() <= LARGEST_SIDE)
 }
 
-/// Whether a proposal is right over an area.
-fn is_right(
+/// The point of a proposal over an area in words, where it is right there.
+fn words_of(
     alloc: Global,
     model: &IntModel,
     area: &Area,
     proposal: &Proposal,
-) -> Result<bool, Memory> {
+) -> Result<String, Memory> {
     let columns = model.parts().columns.as_slice().len();
-    let mut room = vec![in alloc; 0; columns]?;
+    let mut scratch = vec![in alloc; 0; columns]?;
+    let mut text = String::new(alloc);
     if !area_ok(area, columns) {
-        return Ok(false);
+        return Ok(text);
     }
-    Ok(is_optimal(model, area, proposal, room.as_mut_slice()))
+    let Some(point) = optimum(alloc, model, area, proposal, scratch.as_mut_slice())? else {
+        text.push_str("none")?;
+        return Ok(text);
+    };
+    for x in point.as_slice() {
+        let word = format!(in alloc; "{}/{} ", x.num(), x.den())?;
+        text.push_str(word.as_str())?;
+    }
+    Ok(text)
 }
 
 /// Least -5a - 4b - 3c where 2a + 3b + c <= 5, 4a + b + 2c <= 11 and 3a + 4b + 2c <= 8, from 0 to 10. Its least cost is -13, at (2, 0, 1).
@@ -116,31 +125,39 @@ fn proposal_of(
     })
 }
 
-/// Whether such a proposal is right for the three rows over the box from 0 to 10.
-fn is_right_there(
+/// The point of such a proposal for the three rows, with a side at which the first column ends, where it is right there.
+fn point_of(
     alloc: Global,
+    high: i64,
     numerators: &[i128],
     denominator: i128,
     q: i64,
     y: &[(u32, i64)],
-) -> Result<bool, Memory> {
-    let area = Area::from_vec(vec![in alloc; (0, 10), (0, 10), (0, 10)]?);
+) -> Result<String, Memory> {
+    let area = Area::from_vec(vec![in alloc; (0, high), (0, 10), (0, 10)]?);
     let proposal = proposal_of(alloc, numerators, denominator, q, y)?;
     match three_rows(alloc)? {
-        Some(model) => is_right(alloc, &model, &area, &proposal),
-        None => Ok(false),
+        Some(model) => words_of(alloc, &model, &area, &proposal),
+        None => Ok(String::new(alloc)),
     }
 }
 
 #[test]
 fn right_proposals(rt: HostRuntime) -> Result<(), Memory> {
     let alloc = rt.alloc();
-    assert!(rt; is_right_there(alloc, &[2, 0, 1], 1, 1, &[(0, -1), (2, -1)])? == true);
-    assert!(rt; is_right_there(alloc, &[4, 0, 2], 2, 3, &[(0, -3), (2, -3)])? == true);
-    assert!(rt; is_right_there(alloc, &[2, 1, 1], 1, 1, &[(0, -1), (2, -1)])? == false);
-    assert!(rt; is_right_there(alloc, &[2, 0, 1], 1, 1, &[(0, -1), (2, -2)])? == false);
-    assert!(rt; is_right_there(alloc, &[2, 0, 1], 1, 0, &[(0, -1), (2, -1)])? == false);
-    assert!(rt; is_right_there(alloc, &[2, 0, 1], 1, 1, &[(0, -1), (1, -1), (2, -1)])? == false);
-    assert!(rt; is_right_there(alloc, &[2, 0], 1, 1, &[(0, -1), (2, -1)])? == false);
+    let whole = point_of(alloc, 10, &[4, 0, 2], 2, 3, &[(0, -3), (2, -3)])?;
+    let half = point_of(alloc, 1, &[2, 0, 5], 2, 2, &[(2, -3)])?;
+    assert!(rt; whole.as_str() == "2/1 0/1 1/1 ");
+    assert!(rt; half.as_str() == "1/1 0/1 5/2 ");
+    Ok(())
+}
+
+#[test]
+fn wrong_proposals(rt: HostRuntime) -> Result<(), Memory> {
+    let alloc = rt.alloc();
+    let costly = point_of(alloc, 10, &[2, 0, 1], 1, 1, &[(0, -1), (2, -2)])?;
+    let short = point_of(alloc, 10, &[2, 0], 1, 1, &[(0, -1), (2, -1)])?;
+    assert!(rt; costly.as_str() == "none");
+    assert!(rt; short.as_str() == "none");
     Ok(())
 }

@@ -1,0 +1,17 @@
+//! The laws of tree files, each as the contract of a function that does nothing.
+ghost use Rattle.tree_format.specs.Laws.{SpellingsAreRead, ReadingsAreSpelled, OneSpelling};
+
+/// What spells a proof has no fault, and its parts are those of the proof.
+pub fn spellings_are_read()
+    ensures { SpellingsAreRead }
+{}
+
+/// Bytes without a fault spell a proof.
+pub fn readings_are_spelled()
+    ensures { ReadingsAreSpelled }
+{}
+
+/// No bytes spell two proofs, and no spelling begins another.
+pub fn one_spelling()
+    ensures { OneSpelling }
+{}

@@ -1,13 +1,13 @@
 -- What is left of each field of a tree file.
 use Rattle.std.specs.Prelude.{◌≡◌, ℕ, zero, suc, ◌+◌, ◌^◌, ◌<◌, Bool, true, false, List, [], ◌∷◌, Option, Some, None}
-use Rattle.std.proofs.Common.{arith, refl, ap, ◌∙◌, sym, ◌==◌, eq-eqb, get_or, drop, add-one}
+use Rattle.std.proofs.Common.{arith, refl, ap, ◌∙◌, sym, ◌==◌, eq-eqb, get_or, drop, add-one, ◌++◌, ◌&&◌}
 use Rattle.std.proofs.Math.Seq.{drop-cons}
 use Rattle.std.proofs.lemmas.Bool.{eqb-true}
 use Rattle.ip_defs.proofs.OrderLaws.{lt_true}
 use Rattle.tree_format.specs.Readings.{Reading, stopped, complete}
 use Rattle.tree_format.specs.Numbers.{number_from, next_digit}
 use Rattle.tree_format.specs.Spellings.{longest, opening}
-use Rattle.tree_format.specs.Grammar.{opening_at, tree_at}
+use Rattle.tree_format.specs.Grammar.{opening_at, tree_at, begins_with}
 use Rattle.tree_format.specs.Internal.Fields.{field_from, after_number, greatest_of, IsFieldSound, is_none, is_whole}
 use Rattle.tree_format.specs.Internal.Remaining.{trees_at}
 use Rattle.tree_format.specs.declared.numbers.Digit.TheVariants.{Ends}
@@ -133,6 +133,24 @@ pub opening_last : (seen start b : ℕ) (bytes : List ℕ) (next : ℕ → List 
 opening_last seen start b bytes next last e =
     opening_right seen start b bytes next (omega arith) e
     ∙ ap (λ (k : ℕ). opening_at (drop (k + 1) opening) (start + 1) bytes next) last
+
+-- and whether bytes begin with the opening and the byte of a point's claim
+pub claim_wrong : (seen b : ℕ) (bytes : List ℕ) → seen < 5 → (b ≡ get_or opening seen 0 → ⊥)
+    → begins_with (drop seen opening ++ 66 ∷ []) (b ∷ bytes) ≡ false
+claim_wrong seen b bytes l h =
+    ap (λ (ms : List ℕ). begins_with (ms ++ 66 ∷ []) (b ∷ bytes)) (next_wanted seen l)
+    ∙ ap (λ (t : Bool). t && begins_with (drop (seen + 1) opening ++ 66 ∷ []) bytes) (apart b (get_or opening seen 0) h)
+
+pub claim_right : (seen b : ℕ) (bytes : List ℕ) → seen < 5 → b ≡ get_or opening seen 0
+    → begins_with (drop seen opening ++ 66 ∷ []) (b ∷ bytes) ≡ begins_with (drop (seen + 1) opening ++ 66 ∷ []) bytes
+claim_right seen b bytes l e =
+    ap (λ (ms : List ℕ). begins_with (ms ++ 66 ∷ []) (b ∷ bytes)) (next_wanted seen l)
+    ∙ ap (λ (t : Bool). t && begins_with (drop (seen + 1) opening ++ 66 ∷ []) bytes) (eq-eqb b (get_or opening seen 0) e)
+
+pub claim_last : (seen b : ℕ) (bytes : List ℕ) → seen ≡ 4 → b ≡ get_or opening seen 0
+    → begins_with (drop seen opening ++ 66 ∷ []) (b ∷ bytes) ≡ begins_with (66 ∷ []) bytes
+claim_last seen b bytes last e =
+    claim_right seen b bytes (omega arith) e ∙ ap (λ (k : ℕ). begins_with (drop (k + 1) opening ++ 66 ∷ []) bytes) last
 
 -- ---- nodes
 

@@ -1,3 +1,5 @@
 pub mod FieldLaws
 pub mod NumberLaws
 pub mod PendingLaws
+pub mod ReadLaws
+pub mod CertSizes

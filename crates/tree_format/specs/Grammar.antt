@@ -15,9 +15,11 @@ use Rattle.std.specs.Prelude.{
   List,
   [],
   ◌∷◌,
-  take,
-  bytes_eq,
-  length,
+  ◌++◌,
+  ◌&&◌,
+  Result,
+  Ok,
+  Err,
   pos,
   Option,
   Some,
@@ -29,7 +31,7 @@ use Rattle.tree_format.specs.Spellings.{longest, opening}
 use Rattle.tree_format.specs.declared.errors.TreeError.{TreeError}
 use Rattle.tree_format.specs.declared.errors.TreeError.TheVariants as faults
 use Rattle.tree_format.specs.declared.tokens.Token.{Token}
-use Rattle.tree_format.specs.declared.tokens.Token.TheVariants.{Claimed, Coordinate, SplitAt, LeafQ, Parts, Part}
+use Rattle.tree_format.specs.declared.tokens.Token.TheVariants.{Nothing, Claimed, Coordinate, SplitAt, LeafQ, Parts, Part}
 
 -- Each reads what stands at a place at the front of bytes. What follows it is read by its last argument, from the place after it.
 
@@ -149,11 +151,32 @@ fault_so_far bytes = unless_cut (first_fault bytes)
 abbrev pub parts_so_far : List ℕ → List Token
 parts_so_far bytes = (reading bytes).parts
 
+-- bytes begin with others
+abbrev pub begins_with : List ℕ → List ℕ → Bool
+begins_with [] bytes = true
+begins_with (wanted ∷ more) [] = false
+begins_with (wanted ∷ more) (b ∷ bytes) = (b == wanted) && begins_with more bytes
+
 -- the byte of the claim was read and is that of a point
 abbrev pub claims_point : List ℕ → Bool
-claims_point bytes = bytes_eq (take 6 bytes) (73 ∷ 80 ∷ 83 ∷ 84 ∷ 1 ∷ 66 ∷ [])
+claims_point bytes = begins_with (opening ++ 66 ∷ []) bytes
 
--- an error is want of memory, or the first fault
+-- the part that a token is, or none where it is nothing
+abbrev pub shown : Token → List Token
+shown Nothing = []
+shown Claimed = Claimed ∷ []
+shown (Coordinate z) = Coordinate z ∷ []
+shown (SplitAt col at) = SplitAt col at ∷ []
+shown (LeafQ q) = LeafQ q ∷ []
+shown (Parts n) = Parts n ∷ []
+shown (Part row m) = Part row m ∷ []
+
+-- what one byte after others answers: its part where the bytes so far have no fault, else their fault
+abbrev pub IsAnswer : List ℕ → ℕ → Result Token TreeError → Type 0
+IsAnswer bytes b (Ok token) = (fault_so_far (bytes ++ b ∷ []) ≡ None) × (parts_so_far (bytes ++ b ∷ []) ≡ parts_so_far bytes ++ shown token)
+IsAnswer bytes b (Err e) = fault_so_far (bytes ++ b ∷ []) ≡ Some e
+
+-- an error is that memory ran out, or the first fault
 abbrev pub IsRefusal : List ℕ → TreeError → Type 0
 IsRefusal bytes faults.Memory = Unit {0}
 IsRefusal bytes e = first_fault bytes ≡ Some e

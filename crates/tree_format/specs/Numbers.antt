@@ -30,7 +30,7 @@ use Rattle.tree_format.specs.declared.errors.TreeError.{TreeError}
 use Rattle.tree_format.specs.declared.errors.TreeError.TheVariants.{Cut, LongNumber, Width}
 
 -- the spelling of a number in at most some bytes: a byte below 128 is the last, one from 128 on says that the number goes on
-abbrev pub number_bytes : ℕ → ℕ → List ℕ
+unfoldable pub number_bytes : ℕ → ℕ → List ℕ
 number_bytes zero n = []
 number_bytes (suc k) n = if nat_lt n 128 then n ∷ [] else (128 + n % 128) ∷ number_bytes k (n / 128)
 

@@ -2,7 +2,7 @@
 ghost use Rattle.std.specs.Prelude.{◌≡◌, ◌++◌, ◌≤◌, ◌^◌, length, OnOk, IfOk};
 ghost use Rattle.std.specs.Int.RustNames.{unsigned_abs};
 ghost use Rattle.std.specs.List.{flat_map};
-ghost use Rattle.ip_defs.specs.Limits.{IsCert};
+ghost use Rattle.ip_defs.specs.Limits.{AreSmall, IsCert};
 ghost use Rattle.ip_defs.specs.Lists.{Each};
 ghost use Rattle.proof_tree.specs.Trees.{plain};
 ghost use Rattle.proof_tree.specs.Within.{AreNumbersWithin, IsTreeWithin};
@@ -21,6 +21,18 @@ fn push_signed(out: &mut Vec<u8>, value: i64) -> Result<(), Memory>
     push_number(out, unsigned(value))
 }
 
+/// Writes multipliers with their rows at the end.
+fn push_multipliers(out: &mut Vec<u8>, y: &[(u32, i64)]) -> Result<(), Memory>
+    requires { AreSmall (2 ^ 36) y.now }
+    ensures { OnOk result (out.new.items ≡ out.old.items ++ flat_map multiplier_bytes y.now) }
+{
+    for (row, multiplier) in y {
+        push_number(out, u64::from(*row))?;
+        push_signed(out, *multiplier)?;
+    }
+    Ok(())
+}
+
 /// Writes a certificate at the end.
 fn push_cert(out: &mut Vec<u8>, cert: &Cert) -> Result<(), Memory>
     requires { IsCert 1024 cert.now }
@@ -28,11 +40,7 @@ fn push_cert(out: &mut Vec<u8>, cert: &Cert) -> Result<(), Memory>
 {
     push_number(out, cert.q.unsigned_abs())?;
     push_number(out, cert.y.as_slice().len() as u64)?;
-    for (row, multiplier) in cert.y.as_slice() {
-        push_number(out, u64::from(*row))?;
-        push_signed(out, *multiplier)?;
-    }
-    Ok(())
+    push_multipliers(out, cert.y.as_slice())
 }
 
 /// Writes a tree at the end.
@@ -60,6 +68,17 @@ fn push_tree(out: &mut Vec<u8>, tree: &Tree) -> Result<(), Memory>
     }
 }
 
+/// Writes coordinates at the end.
+fn push_coordinates(out: &mut Vec<u8>, point: &[i64]) -> Result<(), Memory>
+    requires { Each (λ z. unsigned_abs z ≤ 2 ^ 24) point.now }
+    ensures { OnOk result (out.new.items ≡ out.old.items ++ flat_map signed_number point.now) }
+{
+    for coordinate in point {
+        push_signed(out, *coordinate)?;
+    }
+    Ok(())
+}
+
 /// Writes a claim at the end.
 fn push_claim(out: &mut Vec<u8>, claim: &Claim) -> Result<(), Memory>
     requires { IsClaimWithin claim.now }
@@ -69,10 +88,7 @@ fn push_claim(out: &mut Vec<u8>, claim: &Claim) -> Result<(), Memory>
         Claim::Best(point) => {
             out.push(b'B')?;
             push_number(out, point.as_slice().len() as u64)?;
-            for coordinate in point.as_slice() {
-                push_signed(out, *coordinate)?;
-            }
-            Ok(())
+            push_coordinates(out, point.as_slice())
         }
         Claim::Empty => {
             out.push(b'E')?;

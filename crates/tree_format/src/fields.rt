@@ -1,6 +1,7 @@
 //! What the grammar of a tree file wants next, and what a number leads to.
-ghost use Rattle.std.specs.Prelude.{◌≡◌, ◌+◌, ◌*◌, ◌^◌, ◌≤◌, IfOk};
-ghost use Rattle.tree_format.specs.Internal.Fields.{greatest_of, IsUpTo, IsAfter, IsFieldSound, most_left, coordinate_field, multiplier_field};
+ghost use Rattle.std.specs.Prelude.{◌≡◌, ◌+◌, ◌*◌, ◌^◌, ◌≤◌, IfOk, IfErr};
+ghost use Rattle.tree_format.specs.Internal.Remaining.{IsFinal};
+ghost use Rattle.tree_format.specs.Internal.Fields.{greatest_of, IsUpTo, IsAfter, IsFieldSound, IsClaimed, most_left, coordinate_field, multiplier_field};
 
 use crate::values::signed;
 use crate::{Token, TreeError};
@@ -54,6 +55,7 @@ fn coordinates(count: u32) -> Field
     ensures field { result ≡ coordinate_field count }
     ensures left { most_left result ≡ 6 * count }
     ensures sound { IsFieldSound result }
+    ensures claimed { IsClaimed result }
 {
     if count == 0 {
         Field::Node
@@ -67,6 +69,7 @@ fn multipliers(count: u32, least: u32) -> Field
     ensures field { result ≡ multiplier_field count least }
     ensures left { most_left result ≡ 12 * count }
     ensures sound { IsFieldSound result }
+    ensures claimed { IsClaimed result }
 {
     if count == 0 {
         Field::Node
@@ -83,6 +86,8 @@ fn after_row(more: u32, least: u32, start: u64, row: u32) -> Result<(Field, Toke
     requires row { row ≤ 1023 }
     ensures after { IsAfter (Field.Row more least) start row result }
     ensures left { IfOk result (λ on. IsFieldSound on.0 × (most_left on.0 + 6 ≤ most_left (Field.Row more least))) }
+    ensures final_fault { IfErr result (λ e. IsFinal e) }
+    ensures claimed { IfOk result (λ on. IsClaimed on.0) }
 {
     if row < least {
         Err(TreeError::Order { place: start })
@@ -102,6 +107,8 @@ fn after_multiplier(
     requires value { value ≤ 2 ^ 37 }
     ensures after { IsAfter (Field.Multiplier more row) start value result }
     ensures left { IfOk result (λ on. IsFieldSound on.0 × (most_left on.0 + 6 ≤ most_left (Field.Multiplier more row))) }
+    ensures final_fault { IfErr result (λ e. IsFinal e) }
+    ensures claimed { IfOk result (λ on. IsClaimed on.0) }
 {
     if value == 0 {
         return Err(TreeError::Zero { place: start });
@@ -116,6 +123,8 @@ pub(crate) fn after(field: Field, start: u64, value: u64) -> Result<(Field, Toke
     requires value { IsUpTo (greatest_of field) value }
     ensures after { IsAfter field start value result }
     ensures left { IfOk result (λ on. IsFieldSound on.0 × (most_left on.0 + 6 ≤ most_left field)) }
+    ensures final_fault { IfErr result (λ e. IsFinal e) }
+    ensures claimed { IfOk result (λ on. IsClaimed on.0) }
 {
     match field {
         Field::Opening { .. } => unreachable!(),

@@ -1,6 +1,7 @@
 //! Numbers as bytes: what one more byte says of a number, and writing a number.
 ghost use Rattle.std.specs.Prelude.{◌≡◌, ◌++◌, ◌^◌, ◌<◌, ◌≤◌, OnOk, OnErr};
-ghost use Rattle.tree_format.specs.Numbers.{next_digit as digit_of, last_digit as last_digit_of};
+ghost use Rattle.tree_format.specs.Numbers.{next_digit as next_digit_of, last_digit as last_digit_of};
+ghost use Rattle.tree_format.specs.Internal.Remaining.{IsFinalDigit};
 ghost use Rattle.tree_format.specs.Spellings.{longest, number};
 
 use crate::TreeError;
@@ -34,7 +35,8 @@ fn last_digit(greatest: u64, read: u32, low: u64, start: u64, byte: u8) -> Digit
     requires read { read < 6 }
     requires low { low < 128 ^ read }
     requires byte { byte < 128 }
-    ensures { result ≡ last_digit_of greatest read low start byte }
+    ensures digit { result ≡ last_digit_of greatest read low start byte }
+    ensures final_fault { IsFinalDigit result }
 {
     if read > 0 && byte == 0 {
         return Digit::Fails(TreeError::LongNumber { place: start });
@@ -51,7 +53,7 @@ fn last_digit(greatest: u64, read: u32, low: u64, start: u64, byte: u8) -> Digit
 pub(crate) fn next_digit(greatest: u64, read: u32, low: u64, start: u64, byte: u8) -> Digit
     requires read { read < 6 }
     requires low { low < 128 ^ read }
-    ensures { result ≡ digit_of longest greatest read low start byte }
+    ensures { result ≡ next_digit_of longest greatest read low start byte }
 {
     if byte < 128 {
         last_digit(greatest, read, low, start, byte)

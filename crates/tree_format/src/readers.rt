@@ -1,11 +1,14 @@
 //! Reading a tree file one byte at a time.
-ghost use Rattle.std.specs.Prelude.{◌≡◌, ◌∷◌, ◌++◌, ℕ, List, [], OnOk};
+ghost use Rattle.std.specs.Prelude.{◌≡◌, ◌∷◌, ◌++◌, ℕ, List, [], IfOk};
+ghost use Rattle.tree_format.specs.Grammar.{IsAnswer, claims_point as claims_point_of, first_fault};
+ghost use Rattle.tree_format.specs.Internal.Remaining.{HasRead, fault_of, start_with};
 
 use crate::fields::Field;
 use crate::pending::Pending;
 use crate::progress::Progress;
 use crate::{Memory, Token, TreeError};
 use std::alloc::Global;
+use std::marker::Model;
 
 /// A tree file that comes byte by byte.
 #[derive(Drop)]
@@ -13,37 +16,68 @@ pub struct TreeReader {
     progress: Progress,
 }
 
-/// A reader that has read nothing. Takes memory for the trees that can be pending; no call on the reader takes any.
-pub fn tree_reader(alloc: Global) -> Result<TreeReader, Memory> {
+impl Model for TreeReader {
+    ghost use Rattle.tree_format.specs.declared.progress.Progress.{Progress};
+    ghost use Rattle.tree_format.specs.Internal.Remaining.{IsSoundUnless};
+
+    ghost Value = { Progress };
+
+    ghost view = { λ r. r.progress };
+
+    ghost invariant = { λ r. IsSoundUnless r.progress.fault r.progress };
+}
+
+/// The most levels of a tree.
+const LEVELS: u32 = 801;
+
+/// The progress before the first byte, with a tree pending.
+fn start(pending: Pending) -> Progress
+    ensures { result ≡ start_with pending }
+{
+    Progress {
+        field: Field::Opening { read: 0 },
+        start: 0,
+        read: 0,
+        low: 0,
+        nodes: 0,
+        pending,
+        claims_point: false,
+        fault: None,
+    }
+}
+
+/// A reader that has read nothing. It takes memory for the trees that can be pending; no call on the reader takes any.
+pub fn tree_reader(alloc: Global) -> Result<TreeReader, Memory>
+    ensures { IfOk result (λ reader. HasRead reader []) }
+{
     let mut pending = Pending::new(alloc)?;
-    pending.push(801);
-    Ok(TreeReader {
-        progress: Progress {
-            field: Field::Opening { read: 0 },
-            start: 0,
-            read: 0,
-            low: 0,
-            nodes: 0,
-            pending,
-            claims_point: false,
-            fault: None,
-        },
-    })
+    pending.push(LEVELS);
+    let progress = start(pending);
+    Ok(TreeReader { progress })
 }
 
 impl TreeReader {
-    /// Takes the next byte.
-    pub fn step(&mut self, byte: u8) -> Result<Token, TreeError> {
+    /// Takes the next byte, and answers the part that it completes, or the fault of the bytes so far: a fault that stands whatever
+    /// follows. After a fault every later byte has it too. Takes no memory.
+    pub fn step(&mut self, byte: u8) -> Result<Token, TreeError>
+        ensures answer { (bytes : List ℕ) → HasRead self.old bytes → IsAnswer bytes byte result }
+        ensures read { (bytes : List ℕ) → HasRead self.old bytes → HasRead self.new (bytes ++ byte ∷ []) }
+    {
         self.progress.step(byte)
     }
 
-    /// Whether the bytes so far are a whole file.
-    pub fn close(&self) -> Result<(), TreeError> {
+    /// The first fault of the bytes so far where no more come: that they are cut, where they are no whole file and had no other fault.
+    /// Takes no memory.
+    pub fn close(&self) -> Result<(), TreeError>
+        ensures { (bytes : List ℕ) → HasRead self.now bytes → fault_of result ≡ first_fault bytes }
+    {
         self.progress.ending()
     }
 
     /// Whether the byte of the claim was read and is that of a point.
-    pub fn claims_point(&self) -> bool {
+    pub fn claims_point(&self) -> bool
+        ensures { (bytes : List ℕ) → HasRead self.now bytes → result ≡ claims_point_of bytes }
+    {
         self.progress.claims_point
     }
 }

@@ -18,6 +18,7 @@ use Rattle.std.specs.Prelude.{
   List,
   [],
   ◌∷◌,
+  ◌++◌,
   drop,
   pos,
   Option,
@@ -27,16 +28,16 @@ use Rattle.std.specs.Prelude.{
   Ok,
   Err,
 }
-use Rattle.tree_format.specs.Readings.{Reading, complete, stopped, part_then}
+use Rattle.tree_format.specs.Readings.{Reading, complete, stopped, part_then, parts_then}
 use Rattle.tree_format.specs.Numbers.{number_from, signed}
 use Rattle.tree_format.specs.Spellings.{longest, opening}
-use Rattle.tree_format.specs.Grammar.{number_at, opening_at, coordinates_at, claim_at, multiplier_at, multipliers_at, tree_at, end_at}
+use Rattle.tree_format.specs.Grammar.{number_at, opening_at, coordinates_at, claim_at, multiplier_at, multipliers_at, shown, begins_with}
 use Rattle.tree_format.specs.declared.errors.TreeError.{TreeError}
 use Rattle.tree_format.specs.declared.errors.TreeError.TheVariants as faults
 use Rattle.tree_format.specs.declared.fields.Field.{Field}
 use Rattle.tree_format.specs.declared.fields.Field.TheVariants as fields
 use Rattle.tree_format.specs.declared.tokens.Token.{Token}
-use Rattle.tree_format.specs.declared.tokens.Token.TheVariants.{Nothing, Claimed, Coordinate, SplitAt, LeafQ, Parts, Part}
+use Rattle.tree_format.specs.declared.tokens.Token.TheVariants.{Coordinate, SplitAt, LeafQ, Parts, Part}
 
 -- the greatest number that may stand in a field, or none where the field is no number
 abbrev pub greatest_of : Field → Option ℕ
@@ -54,13 +55,7 @@ greatest_of (fields.Cut col) = Some (2 ^ 25)
 
 -- a token, then what is read after it
 abbrev pub token_then : Token → Reading Token → Reading Token
-token_then Nothing r = r
-token_then Claimed r = part_then Claimed r
-token_then (Coordinate z) r = part_then (Coordinate z) r
-token_then (SplitAt col at) r = part_then (SplitAt col at) r
-token_then (LeafQ q) r = part_then (LeafQ q) r
-token_then (Parts n) r = part_then (Parts n) r
-token_then (Part row m) r = part_then (Part row m) r
+token_then token r = parts_then (shown token) r
 
 -- what a number in a field that begins at a place is followed by, where the trees after the field are read so
 abbrev pub after_number : Field → ℕ → (ℕ → List ℕ → Reading Token) → ℕ → ℕ → List ℕ → Reading Token
@@ -160,3 +155,21 @@ is_none (k ∷ more) = false
 abbrev pub is_whole : Field → List ℕ → Bool
 is_whole fields.Node pending = is_none pending
 is_whole other pending = false
+
+-- whether the claim is of a point, by what is left of a field and what is known so far
+abbrev pub claim_from : Field → Bool → List ℕ → Bool
+claim_from (fields.Opening seen) known bytes = begins_with (drop seen opening ++ 66 ∷ []) bytes
+claim_from fields.Claim known bytes = begins_with (66 ∷ []) bytes
+claim_from other known bytes = known
+
+-- before the claim no point is claimed
+abbrev pub IsUnclaimed : Field → Bool → Type 0
+IsUnclaimed (fields.Opening seen) known = known ≡ false
+IsUnclaimed fields.Claim known = known ≡ false
+IsUnclaimed other known = Unit {0}
+
+-- the claim is read
+abbrev pub IsClaimed : Field → Type 0
+IsClaimed (fields.Opening seen) = ⊥
+IsClaimed fields.Claim = ⊥
+IsClaimed other = Unit {0}

@@ -1,10 +1,13 @@
 -- How far a tree file is read, and what is left of it.
-use Rattle.std.specs.Prelude.{◌≡◌, ℕ, suc, ◌+◌, ◌*◌, ◌^◌, ◌<◌, ◌≤◌, List, [], ◌∷◌, ◌++◌, Option, Some, None, Result, Ok, Err, Bool}
+use Rattle.std.specs.Prelude.{◌≡◌, ℕ, suc, ◌+◌, ◌*◌, ◌^◌, ◌<◌, ◌≤◌, false, List, [], ◌∷◌, ◌++◌, Option, Some, None, Result, Ok, Err, Bool}
 use Rattle.tree_format.specs.Readings.{Reading, stopped, parts_then}
-use Rattle.tree_format.specs.Grammar.{tree_at, end_at, reading, parts_so_far, claims_point}
-use Rattle.tree_format.specs.Internal.Fields.{field_from, token_then, greatest_of, IsFieldSound, most_left}
+use Rattle.tree_format.specs.Grammar.{tree_at, end_at, reading, parts_so_far, claims_point, unless_cut}
+use Rattle.tree_format.specs.Internal.Fields.{field_from, token_then, greatest_of, IsFieldSound, most_left, claim_from, IsUnclaimed}
 use Rattle.tree_format.specs.declared.errors.TreeError.{TreeError}
 use Rattle.tree_format.specs.declared.fields.Field.{Field}
+use Rattle.tree_format.specs.declared.fields.Field.TheVariants as fields
+use Rattle.tree_format.specs.declared.numbers.Digit.{Digit}
+use Rattle.tree_format.specs.declared.numbers.Digit.TheVariants.{Fails}
 use Rattle.tree_format.specs.declared.progress.Progress.{Progress}
 use Rattle.tree_format.specs.declared.tokens.Token.{Token}
 
@@ -62,13 +65,50 @@ pub record IsSound (s : Progress) : Type 0 where
   pub place : s.start + most_left s.field ≤ 24600 + 12400 * s.nodes
   pub nodes : s.nodes ≤ 1000000
   pub pending : ArePending s.pending
+  pub claim : IsUnclaimed s.field s.claims_point
+
+-- a fault that stands whatever follows
+abbrev pub IsFinal : TreeError → Type 0
+IsFinal e = unless_cut (Some e) ≡ Some e
+
+-- a byte of a number ends it with no other fault
+abbrev pub IsFinalDigit : Digit → Type 0
+IsFinalDigit (Fails e) = IsFinal e
+IsFinalDigit other = Unit {0}
 
 -- where no byte had a fault, it is sound
 abbrev pub IsSoundUnless : Option TreeError → Progress → Type 0
 IsSoundUnless None s = IsSound s
-IsSoundUnless (Some e) s = Unit {0}
+IsSoundUnless (Some e) s = IsFinal e
 
 -- the fault of an answer, or none
 abbrev pub fault_of : {A : Type 0} → Result A TreeError → Option TreeError
 fault_of (Ok x) = None
 fault_of (Err e) = Some e
+
+-- whether the claim is of a point, by what is left after an answer
+abbrev pub claim_after : Result Token TreeError → Progress → List ℕ → Bool
+claim_after (Ok token) s bytes = claim_from s.field s.claims_point bytes
+claim_after (Err e) s bytes = s.claims_point
+
+abbrev pub claim_unless : Option TreeError → Progress → List ℕ → Bool
+claim_unless None s bytes = claim_from s.field s.claims_point bytes
+claim_unless (Some e) s bytes = s.claims_point
+
+-- a reader has read some bytes: whatever comes after them, what the whole comes to is what they came to and what is left of it
+pub record HasRead (s : Progress) (bytes : List ℕ) : Type 0 where
+  pub left : (more : List ℕ) → reading (bytes ++ more) ≡ parts_then (parts_so_far bytes) (remaining s more)
+  pub claim : (more : List ℕ) → claims_point (bytes ++ more) ≡ claim_unless s.fault s more
+
+-- a reader before the first byte, with trees pending
+abbrev pub start_with : List ℕ → Progress
+start_with pending = record {
+  field = fields.Opening 0;
+  start = 0;
+  read = 0;
+  low = 0;
+  nodes = 0;
+  pending = pending;
+  claims_point = false;
+  fault = None;
+}

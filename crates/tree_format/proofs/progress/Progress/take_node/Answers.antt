@@ -23,6 +23,7 @@ returns-in-76-clause-sound c =
       low = sound.low;
       bare = λ e. bare;
       field = tt;
+      claim = tt;
       place = omega arith;
       nodes = omega arith;
       pending = pending_after c.in-Some.levels c.pop.new.self (subst ArePending c.in-Some.ensures.some sound.pending);

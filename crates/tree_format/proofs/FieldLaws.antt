@@ -96,7 +96,7 @@ field_whole (fields.Cut col) read low start nodes pending e = absurd cc
 
 -- ---- the opening
 
-apart : (a b : ℕ) → (a ≡ b → ⊥) → (a == b) ≡ false
+pub apart : (a b : ℕ) → (a ≡ b → ⊥) → (a == b) ≡ false
 apart a b h = by (a == b) refl
   where
     by : (t : Bool) → (a == b) ≡ t → t ≡ false

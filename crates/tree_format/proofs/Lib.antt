@@ -3,3 +3,5 @@ pub mod NumberLaws
 pub mod PendingLaws
 pub mod ReadLaws
 pub mod CertSizes
+pub mod SpelledNumbers
+pub mod SpellingLaws

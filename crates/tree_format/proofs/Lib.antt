@@ -5,3 +5,4 @@ pub mod ReadLaws
 pub mod CertSizes
 pub mod SpelledNumbers
 pub mod SpellingLaws
+pub mod GrammarLaws

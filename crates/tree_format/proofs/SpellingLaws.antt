@@ -107,7 +107,7 @@ unsigned_present : (z : ℤ) → 0 < unsigned_abs z → unsigned z ≡ 0 → ⊥
 unsigned_present (pos n) l e = omega (arith, ints)
 unsigned_present (negsuc n) l e = omega (arith, ints)
 
-multiplier_is_read : (row : ℕ) (z : ℤ) (place : ℕ) (bytes : List ℕ) (next : ℕ → List ℕ → Reading Token) → 0 < unsigned_abs z
+pub multiplier_is_read : (row : ℕ) (z : ℤ) (place : ℕ) (bytes : List ℕ) (next : ℕ → List ℕ → Reading Token) → 0 < unsigned_abs z
     → unsigned_abs z ≤ 2 ^ 36
     → multiplier_at row place (signed_number z ++ bytes) next ≡ part_then (Part row z) (next (place + length (signed_number z)) bytes)
 multiplier_is_read row z place bytes next present small =
@@ -115,7 +115,7 @@ multiplier_is_read row z place bytes next present small =
     ∙ rw (apart (unsigned z) 0 (unsigned_present z present))
         (ap (λ (w : ℤ). part_then (Part row w) (next (place + length (signed_number z)) bytes)) (signed_unsigned z))
 
-row_is_read : (row least n place : ℕ) (bytes : List ℕ) (next : ℕ → List ℕ → Reading Token) → least ≤ row → row ≤ 1023
+pub row_is_read : (row least n place : ℕ) (bytes : List ℕ) (next : ℕ → List ℕ → Reading Token) → least ≤ row → row ≤ 1023
     → multipliers_at (suc n) least place (number row ++ bytes) next
     ≡ multiplier_at row (place + length (number row)) bytes (λ p rest. multipliers_at n (row + 1) p rest next)
 row_is_read row least n place bytes next up l =
@@ -181,7 +181,7 @@ cert_is_read c place bytes next h =
         (multipliers_are_read c.y 0 (place + length divisor + length count) bytes next rises two.1)
     ∙ ap (λ (k : ℕ). parts_then (LeafQ c.q ∷ Parts (length c.y) ∷ flat_map multiplier_part c.y) (next k bytes)) start
 
-split_is_read : (col : ℕ) (cut : ℤ) (place : ℕ) (bytes : List ℕ) (next : ℕ → List ℕ → Reading Token) → col ≤ 4095
+pub split_is_read : (col : ℕ) (cut : ℤ) (place : ℕ) (bytes : List ℕ) (next : ℕ → List ℕ → Reading Token) → col ≤ 4095
     → unsigned_abs cut ≤ 2 ^ 24 → split_at place (number col ++ (signed_number cut ++ bytes)) next
     ≡ part_then (SplitAt col cut) (next (place + length (number col) + length (signed_number cut)) bytes)
 split_is_read col cut place bytes next l small =

@@ -6,3 +6,4 @@ pub mod CertSizes
 pub mod SpelledNumbers
 pub mod SpellingLaws
 pub mod GrammarLaws
+pub mod UniqueLaws

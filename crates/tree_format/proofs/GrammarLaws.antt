@@ -1,6 +1,36 @@
 -- What is read without a fault was written, part by part.
-use Rattle.std.specs.Prelude.{◌≡◌, ℕ, zero, suc, ◌+◌, ◌*◌, ◌/◌, ◌%◌, ◌^◌, ◌<◌, ◌≤◌, ◌==◌, ◌&&◌, not, Bool, true, false, nat_lt, List, [], ◌∷◌,
-    ◌++◌, length, ℤ, pos, negsuc, ◌≤ℤ◌, Option, Some, None}
+use Rattle.std.specs.Prelude.{
+  ◌≡◌,
+  ℕ,
+  zero,
+  suc,
+  ◌+◌,
+  ◌*◌,
+  ◌/◌,
+  ◌%◌,
+  ◌^◌,
+  ◌<◌,
+  ◌≤◌,
+  ◌==◌,
+  ◌&&◌,
+  not,
+  Bool,
+  true,
+  false,
+  nat_lt,
+  List,
+  [],
+  ◌∷◌,
+  ◌++◌,
+  length,
+  ℤ,
+  pos,
+  negsuc,
+  ◌≤ℤ◌,
+  Option,
+  Some,
+  None,
+}
 use Rattle.std.specs.Int.RustNames.{unsigned_abs}
 use Rattle.std.specs.Int.Signed.{lt_z}
 use Rattle.std.specs.List.{flat_map, list_all}
@@ -20,11 +50,44 @@ use Rattle.proof_tree.specs.declared.claims.Claim.TheVariants.{Best, Empty}
 use Rattle.proof_tree.proofs.CertLaws.{cert_exact}
 use Rattle.tree_format.specs.Readings.{Reading, stopped, part_then, parts_then, complete}
 use Rattle.tree_format.specs.Numbers.{unsigned, signed}
-use Rattle.tree_format.specs.Spellings.{longest, number, signed_number, opening, claim_bytes, multiplier_bytes, cert_bytes, tree_bytes,
-    spelling, IsClaimWithin, Spells}
-use Rattle.tree_format.specs.Grammar.{number_at, opening_at, coordinates_at, point_at, claim_at, claim_kind, of_point, of_emptiness, of_neither,
-    ClaimKind, multiplier_at, multipliers_at, cert_at, split_at, NodeKind, node_kind, leaf_kind, split_kind, no_kind, tree_at, end_at, reading,
-    first_fault}
+use Rattle.tree_format.specs.Spellings.{
+  longest,
+  number,
+  signed_number,
+  opening,
+  claim_bytes,
+  multiplier_bytes,
+  cert_bytes,
+  tree_bytes,
+  spelling,
+  IsClaimWithin,
+  Spells,
+}
+use Rattle.tree_format.specs.Grammar.{
+  number_at,
+  opening_at,
+  coordinates_at,
+  point_at,
+  claim_at,
+  claim_kind,
+  of_point,
+  of_emptiness,
+  of_neither,
+  ClaimKind,
+  multiplier_at,
+  multipliers_at,
+  cert_at,
+  split_at,
+  NodeKind,
+  node_kind,
+  leaf_kind,
+  split_kind,
+  no_kind,
+  tree_at,
+  end_at,
+  reading,
+  first_fault,
+}
 use Rattle.tree_format.specs.Laws.{ReadingsAreSpelled}
 use Rattle.tree_format.specs.declared.errors.TreeError.{TreeError}
 use Rattle.tree_format.specs.declared.errors.TreeError.TheVariants as faults
@@ -32,8 +95,19 @@ use Rattle.tree_format.specs.declared.tokens.Token.{Token}
 use Rattle.tree_format.specs.declared.tokens.Token.TheVariants.{Part}
 use Rattle.tree_format.proofs.NumberLaws.{not_lt}
 use Rattle.tree_format.proofs.SpelledNumbers.{number_spelled}
-use Rattle.tree_format.proofs.SpellingLaws.{number_is_read, signed_is_read, place_more, coordinates_are_read, row_is_read, multiplier_is_read,
-    multipliers_are_read, cert_is_read, split_is_read, tree_is_read, claim_is_read}
+use Rattle.tree_format.proofs.SpellingLaws.{
+  number_is_read,
+  signed_is_read,
+  place_more,
+  coordinates_are_read,
+  row_is_read,
+  multiplier_is_read,
+  multipliers_are_read,
+  cert_is_read,
+  split_is_read,
+  tree_is_read,
+  claim_is_read,
+}
 
 -- a value at the front of bytes, and what follows it, where the rest has no fault either
 pub record Taken {A : Type 0} (P : A → Type 0) (spell : A → List ℕ) (after : A → List ℕ → Reading Token) (bytes : List ℕ) : Type 0 where
@@ -162,8 +236,8 @@ one_more n least row z y up within some small a = record {
   size = ap suc a.size;
   rising = join (is_at_most least row) (rise_from (suc row) y) (lt_true least (suc row) (omega arith)) (rw (add-one row) at a.rising);
   each = join (is_multiplier 1024 (row, z)) (list_all (is_multiplier 1024) y) (join (nat_lt row 1024 && nat_lt 0 (unsigned_abs z))
-    (is_at_most (unsigned_abs z) (2 ^ 36)) (join (nat_lt row 1024) (nat_lt 0 (unsigned_abs z)) (lt_true row 1024 (omega arith))
-    (lt_true 0 (unsigned_abs z) some)) (lt_true (unsigned_abs z) (suc (2 ^ 36)) (omega arith))) a.each;
+      (is_at_most (unsigned_abs z) (2 ^ 36)) (join (nat_lt row 1024) (nat_lt 0 (unsigned_abs z)) (lt_true row 1024 (omega arith))
+      (lt_true 0 (unsigned_abs z) some)) (lt_true (unsigned_abs z) (suc (2 ^ 36)) (omega arith))) a.each;
 }
 
 row_taken : (n least place : ℕ) (bytes : List ℕ) (next : ℕ → List ℕ → Reading Token) → Each (λ b. b < 256) bytes
@@ -218,7 +292,7 @@ multipliers_taken (suc n) least place bytes next each none =
           ∙ sym (append_assoc first second (third ++ y.others)) ∙ sym (append_assoc (first ++ second) third y.others);
       are_bytes = y.are_bytes;
       none = moved _ _ (ap (λ (k : ℕ). next k y.others)
-        (let l = length-append (first ++ second) third in let m = length-append first second in omega arith)) y.none;
+          (let l = length-append (first ++ second) third in let m = length-append first second in omega arith)) y.none;
     }
 
 cert_taken : (place : ℕ) (bytes : List ℕ) (next : ℕ → List ℕ → Reading Token) → Each (λ b. b < 256) bytes
@@ -235,16 +309,16 @@ cert_taken place bytes next each none =
     record {
       value = c;
       fits = (cert_exact 1024 c).0 (join ((not (lt_z c.q (pos 0)) && not (lt_z (pos (2 ^ 36)) c.q)) && rise_from 0 c.y)
-        (list_all (is_multiplier 1024) c.y) (join (not (lt_z c.q (pos 0)) && not (lt_z (pos (2 ^ 36)) c.q)) (rise_from 0 c.y)
-        (divisor_test q.value q.fits) y.fits.rising) y.fits.each);
+          (list_all (is_multiplier 1024) c.y) (join (not (lt_z c.q (pos 0)) && not (lt_z (pos (2 ^ 36)) c.q)) (rise_from 0 c.y)
+          (divisor_test q.value q.fits) y.fits.rising) y.fits.each);
       others = y.others;
       is = q.is ∙ ap (λ (bs : List ℕ). first ++ bs)
           (n.is ∙ ap (λ (bs : List ℕ). bs ++ n.others) (sym size) ∙ ap (λ (bs : List ℕ). second ++ bs) y.is)
           ∙ sym (append_assoc first second (third ++ y.others)) ∙ sym (append_assoc (first ++ second) third y.others);
       are_bytes = y.are_bytes;
       none = moved _ _ (ap (λ (k : ℕ). next k y.others)
-        (let l = length-append (first ++ second) third in let m = length-append first second in
-        let s = ap (λ (bs : List ℕ). length bs) size in omega arith)) y.none;
+          (let l = length-append (first ++ second) third in let m = length-append first second in
+          let s = ap (λ (bs : List ℕ). length bs) size in omega arith)) y.none;
     }
   where
     divisor_test : (q : ℕ) → q ≤ 2 ^ 36 → (not (lt_z (pos q) (pos 0)) && not (lt_z (pos (2 ^ 36)) (pos q))) ≡ true
@@ -335,7 +409,7 @@ sides_taken k nodes place b bytes next each e sides none =
           ∙ sym (append_assoc (first ++ second ++ third) fourth right.others));
       are_bytes = right.are_bytes;
       none = moved _ _ (ap (λ (n : ℕ). next n (one + length third + length fourth) right.others) (omega arith)
-        ∙ ap (λ (q : ℕ). next (nodes + node_count t) q right.others) (omega arith)) right.none;
+          ∙ ap (λ (q : ℕ). next (nodes + node_count t) q right.others) (omega arith)) right.none;
     }
 
 kind_leaf : (b : ℕ) → node_kind b ≡ leaf_kind → b ≡ 76
@@ -411,7 +485,7 @@ point_taken place b bytes next each e none =
           ∙ sym (append_assoc first second x.others));
       are_bytes = x.are_bytes;
       none = moved _ _ (ap (λ (q : ℕ). next q x.others) (let l = length-append first second in
-        let s = ap (λ (bs : List ℕ). length bs) size in omega arith)) x.none;
+          let s = ap (λ (bs : List ℕ). length bs) size in omega arith)) x.none;
     }
 
 claim_taken : (place : ℕ) (bytes : List ℕ) (next : ℕ → List ℕ → Reading Token) → Each (λ b. b < 256) bytes
@@ -475,10 +549,13 @@ readings_are_spelled bytes each none =
     let deep = t.fits.deep in
     let few = t.fits.count in
     let spelled = o.is ∙ ap (λ (bs : List ℕ). opening ++ bs)
-        (c.is ∙ ap (λ (bs : List ℕ). claim_bytes c.value ++ bs)
-          (t.is ∙ ap (λ (bs : List ℕ). tree_bytes t.value ++ bs) end ∙ append-nil (tree_bytes t.value))) in
-    (c.value, t.value, record {
-      claim = c.fits;
-      tree = record { count = omega arith; deep = omega arith; numbers = t.fits.numbers };
-      spelled = spelled ∙ sym (append_assoc opening (claim_bytes c.value) (tree_bytes t.value));
-    })
+    (c.is ∙ ap (λ (bs : List ℕ). claim_bytes c.value ++ bs)
+    (t.is ∙ ap (λ (bs : List ℕ). tree_bytes t.value ++ bs) end ∙ append-nil (tree_bytes t.value))) in (
+      c.value,
+      t.value,
+      record {
+        claim = c.fits;
+        tree = record { count = omega arith; deep = omega arith; numbers = t.fits.numbers };
+        spelled = spelled ∙ sym (append_assoc opening (claim_bytes c.value) (tree_bytes t.value));
+      },
+    )

@@ -7,3 +7,4 @@ pub mod SpelledNumbers
 pub mod SpellingLaws
 pub mod GrammarLaws
 pub mod UniqueLaws
+pub mod OrderLaws

@@ -122,7 +122,7 @@ number_read most (suc i) g read low start n bytes next fuel small shortest fits 
         let rest = others (omega arith) p.0 (λ h. some_high n l) (rw value fits) in
         let bytes' = number_bytes (suc i) (n / 128) ++ bytes in
         let place : start + (read + 1 + length (number_bytes (suc i) (n / 128)))
-                ≡ start + (read + length ((128 + n % 128) ∷ number_bytes (suc i) (n / 128))) = omega arith in
+        ≡ start + (read + length ((128 + n % 128) ∷ number_bytes (suc i) (n / 128))) = omega arith in
         let end = start + (read + 1 + length (number_bytes (suc i) (n / 128))) in
         rw p.1 (from_on most g read low start (128 + n % 128) _ bytes' next first ∙ rest ∙ ap (λ (v : ℕ). next v end bytes) value
         ∙ ap (λ (q : ℕ). next (low + n * 128 ^ read) q bytes) place)

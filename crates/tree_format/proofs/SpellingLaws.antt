@@ -1,6 +1,34 @@
 -- What spells a proof is read, part by part, whatever follows it.
-use Rattle.std.specs.Prelude.{◌≡◌, ℕ, zero, suc, ◌+◌, ◌*◌, ◌/◌, ◌%◌, ◌^◌, ◌<◌, ◌≤◌, ◌==◌, ◌&&◌, not, Bool, true, false, nat_lt, List, [], ◌∷◌,
-    ◌++◌, length, ℤ, pos, negsuc, ◌≤ℤ◌, None}
+use Rattle.std.specs.Prelude.{
+  ◌≡◌,
+  ℕ,
+  zero,
+  suc,
+  ◌+◌,
+  ◌*◌,
+  ◌/◌,
+  ◌%◌,
+  ◌^◌,
+  ◌<◌,
+  ◌≤◌,
+  ◌==◌,
+  ◌&&◌,
+  not,
+  Bool,
+  true,
+  false,
+  nat_lt,
+  List,
+  [],
+  ◌∷◌,
+  ◌++◌,
+  length,
+  ℤ,
+  pos,
+  negsuc,
+  ◌≤ℤ◌,
+  None,
+}
 use Rattle.std.specs.Int.RustNames.{unsigned_abs}
 use Rattle.std.specs.Int.Signed.{lt_z}
 use Rattle.std.specs.List.{flat_map, list_all}
@@ -20,10 +48,36 @@ use Rattle.proof_tree.specs.declared.claims.Claim.TheVariants.{Best, Empty}
 use Rattle.proof_tree.proofs.CertLaws.{cert_exact}
 use Rattle.tree_format.specs.Readings.{Reading, part_then, parts_then, complete}
 use Rattle.tree_format.specs.Numbers.{unsigned, signed}
-use Rattle.tree_format.specs.Spellings.{longest, number, signed_number, opening, claim_bytes, multiplier_bytes, cert_bytes, tree_bytes,
-    spelling, claim_parts, multiplier_part, tree_parts, proof_parts, IsClaimWithin, Spells}
-use Rattle.tree_format.specs.Grammar.{number_at, coordinates_at, point_at, claim_at, multiplier_at, multipliers_at, cert_at, split_at,
-    tree_at, end_at, reading}
+use Rattle.tree_format.specs.Spellings.{
+  longest,
+  number,
+  signed_number,
+  opening,
+  claim_bytes,
+  multiplier_bytes,
+  cert_bytes,
+  tree_bytes,
+  spelling,
+  claim_parts,
+  multiplier_part,
+  tree_parts,
+  proof_parts,
+  IsClaimWithin,
+  Spells,
+}
+use Rattle.tree_format.specs.Grammar.{
+  number_at,
+  coordinates_at,
+  point_at,
+  claim_at,
+  multiplier_at,
+  multipliers_at,
+  cert_at,
+  split_at,
+  tree_at,
+  end_at,
+  reading,
+}
 use Rattle.tree_format.specs.Laws.{SpellingsAreRead}
 use Rattle.tree_format.specs.declared.tokens.Token.{Token}
 use Rattle.tree_format.specs.declared.tokens.Token.TheVariants.{Claimed, Coordinate, SplitAt, LeafQ, Parts, Part}
@@ -79,13 +133,13 @@ coordinates_are_read (z ∷ x) place bytes next each =
     let first = signed_number z in
     let others = flat_map signed_number x in
     let after : ℕ → ℕ → List ℕ → Reading Token =
-        λ v p rest. part_then (Coordinate (signed v)) (coordinates_at (length x) p rest next) in
+    λ v p rest. part_then (Coordinate (signed v)) (coordinates_at (length x) p rest next) in
     ap (λ (bs : List ℕ). number_at (2 ^ 25) place bs after) (append_assoc first others bytes)
     ∙ signed_is_read (2 ^ 24) z place (others ++ bytes) after each.0 (lit< tt)
     ∙ ap (λ (w : ℤ). part_then (Coordinate w) (coordinates_at (length x) (place + length first) (others ++ bytes) next)) (signed_unsigned z)
     ∙ ap (part_then (Coordinate z)) (coordinates_are_read x (place + length first) bytes next each.1)
     ∙ ap (λ (r : Reading Token). part_then (Coordinate z) (parts_then (flat_map (λ z. Coordinate z ∷ []) x) r))
-        (place_more place first others bytes next)
+    (place_more place first others bytes next)
 
 -- a multiplier that may stand
 record IsMultiplier (p : ℕ × ℤ) : Type 0 where
@@ -113,7 +167,7 @@ pub multiplier_is_read : (row : ℕ) (z : ℤ) (place : ℕ) (bytes : List ℕ) 
 multiplier_is_read row z place bytes next present small =
     signed_is_read (2 ^ 36) z place bytes _ small (lit< tt)
     ∙ rw (apart (unsigned z) 0 (unsigned_present z present))
-        (ap (λ (w : ℤ). part_then (Part row w) (next (place + length (signed_number z)) bytes)) (signed_unsigned z))
+    (ap (λ (w : ℤ). part_then (Part row w) (next (place + length (signed_number z)) bytes)) (signed_unsigned z))
 
 pub row_is_read : (row least n place : ℕ) (bytes : List ℕ) (next : ℕ → List ℕ → Reading Token) → least ≤ row → row ≤ 1023
     → multipliers_at (suc n) least place (number row ++ bytes) next
@@ -173,12 +227,12 @@ cert_is_read c place bytes next h =
     (let l = length-append (divisor ++ count) others in let m = length-append divisor count in omega arith) in
     ap (λ (bs : List ℕ). cert_at place bs next) bytes_are
     ∙ number_is_read (2 ^ 36) (unsigned_abs c.q) place (count ++ (others ++ bytes)) _
-        (absolute (2 ^ 36) c.q h.not_negative h.divisor) (lit< tt)
+    (absolute (2 ^ 36) c.q h.not_negative h.divisor) (lit< tt)
     ∙ ap (λ (z : ℤ). part_then (LeafQ z) (number_at 1024 (place + length divisor) (count ++ (others ++ bytes)) after))
-        (not_negative c.q h.not_negative)
+    (not_negative c.q h.not_negative)
     ∙ ap (part_then (LeafQ c.q)) (number_is_read 1024 (length c.y) (place + length divisor) (others ++ bytes) after few (lit< tt))
     ∙ ap (λ (r : Reading Token). part_then (LeafQ c.q) (part_then (Parts (length c.y)) r))
-        (multipliers_are_read c.y 0 (place + length divisor + length count) bytes next rises two.1)
+    (multipliers_are_read c.y 0 (place + length divisor + length count) bytes next rises two.1)
     ∙ ap (λ (k : ℕ). parts_then (LeafQ c.q ∷ Parts (length c.y) ∷ flat_map multiplier_part c.y) (next k bytes)) start
 
 pub split_is_read : (col : ℕ) (cut : ℤ) (place : ℕ) (bytes : List ℕ) (next : ℕ → List ℕ → Reading Token) → col ≤ 4095
@@ -200,14 +254,14 @@ tree_is_read (leaf c) k nodes place bytes next deep few within =
 tree_is_read (split col cut y left right) zero nodes place bytes next deep few within = absurd (omega arith)
 tree_is_read (split col cut y left right) (suc k) nodes place bytes next deep few within =
     rw (tree_at, lt_true nodes 1000000 (omega arith)) (
-      ap (λ (bs : List ℕ). split_at (place + 1) bs first) bytes_are
-      ∙ split_is_read col cut (place + 1) (tree_bytes left ++ (tree_bytes right ++ bytes)) first within.0 within.1
-      ∙ ap (part_then (SplitAt col cut)) (tree_is_read left k (nodes + 1) one (tree_bytes right ++ bytes) second (omega arith) (omega arith) within.2
-      ∙ ap (parts_then (tree_parts left))
-        (tree_is_read right k (nodes + 1 + node_count left) two bytes next (omega arith) (omega arith) within.3)
-      ∙ parts_then_more (tree_parts left) (tree_parts right) _)
-      ∙ ap (λ (n : ℕ). parts_then all (next n (two + length (tree_bytes right)) bytes)) counted
-      ∙ ap (λ (q : ℕ). parts_then all (next (nodes + suc (node_count left + node_count right)) q bytes)) ended
+    ap (λ (bs : List ℕ). split_at (place + 1) bs first) bytes_are
+    ∙ split_is_read col cut (place + 1) (tree_bytes left ++ (tree_bytes right ++ bytes)) first within.0 within.1
+    ∙ ap (part_then (SplitAt col cut)) (tree_is_read left k (nodes + 1) one (tree_bytes right ++ bytes) second (omega arith) (omega arith) within.2
+    ∙ ap (parts_then (tree_parts left))
+    (tree_is_read right k (nodes + 1 + node_count left) two bytes next (omega arith) (omega arith) within.3)
+    ∙ parts_then_more (tree_parts left) (tree_parts right) _)
+    ∙ ap (λ (n : ℕ). parts_then all (next n (two + length (tree_bytes right)) bytes)) counted
+    ∙ ap (λ (q : ℕ). parts_then all (next (nodes + suc (node_count left + node_count right)) q bytes)) ended
     )
   where
     second : ℕ → ℕ → List ℕ → Reading Token
@@ -261,10 +315,10 @@ pub spelling_is_read : (c : Claim) (t : PlainTree) → IsClaimWithin c → IsTre
 spelling_is_read c t claim tree =
     claim_is_read c 5 (tree_bytes t) _ claim
     ∙ ap (λ (bs : List ℕ). parts_then (claim_parts c) (tree_at 801 0 (5 + length (claim_bytes c)) bs (λ n p rest. end_at p rest)))
-        (sym (append-nil (tree_bytes t)))
+    (sym (append-nil (tree_bytes t)))
     ∙ ap (parts_then (claim_parts c))
-        (tree_is_read t 800 0 (5 + length (claim_bytes c)) [] (λ n p rest. end_at p rest) tree.deep (let few = tree.count in omega arith)
-        tree.numbers)
+    (tree_is_read t 800 0 (5 + length (claim_bytes c)) [] (λ n p rest. end_at p rest) tree.deep (let few = tree.count in omega arith)
+    tree.numbers)
     ∙ parts_then_more (claim_parts c) (tree_parts t) complete
 
 pub spellings_are_read : SpellingsAreRead

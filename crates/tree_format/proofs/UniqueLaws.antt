@@ -9,8 +9,18 @@ use Rattle.proof_tree.specs.Trees.{PlainTree}
 use Rattle.proof_tree.specs.declared.claims.Claim.{Claim}
 use Rattle.proof_tree.specs.declared.claims.Claim.TheVariants.{Best, Empty}
 use Rattle.tree_format.specs.Readings.{Reading, parts_then, complete}
-use Rattle.tree_format.specs.Spellings.{spelling, opening, claim_bytes, tree_bytes, claim_parts, tree_parts, proof_parts, multiplier_part,
-    IsClaimWithin, Spells}
+use Rattle.tree_format.specs.Spellings.{
+  spelling,
+  opening,
+  claim_bytes,
+  tree_bytes,
+  claim_parts,
+  tree_parts,
+  proof_parts,
+  multiplier_part,
+  IsClaimWithin,
+  Spells,
+}
 use Rattle.tree_format.specs.Grammar.{reading, claim_at, tree_at, end_at}
 use Rattle.tree_format.specs.Laws.{OneSpelling}
 use Rattle.tree_format.specs.declared.tokens.Token.{Token}
@@ -53,10 +63,9 @@ same_trees (split col cut w left right) (split col' cut' w' left' right') xs ys 
     let others : (tree_parts left ++ tree_parts right) ++ xs ≡ (tree_parts left' ++ tree_parts right') ++ ys = cc in
     let l = same_trees left left' (tree_parts right ++ xs) (tree_parts right' ++ ys)
     (sym (append_assoc (tree_parts left) (tree_parts right) xs) ∙ others ∙ append_assoc (tree_parts left') (tree_parts right') ys) in
-    let r = same_trees right right' xs ys l.1 in
-    (
+    let r = same_trees right right' xs ys l.1 in (
       ap (λ (k : ℕ). split k cut w left right) column ∙ ap (λ (z : ℤ). split col' z w left right) number
-      ∙ ap (λ (s : PlainTree). split col' cut' w s right) l.0 ∙ ap (λ (s : PlainTree). split col' cut' w left' s) r.0,
+          ∙ ap (λ (s : PlainTree). split col' cut' w s right) l.0 ∙ ap (λ (s : PlainTree). split col' cut' w left' s) r.0,
       r.1,
     )
 
@@ -82,7 +91,7 @@ same_proofs : (c d : Claim) (t u : PlainTree) (xs ys : List ℕ) → claim_bytes
     → proof_parts c t ≡ proof_parts d u → (c ≡ d) × (t ≡ u)
 same_proofs (Best x) (Best z) t u xs ys b e =
     let p = same_points x z t u (let f : flat_map (λ z. Coordinate z ∷ []) x ++ tree_parts t
-            ≡ flat_map (λ z. Coordinate z ∷ []) z ++ tree_parts u = cc in f) in
+    ≡ flat_map (λ z. Coordinate z ∷ []) z ++ tree_parts u = cc in f) in
     let s = same_trees t u [] [] (append-nil (tree_parts t) ∙ p.1 ∙ sym (append-nil (tree_parts u))) in
     (ap (λ (x : List ℤ). Best x) p.0, s.0)
 same_proofs (Best x) Empty t u xs ys b e = absurd (omega (arith, same_head 66 69 _ _ b))
@@ -103,11 +112,11 @@ followed : (c : Claim) (t : PlainTree) (more : List ℕ) → IsClaimWithin c →
 followed c t more claim tree = (
   5 + length (claim_bytes c) + length (tree_bytes t),
   ap reading (regrouped c t more)
-  ∙ claim_is_read c 5 (tree_bytes t ++ more) _ claim
-  ∙ ap (parts_then (claim_parts c))
-    (tree_is_read t 800 0 (5 + length (claim_bytes c)) more (λ n p rest. end_at p rest) tree.deep (let few = tree.count in omega arith)
-    tree.numbers)
-  ∙ parts_then_more (claim_parts c) (tree_parts t) (end_at (5 + length (claim_bytes c) + length (tree_bytes t)) more),
+      ∙ claim_is_read c 5 (tree_bytes t ++ more) _ claim
+      ∙ ap (parts_then (claim_parts c))
+      (tree_is_read t 800 0 (5 + length (claim_bytes c)) more (λ n p rest. end_at p rest) tree.deep (let few = tree.count in omega arith)
+      tree.numbers)
+      ∙ parts_then_more (claim_parts c) (tree_parts t) (end_at (5 + length (claim_bytes c) + length (tree_bytes t)) more),
 )
 
 pub one_spelling : OneSpelling

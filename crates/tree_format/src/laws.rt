@@ -1,5 +1,6 @@
 //! The laws of tree files, each as the contract of a function that does nothing.
 ghost use Rattle.tree_format.specs.Laws.{SpellingsAreRead, ReadingsAreSpelled, OneSpelling};
+ghost use Rattle.tree_format.specs.Orders.{PartsAreInOrder};
 
 /// What spells a proof has no fault, and its parts are those of the proof.
 pub fn spellings_are_read()
@@ -14,4 +15,9 @@ pub fn readings_are_spelled()
 /// No bytes spell two proofs, and no spelling begins another.
 pub fn one_spelling()
     ensures { OneSpelling }
+{}
+
+/// The parts of all bytes are in order: the claim, its coordinates, and the parts of a tree in preorder, up to the first fault.
+pub fn parts_are_in_order()
+    ensures { PartsAreInOrder }
 {}

@@ -8,3 +8,4 @@ pub mod SpellingLaws
 pub mod GrammarLaws
 pub mod UniqueLaws
 pub mod OrderLaws
+pub mod StretchLaws

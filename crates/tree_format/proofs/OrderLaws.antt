@@ -1,11 +1,11 @@
 -- The parts of all bytes are in order.
-use Rattle.std.specs.Prelude.{◌≡◌, ℕ, zero, suc, ◌+◌, ◌^◌, ◌==◌, if◌then◌else◌, Bool, true, false, nat_lt, List, [], ◌∷◌, ◌++◌, length, ℤ, Option, Some, None}
+use Rattle.std.specs.Prelude.{◌≡◌, ℕ, zero, suc, ◌+◌, ◌<◌, ◌^◌, ◌==◌, if◌then◌else◌, Bool, true, false, nat_lt, List, [], ◌∷◌, ◌++◌, length, ℤ, Option, Some, None}
 use Rattle.std.specs.List.{flat_map}
-use Rattle.std.proofs.Common.{refl, sym, subst, append_assoc}
+use Rattle.std.proofs.Common.{arith, refl, sym, subst, append_assoc}
 use Rattle.ip_defs.specs.declared.certificates.Cert.{Cert}
 use Rattle.proof_tree.specs.LabelledTrees.{leaf, split}
 use Rattle.proof_tree.specs.Trees.{PlainTree}
-use Rattle.tree_format.specs.Readings.{Reading, stopped, part_then, parts_then}
+use Rattle.tree_format.specs.Readings.{Reading, complete, stopped, part_then, parts_then}
 use Rattle.tree_format.specs.Numbers.{number_from, next_digit, signed}
 use Rattle.tree_format.specs.Spellings.{longest, opening, tree_parts, multiplier_part}
 use Rattle.tree_format.specs.Grammar.{
@@ -43,6 +43,7 @@ use Rattle.tree_format.specs.Orders.{
   AreInOrder,
   IsInOrder,
   PartsAreInOrder,
+  MayEnd,
   after_part,
 }
 use Rattle.tree_format.specs.declared.errors.TreeError.{TreeError}
@@ -191,3 +192,29 @@ pub parts_are_in_order : PartsAreInOrder
 parts_are_in_order bytes =
     opening_in_order opening 0 bytes _ (λ p rest. claim_in_order p rest _ (λ p rest. tree_in_order 801 0 0 p rest _
     (λ n p rest. end_in_order p rest)))
+
+-- ---- what is left of an order
+
+-- where something has to come, something is left
+pub something_left : (e : Expected) (r : Reading Token) → (MayEnd None e → ⊥) → IsInOrder e r → r ≡ complete → ⊥
+something_left e r wanted order is = wanted (subst (IsInOrder e) is order)
+
+after_multipliers : (y : List (ℕ × ℤ)) (k : ℕ) (ys : List Token) (fault : Option TreeError)
+    → AreInOrder (Some (multipliers (length y) k)) (flat_map multiplier_part y ++ ys) fault → AreInOrder (Some (trees k)) ys fault
+after_multipliers [] k ys fault h = h
+after_multipliers (p ∷ y) k ys fault h = after_multipliers y k ys fault h
+
+-- after the parts of a tree
+pub after_tree : (t : PlainTree) (k : ℕ) (ys : List Token) (fault : Option TreeError)
+    → AreInOrder (Some (trees (suc k))) (tree_parts t ++ ys) fault → AreInOrder (Some (trees k)) ys fault
+after_tree (leaf c) k ys fault h = after_multipliers c.y k ys fault h
+after_tree (split col cut y left right) k ys fault h =
+    let regrouped = subst (λ (ps : List Token). AreInOrder (Some (trees (suc (suc k)))) ps fault)
+    (append_assoc (tree_parts left) (tree_parts right) ys) h in
+    after_tree right k ys fault (after_tree left (suc k) (tree_parts right ++ ys) fault regrouped)
+
+-- the multipliers after the next one
+pub after_one : (n k : ℕ) (p : ℕ × ℤ) (r s : Reading Token) → 0 < n → IsInOrder (multipliers n k) r → r ≡ parts_then (multiplier_part p) s
+    → (m : ℕ) × (suc m ≡ n) × IsInOrder (multipliers m k) s
+after_one zero k p r s l order is = absurd (omega arith)
+after_one (suc m) k p r s l order is = (m, refl, subst (IsInOrder (a_multiplier m k)) is order)

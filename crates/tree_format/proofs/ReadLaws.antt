@@ -18,6 +18,7 @@ use Rattle.tree_format.specs.Internal.Remaining.{
   HasRead,
   IsSound,
   IsSoundUnless,
+  IsStep,
   start_with,
 }
 use Rattle.tree_format.specs.declared.errors.TreeError.{TreeError}
@@ -106,13 +107,6 @@ read_off s t bytes b e h some sound stop = record {
 
     parts : parts_so_far (bytes ++ b ∷ []) ≡ parts_so_far bytes
     parts = ap (λ (r : Reading Token). r.parts) here ∙ append-nil (parts_so_far bytes)
-
--- a step of a reader, as its contract gives it
-pub record IsStep (s t : Progress) (b : ℕ) (answer : Result Token TreeError) : Type 0 where
-  pub left : (more : List ℕ) → answer_then answer (remaining t more) ≡ remaining s (b ∷ more)
-  pub sound : IsSoundUnless t.fault t
-  pub fault : t.fault ≡ fault_of answer
-  pub claim : (more : List ℕ) → claim_unless t.fault t more ≡ claim_unless s.fault s (b ∷ more)
 
 pub answered : (s t : Progress) (bytes : List ℕ) (b : ℕ) (answer : Result Token TreeError) → IsStep s t b answer → HasRead s bytes
     → IsAnswer bytes b answer

@@ -59,6 +59,7 @@ use Rattle.tree_format.specs.Spellings.{
   tree_bytes,
   spelling,
   claim_parts,
+  coordinate_part,
   multiplier_part,
   tree_parts,
   proof_parts,
@@ -127,7 +128,7 @@ place_more place xs ys bytes next = ap (λ (k : ℕ). next k bytes) (let l = len
 pub coordinates_are_read : (x : List ℤ) (place : ℕ) (bytes : List ℕ) (next : ℕ → List ℕ → Reading Token)
     → Each (λ z. unsigned_abs z ≤ 2 ^ 24) x
     → coordinates_at (length x) place (flat_map signed_number x ++ bytes) next
-    ≡ parts_then (flat_map (λ z. Coordinate z ∷ []) x) (next (place + length (flat_map signed_number x)) bytes)
+    ≡ parts_then (flat_map coordinate_part x) (next (place + length (flat_map signed_number x)) bytes)
 coordinates_are_read [] place bytes next each = ap (λ (k : ℕ). next k bytes) (omega arith)
 coordinates_are_read (z ∷ x) place bytes next each =
     let first = signed_number z in
@@ -138,7 +139,7 @@ coordinates_are_read (z ∷ x) place bytes next each =
     ∙ signed_is_read (2 ^ 24) z place (others ++ bytes) after each.0 (lit< tt)
     ∙ ap (λ (w : ℤ). part_then (Coordinate w) (coordinates_at (length x) (place + length first) (others ++ bytes) next)) (signed_unsigned z)
     ∙ ap (part_then (Coordinate z)) (coordinates_are_read x (place + length first) bytes next each.1)
-    ∙ ap (λ (r : Reading Token). part_then (Coordinate z) (parts_then (flat_map (λ z. Coordinate z ∷ []) x) r))
+    ∙ ap (λ (r : Reading Token). part_then (Coordinate z) (parts_then (flat_map coordinate_part x) r))
     (place_more place first others bytes next)
 
 -- a multiplier that may stand

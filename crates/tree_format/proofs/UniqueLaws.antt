@@ -17,6 +17,7 @@ use Rattle.tree_format.specs.Spellings.{
   claim_parts,
   tree_parts,
   proof_parts,
+  coordinate_part,
   multiplier_part,
   IsClaimWithin,
   Spells,
@@ -70,8 +71,8 @@ same_trees (split col cut w left right) (split col' cut' w' left' right') xs ys 
     )
 
 -- coordinates, before a tree
-same_points : (x z : List ℤ) (t u : PlainTree) → flat_map (λ z. Coordinate z ∷ []) x ++ tree_parts t
-    ≡ flat_map (λ z. Coordinate z ∷ []) z ++ tree_parts u → (x ≡ z) × (tree_parts t ≡ tree_parts u)
+same_points : (x z : List ℤ) (t u : PlainTree) → flat_map coordinate_part x ++ tree_parts t
+    ≡ flat_map coordinate_part z ++ tree_parts u → (x ≡ z) × (tree_parts t ≡ tree_parts u)
 same_points [] [] t u e = (refl, e)
 same_points [] (w ∷ z) (leaf c) u e = absurd cc
 same_points [] (w ∷ z) (split col cut y left right) u e = absurd cc
@@ -79,7 +80,7 @@ same_points (v ∷ x) [] t (leaf c) e = absurd cc
 same_points (v ∷ x) [] t (split col cut y left right) e = absurd cc
 same_points (v ∷ x) (w ∷ z) t u e =
     let first : v ≡ w = cc in
-    let others : flat_map (λ z. Coordinate z ∷ []) x ++ tree_parts t ≡ flat_map (λ z. Coordinate z ∷ []) z ++ tree_parts u = cc in
+    let others : flat_map coordinate_part x ++ tree_parts t ≡ flat_map coordinate_part z ++ tree_parts u = cc in
     let on = same_points x z t u others in
     (ap (λ (k : ℤ). k ∷ x) first ∙ ap (λ (ks : List ℤ). w ∷ ks) on.0, on.1)
 
@@ -90,8 +91,8 @@ same_head a b xs ys e = cc
 same_proofs : (c d : Claim) (t u : PlainTree) (xs ys : List ℕ) → claim_bytes c ++ xs ≡ claim_bytes d ++ ys
     → proof_parts c t ≡ proof_parts d u → (c ≡ d) × (t ≡ u)
 same_proofs (Best x) (Best z) t u xs ys b e =
-    let p = same_points x z t u (let f : flat_map (λ z. Coordinate z ∷ []) x ++ tree_parts t
-    ≡ flat_map (λ z. Coordinate z ∷ []) z ++ tree_parts u = cc in f) in
+    let p = same_points x z t u (let f : flat_map coordinate_part x ++ tree_parts t
+    ≡ flat_map coordinate_part z ++ tree_parts u = cc in f) in
     let s = same_trees t u [] [] (append-nil (tree_parts t) ∙ p.1 ∙ sym (append-nil (tree_parts u))) in
     (ap (λ (x : List ℤ). Best x) p.0, s.0)
 same_proofs (Best x) Empty t u xs ys b e = absurd (omega (arith, same_head 66 69 _ _ b))

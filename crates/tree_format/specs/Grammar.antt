@@ -176,7 +176,11 @@ abbrev pub IsAnswer : List ℕ → ℕ → Result Token TreeError → Type 0
 IsAnswer bytes b (Ok token) = (fault_so_far (bytes ++ b ∷ []) ≡ None) × (parts_so_far (bytes ++ b ∷ []) ≡ parts_so_far bytes ++ shown token)
 IsAnswer bytes b (Err e) = fault_so_far (bytes ++ b ∷ []) ≡ Some e
 
--- an error is that memory ran out, or the first fault
+-- an error is that memory ran out, or a fault
+abbrev pub IsErrorOf : Option TreeError → TreeError → Type 0
+IsErrorOf fault faults.Memory = Unit {0}
+IsErrorOf fault e = fault ≡ Some e
+
+-- an error is that memory ran out, or the first fault of bytes
 abbrev pub IsRefusal : List ℕ → TreeError → Type 0
-IsRefusal bytes faults.Memory = Unit {0}
-IsRefusal bytes e = first_fault bytes ≡ Some e
+IsRefusal bytes e = IsErrorOf (first_fault bytes) e

@@ -53,9 +53,12 @@ spelling c t = opening ++ claim_bytes c ++ tree_bytes t
 
 -- ---- parts
 
+abbrev pub coordinate_part : ℤ → List Token
+coordinate_part z = Coordinate z ∷ []
+
 -- the parts of a claim
 abbrev pub claim_parts : Claim → List Token
-claim_parts (Best x) = Claimed ∷ flat_map (λ z. Coordinate z ∷ []) x
+claim_parts (Best x) = Claimed ∷ flat_map coordinate_part x
 claim_parts Empty = Claimed ∷ []
 
 abbrev pub multiplier_part : ℕ × ℤ → List Token

@@ -1,7 +1,7 @@
 //! How far a tree file is read: what is wanted next, and what one byte more leads to.
 ghost use Rattle.std.specs.Prelude.{◌≡◌, ◌+◌, ◌^◌, ◌<◌, ◌∷◌, ℕ, List, [], None, Some, OnOk, IfErr};
 ghost use Rattle.tree_format.specs.Internal.Fields.{greatest_of, claim_from, is_whole as is_whole_at};
-ghost use Rattle.tree_format.specs.Internal.Remaining.{left_of, remaining, claim_after, claim_unless, IsFinal, answer_then, fault_of, begun, IsSound, IsSoundUnless};
+ghost use Rattle.tree_format.specs.Internal.Remaining.{left_of, remaining, claim_after, claim_unless, IsFinal, answer_then, fault_of, ended_by, begun, IsSound, IsSoundUnless};
 
 use crate::fields::{Field, after, greatest};
 use crate::numbers::{Digit, next_digit};
@@ -209,7 +209,7 @@ impl Progress {
     /// The fault of the bytes where no more come.
     pub(crate) fn ending(&self) -> Result<(), TreeError>
         requires sound { IsSoundUnless self.now.fault self.now }
-        ensures { fault_of result ≡ (remaining self.now []).fault }
+        ensures { remaining self.now [] ≡ ended_by result }
     {
         if let Some(fault) = self.fault {
             return Err(fault);

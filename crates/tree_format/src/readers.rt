@@ -1,7 +1,7 @@
 //! Reading a tree file one byte at a time.
 ghost use Rattle.std.specs.Prelude.{◌≡◌, ◌∷◌, ◌++◌, ℕ, List, [], IfOk};
 ghost use Rattle.tree_format.specs.Grammar.{IsAnswer, claims_point as claims_point_of, first_fault};
-ghost use Rattle.tree_format.specs.Internal.Remaining.{HasRead, fault_of, start_with};
+ghost use Rattle.tree_format.specs.Internal.Remaining.{HasRead, IsStep, ended_by, fault_of, remaining, start_with};
 
 use crate::fields::Field;
 use crate::pending::Pending;
@@ -57,13 +57,27 @@ pub fn tree_reader(alloc: Global) -> Result<TreeReader, Memory>
 }
 
 impl TreeReader {
+    /// Takes the next byte, as `step` does.
+    pub(crate) fn take(&mut self, byte: u8) -> Result<Token, TreeError>
+        ensures { IsStep self.old self.new byte result }
+    {
+        self.progress.step(byte)
+    }
+
+    /// What is left where no more bytes come, as `close` answers it.
+    pub(crate) fn ending(&self) -> Result<(), TreeError>
+        ensures { remaining self.now [] ≡ ended_by result }
+    {
+        self.progress.ending()
+    }
+
     /// Takes the next byte, and answers the part that it completes, or the fault of the bytes so far: a fault that stands whatever
     /// follows. After a fault every later byte has it too. Takes no memory.
     pub fn step(&mut self, byte: u8) -> Result<Token, TreeError>
         ensures answer { (bytes : List ℕ) → HasRead self.old bytes → IsAnswer bytes byte result }
         ensures read { (bytes : List ℕ) → HasRead self.old bytes → HasRead self.new (bytes ++ byte ∷ []) }
     {
-        self.progress.step(byte)
+        self.take(byte)
     }
 
     /// The first fault of the bytes so far where no more come: that they are cut, where they are no whole file and had no other fault.
@@ -71,7 +85,7 @@ impl TreeReader {
     pub fn close(&self) -> Result<(), TreeError>
         ensures { (bytes : List ℕ) → HasRead self.now bytes → fault_of result ≡ first_fault bytes }
     {
-        self.progress.ending()
+        self.ending()
     }
 
     /// Whether the byte of the claim was read and is that of a point.

@@ -1,6 +1,6 @@
 -- How far a tree file is read, and what is left of it.
 use Rattle.std.specs.Prelude.{◌≡◌, ℕ, suc, ◌+◌, ◌*◌, ◌^◌, ◌<◌, ◌≤◌, false, List, [], ◌∷◌, ◌++◌, Option, Some, None, Result, Ok, Err, Bool}
-use Rattle.tree_format.specs.Readings.{Reading, stopped, parts_then}
+use Rattle.tree_format.specs.Readings.{Reading, complete, stopped, parts_then}
 use Rattle.tree_format.specs.Grammar.{tree_at, end_at, reading, parts_so_far, claims_point, unless_cut}
 use Rattle.tree_format.specs.Internal.Fields.{field_from, token_then, greatest_of, IsFieldSound, most_left, claim_from, IsUnclaimed}
 use Rattle.tree_format.specs.declared.errors.TreeError.{TreeError}
@@ -112,3 +112,15 @@ start_with pending = record {
   claims_point = false;
   fault = None;
 }
+
+-- a step of a reader by a byte and its answer
+pub record IsStep (s t : Progress) (b : ℕ) (answer : Result Token TreeError) : Type 0 where
+  pub left : (more : List ℕ) → answer_then answer (remaining t more) ≡ remaining s (b ∷ more)
+  pub sound : IsSoundUnless t.fault t
+  pub fault : t.fault ≡ fault_of answer
+  pub claim : (more : List ℕ) → claim_unless t.fault t more ≡ claim_unless s.fault s (b ∷ more)
+
+-- what is left where no byte follows: nothing, or a fault
+abbrev pub ended_by : Result (Unit {0}) TreeError → Reading Token
+ended_by (Ok done) = complete
+ended_by (Err e) = stopped e

@@ -1,7 +1,7 @@
 -- The parts of all bytes are in order.
 use Rattle.std.specs.Prelude.{◌≡◌, ℕ, zero, suc, ◌+◌, ◌<◌, ◌^◌, ◌==◌, if◌then◌else◌, Bool, true, false, nat_lt, List, [], ◌∷◌, ◌++◌, length, ℤ, Option, Some, None}
 use Rattle.std.specs.List.{flat_map}
-use Rattle.std.proofs.Common.{arith, refl, sym, subst, append_assoc}
+use Rattle.std.proofs.Common.{arith, refl, sym, subst, append_assoc, ap, length-append, ◌∙◌}
 use Rattle.ip_defs.specs.declared.certificates.Cert.{Cert}
 use Rattle.proof_tree.specs.LabelledTrees.{leaf, split}
 use Rattle.proof_tree.specs.Trees.{PlainTree}
@@ -218,3 +218,26 @@ pub after_one : (n k : ℕ) (p : ℕ × ℤ) (r s : Reading Token) → 0 < n →
     → (m : ℕ) × (suc m ≡ n) × IsInOrder (multipliers m k) s
 after_one zero k p r s l order is = absurd (omega arith)
 after_one (suc m) k p r s l order is = (m, refl, subst (IsInOrder (a_multiplier m k)) is order)
+
+-- after the left side of a split
+pub after_left : (k : ℕ) (first part : Token) (col : ℕ) (cut : ℤ) (ps : List Token) (left : PlainTree) (r s t : Reading Token)
+    → IsInOrder (trees (suc k)) (part_then first r) → first ≡ SplitAt col cut → r ≡ parts_then (part ∷ []) s → tree_parts left ≡ part ∷ ps
+    → s ≡ parts_then ps t → IsInOrder (trees (suc k)) t
+after_left k first part col cut ps left r s t order is one all others =
+    let both : IsInOrder (trees (suc (suc k))) r = subst (λ (token : Token). IsInOrder (trees (suc k)) (part_then token r)) is order in
+    let known : r ≡ parts_then (tree_parts left) t = one ∙ ap (part_then part) others
+    ∙ ap (λ (qs : List Token). parts_then qs t) (sym all) in
+    after_tree left (suc k) t.parts t.fault (subst (IsInOrder (trees (suc (suc k)))) known both)
+
+-- how many parts are left before some are read
+pub parts_before : (ps : List Token) (r s : Reading Token) → r ≡ parts_then ps s → length r.parts ≡ length ps + length s.parts
+parts_before ps r s e = ap (λ (r : Reading Token). length r.parts) e ∙ length-append ps s.parts
+
+-- the parts of a split by those of its sides
+pub split_parts : (first : Token) (col : ℕ) (cut : ℤ) (left right : PlainTree) (p q : Token) (ps qs : List Token) → first ≡ SplitAt col cut
+    → tree_parts left ≡ p ∷ ps → tree_parts right ≡ q ∷ qs
+    → SplitAt col cut ∷ (tree_parts left ++ tree_parts right) ≡ first ∷ (((p ∷ ps) ++ q ∷ []) ++ qs)
+split_parts first col cut left right p q ps qs is l r =
+    ap (λ (token : Token). token ∷ (tree_parts left ++ tree_parts right)) (sym is)
+    ∙ ap (λ (xs : List Token). first ∷ (xs ++ tree_parts right)) l ∙ ap (λ (xs : List Token). first ∷ ((p ∷ ps) ++ xs)) r
+    ∙ ap (λ (xs : List Token). first ∷ xs) (sym (append_assoc (p ∷ ps) (q ∷ []) qs))

@@ -1,11 +1,11 @@
 -- Stretches of bytes that a reader reads.
-use Rattle.std.specs.Prelude.{◌≡◌, ℕ, suc, ◌+◌, ◌<◌, ◌≤◌, List, [], ◌∷◌, ◌++◌, length, take, drop, Option, Some, Ok, Err}
+use Rattle.std.specs.Prelude.{◌≡◌, ℕ, suc, ◌+◌, ◌<◌, ◌≤◌, List, [], ◌∷◌, ◌++◌, length, take, drop, Option, Some, Result, Ok, Err}
 use Rattle.std.proofs.Common.{arith, refl, ap, ◌∙◌, sym, subst, get_or, add-one}
 use Rattle.std.proofs.Math.Seq.{drop-cons}
 use Rattle.std.proofs.lemmas.List.{drop_all, take_more}
 use Rattle.tree_format.specs.Readings.{Reading, stopped, parts_then}
 use Rattle.tree_format.specs.Grammar.{IsErrorOf, shown}
-use Rattle.tree_format.specs.Internal.Remaining.{remaining, HasRead, IsStep}
+use Rattle.tree_format.specs.Internal.Remaining.{remaining, HasRead, IsStep, ended_by, fault_of}
 use Rattle.tree_format.specs.Internal.Stretches.{ReadsOn}
 use Rattle.tree_format.specs.declared.errors.TreeError.{TreeError}
 use Rattle.tree_format.specs.declared.errors.TreeError.TheVariants as faults
@@ -87,3 +87,21 @@ pub error_at_end : (bytes : List ℕ) (s : Progress) (i : ℕ) (e : TreeError) �
     → IsErrorOf (remaining s (drop i bytes)).fault e
 error_at_end bytes s i e l h =
     is_error _ e (ap (λ (bs : List ℕ). (remaining s bs).fault) (at_end bytes i l) ∙ ap (λ (r : Reading Token). r.fault) h)
+
+-- the fault after a stretch is the one before it
+pub fault_before : (bytes : List ℕ) (s t : Progress) (i j : ℕ) (xs : List Token) → ReadsOn bytes s i t j xs
+    → (remaining s (drop i bytes)).fault ≡ (remaining t (drop j bytes)).fault
+fault_before bytes s t i j xs a = ap (λ (r : Reading Token). r.fault) a.left
+
+pub byte_stops : (bytes : List ℕ) (s t : Progress) (i : ℕ) (e : TreeError) → i < length bytes
+    → IsStep s t (get_or bytes i 0) (Err e) → (remaining s (drop i bytes)).fault ≡ Some e
+byte_stops bytes s t i e l step =
+    ap (λ (bs : List ℕ). (remaining s bs).fault) (next_byte bytes i l)
+    ∙ ap (λ (r : Reading Token). r.fault) (sym (step.left (drop (i + 1) bytes)))
+
+pub end_stops : (bytes : List ℕ) (s : Progress) (i : ℕ) (r : Result (Unit {0}) TreeError) → length bytes ≤ i → remaining s [] ≡ ended_by r
+    → (remaining s (drop i bytes)).fault ≡ fault_of r
+end_stops bytes s i (Ok done) l h =
+    ap (λ (bs : List ℕ). (remaining s bs).fault) (at_end bytes i l) ∙ ap (λ (r : Reading Token). r.fault) h
+end_stops bytes s i (Err e) l h =
+    ap (λ (bs : List ℕ). (remaining s bs).fault) (at_end bytes i l) ∙ ap (λ (r : Reading Token). r.fault) h

@@ -17,6 +17,7 @@ mod tests;
 mod tokens;
 mod values;
 
+pub use decoding::decode;
 pub use encoding::encode;
 pub use errors::TreeError;
 pub use ip_defs::{Cert, Memory, Multipliers, Point};

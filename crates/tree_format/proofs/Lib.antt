@@ -9,3 +9,4 @@ pub mod GrammarLaws
 pub mod UniqueLaws
 pub mod OrderLaws
 pub mod StretchLaws
+pub mod DecodingLaws

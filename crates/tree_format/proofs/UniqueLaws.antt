@@ -71,7 +71,7 @@ same_trees (split col cut w left right) (split col' cut' w' left' right') xs ys 
     )
 
 -- coordinates, before a tree
-same_points : (x z : List ℤ) (t u : PlainTree) → flat_map coordinate_part x ++ tree_parts t
+pub same_points : (x z : List ℤ) (t u : PlainTree) → flat_map coordinate_part x ++ tree_parts t
     ≡ flat_map coordinate_part z ++ tree_parts u → (x ≡ z) × (tree_parts t ≡ tree_parts u)
 same_points [] [] t u e = (refl, e)
 same_points [] (w ∷ z) (leaf c) u e = absurd cc

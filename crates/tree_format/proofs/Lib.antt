@@ -10,3 +10,4 @@ pub mod UniqueLaws
 pub mod OrderLaws
 pub mod StretchLaws
 pub mod DecodingLaws
+pub mod Examples

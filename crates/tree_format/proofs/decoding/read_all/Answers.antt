@@ -1,7 +1,13 @@
 use Rattle.std.proofs.Common.{sym}
 use Rattle.proof_tree.specs.Trees.{plain}
-use Rattle.tree_format.proofs.DecodingLaws.{claim_first, whole_is_read}
+use Rattle.tree_format.proofs.DecodingLaws.{claim_first, starts_in_order, whole_is_read}
+use Rattle.tree_format.specs.Orders.{a_claim}
+use Rattle.tree_format.proofs.OrderLaws.{something_left}
 use Rattle.tree_format.proofs.decoding.read_all.Goals as goal
+
+pub next_part-requires-clause-left : goal.next_part-requires-clause-left
+next_part-requires-clause-left c =
+    something_left a_claim _ (λ h. h) (starts_in_order c.args.reader.now c.args.bytes.now c.requires)
 
 pub point-requires-clause-order : goal.point-requires-clause-order
 point-requires-clause-order c =

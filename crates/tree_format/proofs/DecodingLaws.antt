@@ -1,31 +1,5 @@
 -- What is read as a claim and a tree is spelled by the bytes.
-use Rattle.std.specs.Prelude.{
-  ◌≡◌,
-  ℕ,
-  zero,
-  suc,
-  ◌<◌,
-  ◌≤◌,
-  Bool,
-  true,
-  false,
-  List,
-  [],
-  ◌∷◌,
-  ◌++◌,
-  length,
-  take,
-  drop,
-  ℤ,
-  Option,
-  Some,
-  None,
-  Result,
-  Ok,
-  Err,
-  IfOk,
-  IfErr,
-}
+use Rattle.std.specs.Prelude.{◌≡◌, ℕ, suc, ◌<◌, Bool, true, false, List, [], ◌∷◌, ◌++◌, length, drop, ℤ, Option, Some, None, Result, Ok, Err, IfOk, IfErr}
 use Rattle.std.specs.List.{flat_map}
 use Rattle.std.proofs.Common.{arith, refl, ap, ◌∙◌, sym, subst, append_assoc, get_or}
 use Rattle.std.proofs.lemmas.List.{append-nil, take_all}
@@ -34,8 +8,8 @@ use Rattle.proof_tree.specs.Trees.{PlainTree}
 use Rattle.proof_tree.specs.declared.claims.Claim.{Claim}
 use Rattle.proof_tree.specs.declared.claims.Claim.TheVariants.{Best, Empty}
 use Rattle.tree_format.specs.Readings.{Reading, part_then, parts_then}
-use Rattle.tree_format.specs.Spellings.{Spells, coordinate_part, tree_parts, proof_parts}
-use Rattle.tree_format.specs.Grammar.{reading, first_fault, parts_so_far, claims_point, IsErrorOf, IsRefusal}
+use Rattle.tree_format.specs.Spellings.{Spells, coordinate_part, tree_parts}
+use Rattle.tree_format.specs.Grammar.{reading, first_fault, claims_point, IsErrorOf, IsRefusal}
 use Rattle.tree_format.specs.Orders.{IsInOrder, AreInOrder, trees, a_claim, a_coordinate}
 use Rattle.tree_format.specs.Internal.Remaining.{remaining, HasRead}
 use Rattle.tree_format.specs.Internal.Stretches.{ReadsOn, IsReadAs, claim_of}
@@ -46,9 +20,8 @@ use Rattle.tree_format.specs.declared.tokens.Token.{Token}
 use Rattle.tree_format.specs.declared.tokens.Token.TheVariants.{Nothing, Claimed, Coordinate, SplitAt, LeafQ, Parts, Part}
 use Rattle.tree_format.proofs.GrammarLaws.{readings_are_spelled}
 use Rattle.tree_format.proofs.OrderLaws.{after_tree, parts_are_in_order}
-use Rattle.tree_format.proofs.ReadLaws.{parts_then_more}
 use Rattle.tree_format.proofs.SpellingLaws.{spellings_are_read}
-use Rattle.tree_format.proofs.StretchLaws.{both_read, fault_before}
+use Rattle.tree_format.proofs.StretchLaws.{both_read}
 use Rattle.tree_format.proofs.UniqueLaws.{one_spelling, same_points, same_trees}
 
 -- ---- the start

@@ -1,15 +1,13 @@
 -- The definitions at work: numbers, whole files, and files with a fault, computed.
-use Rattle.std.specs.Prelude.{◌≡◌, ℕ, ◌^◌, ◌-◌, List, [], ◌∷◌, ◌++◌, ℤ, pos, negsuc, Some, None}
+use Rattle.std.specs.Prelude.{◌≡◌, ℕ, ◌^◌, ◌-◌, List, [], ◌∷◌, ◌++◌, pos, negsuc, Some, None}
 use Rattle.std.proofs.Common.{refl}
 use Rattle.tree_format.specs.Numbers.{number_bytes}
-use Rattle.tree_format.specs.Spellings.{number, signed_number, spelling, proof_parts}
-use Rattle.tree_format.specs.Grammar.{reading, first_fault, parts_so_far}
+use Rattle.tree_format.specs.Spellings.{number, signed_number, spelling}
+use Rattle.tree_format.specs.Grammar.{first_fault, parts_so_far}
 use Rattle.proof_tree.specs.LabelledTrees.{leaf, split}
-use Rattle.proof_tree.specs.Trees.{PlainTree}
-use Rattle.proof_tree.specs.declared.claims.Claim.{Claim}
 use Rattle.proof_tree.specs.declared.claims.Claim.TheVariants.{Best, Empty}
 use Rattle.tree_format.specs.declared.errors.TreeError.TheVariants as faults
-use Rattle.tree_format.specs.declared.tokens.Token.TheVariants.{Claimed, Coordinate, SplitAt, LeafQ, Parts, Part}
+use Rattle.tree_format.specs.declared.tokens.Token.TheVariants.{Claimed, Coordinate, LeafQ, Parts, Part}
 
 three_hundred : number 300 ≡ 172 ∷ 2 ∷ []
 unfolding number_bytes

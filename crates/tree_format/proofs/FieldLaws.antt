@@ -1,5 +1,5 @@
 -- What is left of each field of a tree file.
-use Rattle.std.specs.Prelude.{◌≡◌, ℕ, zero, suc, ◌+◌, ◌^◌, ◌<◌, Bool, true, false, List, [], ◌∷◌, Option, Some, None}
+use Rattle.std.specs.Prelude.{◌≡◌, ℕ, zero, suc, ◌+◌, ◌^◌, ◌<◌, Bool, true, false, List, [], ◌∷◌, Some, None}
 use Rattle.std.proofs.Common.{arith, refl, ap, ◌∙◌, sym, ◌==◌, eq-eqb, get_or, drop, add-one, ◌++◌, ◌&&◌}
 use Rattle.std.proofs.Math.Seq.{drop-cons}
 use Rattle.std.proofs.lemmas.Bool.{eqb-true}
@@ -8,7 +8,7 @@ use Rattle.tree_format.specs.Readings.{Reading, stopped, complete}
 use Rattle.tree_format.specs.Numbers.{number_from, next_digit}
 use Rattle.tree_format.specs.Spellings.{longest, opening}
 use Rattle.tree_format.specs.Grammar.{opening_at, tree_at, begins_with}
-use Rattle.tree_format.specs.Internal.Fields.{field_from, after_number, greatest_of, IsFieldSound, is_none, is_whole}
+use Rattle.tree_format.specs.Internal.Fields.{field_from, after_number, greatest_of, IsFieldSound, is_whole}
 use Rattle.tree_format.specs.Internal.Remaining.{trees_at}
 use Rattle.tree_format.specs.declared.numbers.Digit.TheVariants.{Ends}
 use Rattle.tree_format.specs.declared.errors.TreeError.TheVariants.{Cut, Magic}

@@ -1,36 +1,5 @@
 -- What is read without a fault was written, part by part.
-use Rattle.std.specs.Prelude.{
-  ◌≡◌,
-  ℕ,
-  zero,
-  suc,
-  ◌+◌,
-  ◌*◌,
-  ◌/◌,
-  ◌%◌,
-  ◌^◌,
-  ◌<◌,
-  ◌≤◌,
-  ◌==◌,
-  ◌&&◌,
-  not,
-  Bool,
-  true,
-  false,
-  nat_lt,
-  List,
-  [],
-  ◌∷◌,
-  ◌++◌,
-  length,
-  ℤ,
-  pos,
-  negsuc,
-  ◌≤ℤ◌,
-  Option,
-  Some,
-  None,
-}
+use Rattle.std.specs.Prelude.{◌≡◌, ℕ, zero, suc, ◌+◌, ◌*◌, ◌%◌, ◌^◌, ◌<◌, ◌≤◌, ◌==◌, ◌&&◌, not, Bool, true, false, nat_lt, List, [], ◌∷◌, ◌++◌, length, ℤ, pos, negsuc, Some, None}
 use Rattle.std.specs.Int.RustNames.{unsigned_abs}
 use Rattle.std.specs.Int.Signed.{lt_z}
 use Rattle.std.specs.List.{flat_map, list_all}
@@ -41,73 +10,23 @@ use Rattle.std.proofs.lemmas.List.{append-nil}
 use Rattle.ip_defs.specs.declared.certificates.Cert.{Cert}
 use Rattle.ip_defs.specs.Limits.{IsCert}
 use Rattle.ip_defs.specs.Lists.{Each}
-use Rattle.ip_defs.proofs.OrderLaws.{lt_true, lt_false, lt_is, less_false}
+use Rattle.ip_defs.proofs.OrderLaws.{lt_true, lt_is, less_false}
 use Rattle.proof_tree.specs.LabelledTrees.{leaf, split, node_count, depth}
-use Rattle.proof_tree.specs.Trees.{PlainTree, is_at_most, rise_from, is_multiplier, is_cert}
-use Rattle.proof_tree.specs.Within.{AreNumbersWithin, IsTreeWithin}
-use Rattle.proof_tree.specs.declared.claims.Claim.{Claim}
+use Rattle.proof_tree.specs.Trees.{PlainTree, is_at_most, rise_from, is_multiplier}
+use Rattle.proof_tree.specs.Within.{AreNumbersWithin}
 use Rattle.proof_tree.specs.declared.claims.Claim.TheVariants.{Best, Empty}
 use Rattle.proof_tree.proofs.CertLaws.{cert_exact}
-use Rattle.tree_format.specs.Readings.{Reading, stopped, part_then, parts_then, complete}
+use Rattle.tree_format.specs.Readings.{Reading, stopped, part_then}
 use Rattle.tree_format.specs.Numbers.{unsigned, signed}
-use Rattle.tree_format.specs.Spellings.{
-  longest,
-  number,
-  signed_number,
-  opening,
-  claim_bytes,
-  multiplier_bytes,
-  cert_bytes,
-  tree_bytes,
-  spelling,
-  IsClaimWithin,
-  Spells,
-}
-use Rattle.tree_format.specs.Grammar.{
-  number_at,
-  opening_at,
-  coordinates_at,
-  point_at,
-  claim_at,
-  claim_kind,
-  of_point,
-  of_emptiness,
-  of_neither,
-  ClaimKind,
-  multiplier_at,
-  multipliers_at,
-  cert_at,
-  split_at,
-  NodeKind,
-  node_kind,
-  leaf_kind,
-  split_kind,
-  no_kind,
-  tree_at,
-  end_at,
-  reading,
-  first_fault,
-}
+use Rattle.tree_format.specs.Spellings.{number, signed_number, opening, claim_bytes, multiplier_bytes, cert_bytes, tree_bytes, IsClaimWithin}
+use Rattle.tree_format.specs.Grammar.{number_at, opening_at, coordinates_at, point_at, claim_at, claim_kind, of_point, of_emptiness, of_neither, ClaimKind, multiplier_at, multipliers_at, cert_at, split_at, NodeKind, node_kind, leaf_kind, split_kind, no_kind, tree_at, end_at}
 use Rattle.tree_format.specs.Laws.{ReadingsAreSpelled}
-use Rattle.tree_format.specs.declared.errors.TreeError.{TreeError}
 use Rattle.tree_format.specs.declared.errors.TreeError.TheVariants as faults
 use Rattle.tree_format.specs.declared.tokens.Token.{Token}
 use Rattle.tree_format.specs.declared.tokens.Token.TheVariants.{Part}
 use Rattle.tree_format.proofs.NumberLaws.{not_lt}
 use Rattle.tree_format.proofs.SpelledNumbers.{number_spelled}
-use Rattle.tree_format.proofs.SpellingLaws.{
-  number_is_read,
-  signed_is_read,
-  place_more,
-  coordinates_are_read,
-  row_is_read,
-  multiplier_is_read,
-  multipliers_are_read,
-  cert_is_read,
-  split_is_read,
-  tree_is_read,
-  claim_is_read,
-}
+use Rattle.tree_format.proofs.SpellingLaws.{number_is_read, place_more}
 
 -- a value at the front of bytes, and what follows it, where the rest has no fault either
 pub record Taken {A : Type 0} (P : A → Type 0) (spell : A → List ℕ) (after : A → List ℕ → Reading Token) (bytes : List ℕ) : Type 0 where

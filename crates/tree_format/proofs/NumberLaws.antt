@@ -1,16 +1,14 @@
 -- Numbers as bytes: what their bytes weigh, and that what was written is read.
-use Rattle.std.specs.Prelude.{Some, None, ◌&&◌, ◌==◌, ◌-◌, Bool, true, false, nat_lt, length, ◌≡◌, ℕ, zero, suc, ◌+◌, ◌*◌, ◌/◌, ◌%◌, ◌^◌, ◌<◌, ◌≤◌, List, [], ◌∷◌, ◌++◌}
+use Rattle.std.specs.Prelude.{◌&&◌, ◌==◌, ◌-◌, Bool, true, false, nat_lt, length, ◌≡◌, ℕ, zero, suc, ◌+◌, ◌*◌, ◌/◌, ◌%◌, ◌^◌, ◌<◌, ◌≤◌, List, [], ◌∷◌, ◌++◌}
 use Rattle.std.proofs.Common.{arith, mod-lt, lit<, refl, ap, ◌∙◌, sym}
 use Rattle.std.proofs.Math.Nat.{pow-le-pow_right, mul_assoc, mul_comm, add-mul, pow-suc, div-lt_iff_lt-mul}
 use Rattle.std.proofs.lemmas.Nat.{div-add-mod'}
 use Rattle.std.proofs.lemmas.Grind.{pow_more}
-use Rattle.std.proofs.lemmas.Bool.{eqb-true, eqb-false}
+use Rattle.std.proofs.lemmas.Bool.{eqb-true}
 use Rattle.ip_defs.proofs.OrderLaws.{lt_false, lt_true, lt_is}
-use Rattle.tree_format.specs.Numbers.{number_bytes, number_from, next_digit, last_digit}
+use Rattle.tree_format.specs.Numbers.{number_bytes, number_from, next_digit}
 use Rattle.tree_format.specs.Readings.{Reading, stopped}
-use Rattle.ip_defs.specs.Lists.{Each}
 use Rattle.tree_format.specs.declared.errors.TreeError.{TreeError}
-use Rattle.tree_format.specs.declared.errors.TreeError.TheVariants.{LongNumber, Width}
 use Rattle.tree_format.specs.declared.numbers.Digit.TheVariants.{GoesOn, Ends, Fails}
 
 pub weight_small : (k : ℕ) → k < 6 → 128 ^ k ≤ 2 ^ 35

@@ -2,50 +2,13 @@
 use Rattle.std.specs.Prelude.{◌≡◌, ℕ, zero, suc, ◌+◌, ◌<◌, ◌^◌, ◌==◌, if◌then◌else◌, Bool, true, false, nat_lt, List, [], ◌∷◌, ◌++◌, length, ℤ, Option, Some, None}
 use Rattle.std.specs.List.{flat_map}
 use Rattle.std.proofs.Common.{arith, refl, sym, subst, append_assoc, ap, length-append, ◌∙◌}
-use Rattle.ip_defs.specs.declared.certificates.Cert.{Cert}
 use Rattle.proof_tree.specs.LabelledTrees.{leaf, split}
 use Rattle.proof_tree.specs.Trees.{PlainTree}
 use Rattle.tree_format.specs.Readings.{Reading, complete, stopped, part_then, parts_then}
 use Rattle.tree_format.specs.Numbers.{number_from, next_digit, signed}
 use Rattle.tree_format.specs.Spellings.{longest, opening, tree_parts, multiplier_part}
-use Rattle.tree_format.specs.Grammar.{
-  number_at,
-  opening_at,
-  coordinates_at,
-  point_at,
-  claim_at,
-  claim_kind,
-  of_point,
-  of_emptiness,
-  of_neither,
-  ClaimKind,
-  multiplier_at,
-  multipliers_at,
-  cert_at,
-  split_at,
-  NodeKind,
-  node_kind,
-  leaf_kind,
-  split_kind,
-  no_kind,
-  tree_at,
-  end_at,
-  reading,
-}
-use Rattle.tree_format.specs.Orders.{
-  Expected,
-  a_claim,
-  a_coordinate,
-  trees,
-  a_count,
-  a_multiplier,
-  multipliers,
-  AreInOrder,
-  IsInOrder,
-  PartsAreInOrder,
-  MayEnd,
-  after_part,
-}
+use Rattle.tree_format.specs.Grammar.{opening_at, coordinates_at, point_at, claim_at, claim_kind, of_point, of_emptiness, of_neither, ClaimKind, multiplier_at, multipliers_at, cert_at, split_at, NodeKind, node_kind, leaf_kind, split_kind, no_kind, tree_at, end_at}
+use Rattle.tree_format.specs.Orders.{Expected, a_claim, a_coordinate, trees, a_count, a_multiplier, multipliers, AreInOrder, IsInOrder, PartsAreInOrder, MayEnd}
 use Rattle.tree_format.specs.declared.errors.TreeError.{TreeError}
 use Rattle.tree_format.specs.declared.errors.TreeError.TheVariants as faults
 use Rattle.tree_format.specs.declared.numbers.Digit.{Digit}

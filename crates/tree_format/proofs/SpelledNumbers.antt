@@ -33,10 +33,10 @@ use Rattle.std.proofs.lemmas.Nat.{mod-mul-add, div-mul-add}
 use Rattle.ip_defs.specs.Lists.{Each}
 use Rattle.ip_defs.proofs.OrderLaws.{lt_true, lt_false, lt_is}
 use Rattle.tree_format.specs.Numbers.{number_bytes, number_from, next_digit}
-use Rattle.tree_format.specs.Readings.{Reading, stopped}
+use Rattle.tree_format.specs.Readings.{Reading}
 use Rattle.tree_format.specs.declared.errors.TreeError.{TreeError}
 use Rattle.tree_format.specs.declared.errors.TreeError.TheVariants.{LongNumber, Width}
-use Rattle.tree_format.specs.declared.numbers.Digit.TheVariants.{GoesOn, Ends, Fails}
+use Rattle.tree_format.specs.declared.numbers.Digit.TheVariants.{Fails}
 use Rattle.tree_format.proofs.NumberLaws.{not_lt, last_byte, longer_at, from_fails, from_on, digit_on}
 
 -- the number at the front of bytes that have no fault in it, and what follows it

@@ -1,34 +1,5 @@
 -- What spells a proof is read, part by part, whatever follows it.
-use Rattle.std.specs.Prelude.{
-  ◌≡◌,
-  ℕ,
-  zero,
-  suc,
-  ◌+◌,
-  ◌*◌,
-  ◌/◌,
-  ◌%◌,
-  ◌^◌,
-  ◌<◌,
-  ◌≤◌,
-  ◌==◌,
-  ◌&&◌,
-  not,
-  Bool,
-  true,
-  false,
-  nat_lt,
-  List,
-  [],
-  ◌∷◌,
-  ◌++◌,
-  length,
-  ℤ,
-  pos,
-  negsuc,
-  ◌≤ℤ◌,
-  None,
-}
+use Rattle.std.specs.Prelude.{◌≡◌, ℕ, zero, suc, ◌+◌, ◌*◌, ◌/◌, ◌%◌, ◌^◌, ◌<◌, ◌≤◌, ◌&&◌, not, true, nat_lt, List, [], ◌∷◌, ◌++◌, length, ℤ, pos, negsuc, ◌≤ℤ◌}
 use Rattle.std.specs.Int.RustNames.{unsigned_abs}
 use Rattle.std.specs.Int.Signed.{lt_z}
 use Rattle.std.specs.List.{flat_map, list_all}
@@ -41,31 +12,14 @@ use Rattle.ip_defs.specs.Lists.{Each}
 use Rattle.ip_defs.proofs.BoolLaws.{both_true}
 use Rattle.ip_defs.proofs.OrderLaws.{lt_true, lt_false, lt_is}
 use Rattle.proof_tree.specs.LabelledTrees.{leaf, split, node_count, depth}
-use Rattle.proof_tree.specs.Trees.{PlainTree, is_at_most, rise_from, is_multiplier, is_cert}
+use Rattle.proof_tree.specs.Trees.{PlainTree, is_at_most, rise_from, is_multiplier}
 use Rattle.proof_tree.specs.Within.{AreNumbersWithin, IsTreeWithin}
 use Rattle.proof_tree.specs.declared.claims.Claim.{Claim}
 use Rattle.proof_tree.specs.declared.claims.Claim.TheVariants.{Best, Empty}
 use Rattle.proof_tree.proofs.CertLaws.{cert_exact}
 use Rattle.tree_format.specs.Readings.{Reading, part_then, parts_then, complete}
 use Rattle.tree_format.specs.Numbers.{unsigned, signed}
-use Rattle.tree_format.specs.Spellings.{
-  longest,
-  number,
-  signed_number,
-  opening,
-  claim_bytes,
-  multiplier_bytes,
-  cert_bytes,
-  tree_bytes,
-  spelling,
-  claim_parts,
-  coordinate_part,
-  multiplier_part,
-  tree_parts,
-  proof_parts,
-  IsClaimWithin,
-  Spells,
-}
+use Rattle.tree_format.specs.Spellings.{number, signed_number, claim_bytes, multiplier_bytes, cert_bytes, tree_bytes, spelling, claim_parts, coordinate_part, multiplier_part, tree_parts, proof_parts, IsClaimWithin}
 use Rattle.tree_format.specs.Grammar.{
   number_at,
   coordinates_at,

@@ -1,5 +1,5 @@
 -- No bytes spell two proofs, and no spelling begins another.
-use Rattle.std.specs.Prelude.{◌≡◌, ℕ, zero, suc, ◌+◌, List, [], ◌∷◌, ◌++◌, length, ℤ, None}
+use Rattle.std.specs.Prelude.{◌≡◌, ℕ, ◌+◌, List, [], ◌∷◌, ◌++◌, length, ℤ}
 use Rattle.std.specs.List.{flat_map}
 use Rattle.std.proofs.Common.{arith, refl, ap, ◌∙◌, sym, append_assoc, drop}
 use Rattle.std.proofs.lemmas.List.{append-nil}
@@ -9,23 +9,10 @@ use Rattle.proof_tree.specs.Trees.{PlainTree}
 use Rattle.proof_tree.specs.declared.claims.Claim.{Claim}
 use Rattle.proof_tree.specs.declared.claims.Claim.TheVariants.{Best, Empty}
 use Rattle.tree_format.specs.Readings.{Reading, parts_then, complete}
-use Rattle.tree_format.specs.Spellings.{
-  spelling,
-  opening,
-  claim_bytes,
-  tree_bytes,
-  claim_parts,
-  tree_parts,
-  proof_parts,
-  coordinate_part,
-  multiplier_part,
-  IsClaimWithin,
-  Spells,
-}
-use Rattle.tree_format.specs.Grammar.{reading, claim_at, tree_at, end_at}
+use Rattle.tree_format.specs.Spellings.{spelling, opening, claim_bytes, tree_bytes, claim_parts, tree_parts, proof_parts, coordinate_part, multiplier_part, IsClaimWithin}
+use Rattle.tree_format.specs.Grammar.{reading, end_at}
 use Rattle.tree_format.specs.Laws.{OneSpelling}
 use Rattle.tree_format.specs.declared.tokens.Token.{Token}
-use Rattle.tree_format.specs.declared.tokens.Token.TheVariants.{Claimed, Coordinate, SplitAt, LeafQ, Parts, Part}
 use Rattle.proof_tree.specs.Within.{IsTreeWithin}
 use Rattle.tree_format.proofs.GrammarLaws.{nothing_left}
 use Rattle.tree_format.proofs.ReadLaws.{parts_then_more}

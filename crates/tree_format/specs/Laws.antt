@@ -1,5 +1,5 @@
 -- The laws of tree files: one spelling, and faults exactly where nothing is spelled.
-use Rattle.std.specs.Prelude.{◌≡◌, ℕ, ◌<◌, ◌++◌, List, [], Option, Some, None}
+use Rattle.std.specs.Prelude.{◌≡◌, ℕ, ◌<◌, ◌++◌, List, [], None}
 use Rattle.ip_defs.specs.Lists.{Each}
 use Rattle.proof_tree.specs.Trees.{PlainTree}
 use Rattle.proof_tree.specs.declared.claims.Claim.{Claim}

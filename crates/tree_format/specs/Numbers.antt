@@ -1,32 +1,8 @@
 -- Numbers as bytes: seven bits a byte, the low ones first, in the shortest spelling; and the first fault of such a number.
-use Rattle.std.specs.Prelude.{
-  ℕ,
-  zero,
-  suc,
-  ◌+◌,
-  ◌*◌,
-  ◌-◌,
-  ◌/◌,
-  ◌%◌,
-  ◌^◌,
-  ◌==◌,
-  ◌&&◌,
-  Bool,
-  true,
-  false,
-  if◌then◌else◌,
-  nat_lt,
-  List,
-  [],
-  ◌∷◌,
-  ℤ,
-  pos,
-  negsuc,
-}
+use Rattle.std.specs.Prelude.{ℕ, zero, suc, ◌+◌, ◌*◌, ◌-◌, ◌/◌, ◌%◌, ◌^◌, ◌==◌, ◌&&◌, if◌then◌else◌, nat_lt, List, [], ◌∷◌, ℤ, pos, negsuc}
 use Rattle.tree_format.specs.Readings.{Reading, stopped}
 use Rattle.tree_format.specs.declared.numbers.Digit.{Digit}
 use Rattle.tree_format.specs.declared.numbers.Digit.TheVariants.{GoesOn, Ends, Fails}
-use Rattle.tree_format.specs.declared.errors.TreeError.{TreeError}
 use Rattle.tree_format.specs.declared.errors.TreeError.TheVariants.{Cut, LongNumber, Width}
 
 -- the spelling of a number in at most some bytes: a byte below 128 is the last, one from 128 on says that the number goes on

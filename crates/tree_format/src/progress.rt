@@ -14,6 +14,15 @@ const OPENING: [u8; 5] = [0x49, 0x50, 0x53, 0x54, 0x01];
 /// The most nodes of a tree.
 const MOST_NODES: u32 = 1_000_000;
 
+/// The place after some bytes of a field.
+fn place_after(start: u64, read: u32) -> u64
+    requires start { start < 2 ^ 40 }
+    requires read { read < 6 }
+    ensures { result ≡ start + read }
+{
+    start + u64::from(read)
+}
+
 /// How far a file is read.
 #[derive(Drop)]
 pub(crate) struct Progress {
@@ -217,8 +226,9 @@ impl Progress {
         if self.is_whole() {
             Ok(())
         } else {
-            let place = self.start + u64::from(self.read);
-            Err(TreeError::Cut { place })
+            Err(TreeError::Cut {
+                place: place_after(self.start, self.read),
+            })
         }
     }
 }

@@ -1,8 +1,7 @@
-use Rattle.std.proofs.Common.{◌∙◌, ◌++◌, ◌∷◌, ◌≡◌, ◌<◌, [], List, sym, subst, arith, suc, length, drop, rules, to_z, of_z}
+use Rattle.std.proofs.Common.{◌++◌, ◌∷◌, ◌≡◌, ◌<◌, [], subst, arith, suc, length, drop, rules, to_z, of_z}
 use Rattle.std.specs.Int.{w64}
 use Rattle.tree_format.specs.Orders.{IsInOrder, trees}
 use Rattle.tree_format.specs.Internal.Remaining.{remaining}
-use Rattle.tree_format.specs.declared.tokens.Token.{Token}
 use Rattle.proof_tree.specs.Trees.{plain}
 use Rattle.tree_format.proofs.OrderLaws.{after_left, parts_before, split_parts, something_left}
 use Rattle.tree_format.proofs.StretchLaws.{both_read}

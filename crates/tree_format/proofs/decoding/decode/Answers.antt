@@ -1,4 +1,4 @@
-use Rattle.std.proofs.Common.{◌≡◌, ◌<◌, ℕ, arith, get_or}
+use Rattle.std.proofs.Common.{◌<◌, arith}
 use Rattle.ip_defs.specs.Lists.{Each}
 use Rattle.proof_tree.specs.Trees.{plain}
 use Rattle.tree_format.proofs.DecodingLaws.{are_bytes, if_ok, if_err, read_is_spelled, spelled_once, spelled_refusal}

@@ -1,4 +1,4 @@
-use Rattle.std.proofs.Common.{◌∙◌, ◌++◌, ◌+◌, ◌≡◌, sym, subst, get_or, Result, Ok, Err}
+use Rattle.std.proofs.Common.{◌∙◌, ◌++◌, ◌+◌, sym, subst, get_or, Result}
 use Rattle.tree_format.specs.Grammar.{shown}
 use Rattle.tree_format.specs.Internal.Remaining.{IsStep}
 use Rattle.tree_format.specs.declared.errors.TreeError.{TreeError}

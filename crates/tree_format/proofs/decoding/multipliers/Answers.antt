@@ -1,8 +1,7 @@
-use Rattle.std.proofs.Common.{◌∙◌, ◌∷◌, ◌++◌, ◌+◌, [], List, ap, sym, subst, arith, length-append, length}
+use Rattle.std.proofs.Common.{◌∙◌, ◌∷◌, [], List, ap, sym, subst, arith, length-append}
 use Rattle.std.specs.List.{flat_map}
 use Rattle.std.proofs.lemmas.List.{flat_map_more}
 use Rattle.tree_format.specs.Spellings.{multiplier_part}
-use Rattle.tree_format.specs.Internal.Remaining.{remaining}
 use Rattle.tree_format.specs.Internal.Stretches.{ReadsOn}
 use Rattle.tree_format.specs.declared.tokens.Token.{Token}
 use Rattle.tree_format.proofs.OrderLaws.{after_one}

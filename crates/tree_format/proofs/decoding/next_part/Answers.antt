@@ -1,6 +1,5 @@
-use Rattle.std.proofs.Common.{◌∙◌, ◌≡◌, ◌∷◌, ◌+◌, [], List, ap, sym, subst, refl, length, get_or, Ok, Result}
-use Rattle.tree_format.specs.Readings.{Reading}
-use Rattle.tree_format.specs.Internal.Remaining.{remaining, IsStep}
+use Rattle.std.proofs.Common.{◌∙◌, ◌+◌, [], List, ap, subst, get_or, Ok, Result}
+use Rattle.tree_format.specs.Internal.Remaining.{IsStep}
 use Rattle.tree_format.specs.Internal.Stretches.{ReadsOn}
 use Rattle.tree_format.specs.declared.errors.TreeError.{TreeError}
 use Rattle.tree_format.specs.declared.tokens.Token.{Token}

@@ -1,11 +1,9 @@
-use Rattle.std.proofs.Common.{◌∙◌, ◌∷◌, ◌++◌, [], List, ap, sym, subst, rules, to_z, of_z, ◌≡◌}
+use Rattle.std.proofs.Common.{◌∙◌, ◌∷◌, [], List, ap, sym, subst, rules, to_z, of_z, ◌≡◌}
 use Rattle.std.specs.Int.{w64}
 use Rattle.std.specs.List.{flat_map}
 use Rattle.std.proofs.lemmas.List.{flat_map_more}
 use Rattle.tree_format.specs.Spellings.{coordinate_part}
-use Rattle.tree_format.specs.Readings.{Reading, part_then}
 use Rattle.tree_format.specs.Orders.{IsInOrder, a_coordinate}
-use Rattle.tree_format.specs.Internal.Remaining.{remaining}
 use Rattle.tree_format.specs.Internal.Stretches.{ReadsOn}
 use Rattle.tree_format.specs.declared.tokens.Token.{Token}
 use Rattle.tree_format.proofs.StretchLaws.{both_read}

@@ -1,4 +1,4 @@
-use Rattle.std.proofs.Common.{◌≡◌, ◌∙◌, ◌++◌, ◌∷◌, [], ap, sym, refl, append_assoc, suc, List, ℕ, ◌/◌, ◌%◌, ◌+◌}
+use Rattle.std.proofs.Common.{◌∙◌, ◌++◌, ◌∷◌, [], ap, sym, refl, append_assoc, suc, List, ℕ, ◌/◌, ◌%◌, ◌+◌}
 use Rattle.tree_format.specs.Numbers.{number_bytes}
 use Rattle.tree_format.proofs.NumberLaws.{longer, last_byte}
 use Rattle.tree_format.proofs.numbers.push_number.Goals as goal

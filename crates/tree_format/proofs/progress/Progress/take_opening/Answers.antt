@@ -1,4 +1,4 @@
-use Rattle.std.proofs.Common.{sym, get_or, ℕ, List}
+use Rattle.std.proofs.Common.{sym, ℕ, List}
 use Rattle.tree_format.specs.Readings.{Reading}
 use Rattle.tree_format.specs.declared.tokens.Token.{Token}
 use Rattle.tree_format.specs.Grammar.{claim_at}

@@ -1,4 +1,4 @@
-use Rattle.std.proofs.Common.{◌≡◌, subst}
+use Rattle.std.proofs.Common.{subst}
 use Rattle.tree_format.specs.Internal.Remaining.{IsStep}
 use Rattle.tree_format.specs.declared.progress.Progress.{Progress}
 use Rattle.tree_format.proofs.readers.TreeReader.take.Goals as goal

@@ -1,7 +1,6 @@
 use Rattle.std.proofs.Common.{◌≡◌, ◌∙◌, ap, sym, subst}
 use Rattle.ip_defs.specs.declared.certificates.Bound.{Bound}
 use Rattle.proof_tree.specs.Verdicts.{IsProvedVerdict, judged, verdict_of}
-use Rattle.proof_tree.specs.declared.verdicts.Verdict.{Verdict}
 use Rattle.proof_tree.proofs.VerdictLaws.{proofs_are_true, verdicts_are_exact}
 use Rattle.tree_checker.proofs.verdicts.check.Goals as goal
 

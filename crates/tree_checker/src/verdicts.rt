@@ -2,7 +2,8 @@
 ghost use Rattle.std.specs.Prelude.{◌≡◌, ◌↔◌, length};
 ghost use Rattle.proof_tree.specs.Room.{HasRoom};
 ghost use Rattle.proof_tree.specs.Trees.{plain, FitsModel};
-ghost use Rattle.proof_tree.specs.Verdicts.{HasLength, IsProved, IsProvedVerdict, IsTrueClaim, is_at_least as is_at_least_by, judged, verdict_of};
+ghost use Rattle.proof_tree.specs.Verdicts.{HasLength, IsProved, IsProvedVerdict, IsTrueClaim, is_at_least as is_at_least_by, judged};
+ghost use Rattle.proof_tree.specs.Verdicts.{verdict_of};
 ghost use Rattle.proof_tree.specs.Within.{IsTreeWithin};
 ghost use Rattle.ip_defs.specs.Program.{box_of};
 

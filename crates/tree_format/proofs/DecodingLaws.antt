@@ -1,5 +1,28 @@
 -- What is read as a claim and a tree is spelled by the bytes.
-use Rattle.std.specs.Prelude.{◌≡◌, ℕ, suc, ◌<◌, Bool, true, false, List, [], ◌∷◌, ◌++◌, length, drop, ℤ, Option, Some, None, Result, Ok, Err, IfOk, IfErr}
+use Rattle.std.specs.Prelude.{
+  ◌≡◌,
+  ℕ,
+  suc,
+  ◌<◌,
+  Bool,
+  true,
+  false,
+  List,
+  [],
+  ◌∷◌,
+  ◌++◌,
+  length,
+  drop,
+  ℤ,
+  Option,
+  Some,
+  None,
+  Result,
+  Ok,
+  Err,
+  IfOk,
+  IfErr,
+}
 use Rattle.std.specs.List.{flat_map}
 use Rattle.std.proofs.Common.{arith, refl, ap, ◌∙◌, sym, subst, append_assoc, get_or}
 use Rattle.std.proofs.lemmas.List.{append-nil, take_all}
@@ -136,7 +159,8 @@ spelled_once bytes c d t u s v =
     let all = one_spelling bytes [] c d t u s (subst (λ (bs : List ℕ). Spells bs d u) (sym (append-nil bytes)) v) in (all.1, all.2)
 
 -- bytes that spell a proof are refused by want of memory alone
-pub spelled_refusal : (bytes : List ℕ) (c : Claim) (t : PlainTree) (e : TreeError) → Spells bytes c t → IsRefusal bytes e → e ≡ faults.Memory
+pub spelled_refusal : (bytes : List ℕ) (c : Claim) (t : PlainTree) (e : TreeError) → Spells bytes c t → IsRefusal bytes e → e
+    ≡ faults.Memory
 spelled_refusal bytes c t e s r = by e r
   where
     no : (x : TreeError) → first_fault bytes ≡ Some x → ⊥

@@ -57,7 +57,8 @@ number_ended f g read low start b v trees bytes e d =
 pub field_cut : (f : Field) (read low start nodes : ℕ) (pending : List ℕ) → (greatest_of f ≡ None → read ≡ 0) → IsFieldSound f
     → is_whole f pending ≡ false → field_from f read low start (trees_at pending nodes) [] ≡ stopped (Cut (start + read))
 field_cut (fields.Opening zero) read low start nodes pending bare l e = rw (bare refl) (ap (λ (k : ℕ). stopped (Cut k)) (omega arith))
-field_cut (fields.Opening (suc zero)) read low start nodes pending bare l e = rw (bare refl) (ap (λ (k : ℕ). stopped (Cut k)) (omega arith))
+field_cut (fields.Opening (suc zero)) read low start nodes pending bare l e = rw (bare refl) (ap (λ (k : ℕ). stopped (Cut k)) (omega
+    arith))
 field_cut (fields.Opening (suc (suc zero))) read low start nodes pending bare l e =
     rw (bare refl) (ap (λ (k : ℕ). stopped (Cut k)) (omega arith))
 field_cut (fields.Opening (suc (suc (suc zero)))) read low start nodes pending bare l e =

@@ -1,5 +1,33 @@
 -- What is read without a fault was written, part by part.
-use Rattle.std.specs.Prelude.{◌≡◌, ℕ, zero, suc, ◌+◌, ◌*◌, ◌%◌, ◌^◌, ◌<◌, ◌≤◌, ◌==◌, ◌&&◌, not, Bool, true, false, nat_lt, List, [], ◌∷◌, ◌++◌, length, ℤ, pos, negsuc, Some, None}
+use Rattle.std.specs.Prelude.{
+  ◌≡◌,
+  ℕ,
+  zero,
+  suc,
+  ◌+◌,
+  ◌*◌,
+  ◌%◌,
+  ◌^◌,
+  ◌<◌,
+  ◌≤◌,
+  ◌==◌,
+  ◌&&◌,
+  not,
+  Bool,
+  true,
+  false,
+  nat_lt,
+  List,
+  [],
+  ◌∷◌,
+  ◌++◌,
+  length,
+  ℤ,
+  pos,
+  negsuc,
+  Some,
+  None,
+}
 use Rattle.std.specs.Int.RustNames.{unsigned_abs}
 use Rattle.std.specs.Int.Signed.{lt_z}
 use Rattle.std.specs.List.{flat_map, list_all}
@@ -18,8 +46,39 @@ use Rattle.proof_tree.specs.declared.claims.Claim.TheVariants.{Best, Empty}
 use Rattle.proof_tree.proofs.CertLaws.{cert_exact}
 use Rattle.tree_format.specs.Readings.{Reading, stopped, part_then}
 use Rattle.tree_format.specs.Numbers.{unsigned, signed}
-use Rattle.tree_format.specs.Spellings.{number, signed_number, opening, claim_bytes, multiplier_bytes, cert_bytes, tree_bytes, IsClaimWithin}
-use Rattle.tree_format.specs.Grammar.{number_at, opening_at, coordinates_at, point_at, claim_at, claim_kind, of_point, of_emptiness, of_neither, ClaimKind, multiplier_at, multipliers_at, cert_at, split_at, NodeKind, node_kind, leaf_kind, split_kind, no_kind, tree_at, end_at}
+use Rattle.tree_format.specs.Spellings.{
+  number,
+  signed_number,
+  opening,
+  claim_bytes,
+  multiplier_bytes,
+  cert_bytes,
+  tree_bytes,
+  IsClaimWithin,
+}
+use Rattle.tree_format.specs.Grammar.{
+  number_at,
+  opening_at,
+  coordinates_at,
+  point_at,
+  claim_at,
+  claim_kind,
+  of_point,
+  of_emptiness,
+  of_neither,
+  ClaimKind,
+  multiplier_at,
+  multipliers_at,
+  cert_at,
+  split_at,
+  NodeKind,
+  node_kind,
+  leaf_kind,
+  split_kind,
+  no_kind,
+  tree_at,
+  end_at,
+}
 use Rattle.tree_format.specs.Laws.{ReadingsAreSpelled}
 use Rattle.tree_format.specs.declared.errors.TreeError.TheVariants as faults
 use Rattle.tree_format.specs.declared.tokens.Token.{Token}
@@ -122,7 +181,8 @@ present (negsuc n) e = omega (arith, ints)
 
 multiplier_taken : (row place : ℕ) (bytes : List ℕ) (next : ℕ → List ℕ → Reading Token) → Each (λ b. b < 256) bytes
     → (multiplier_at row place bytes next).fault ≡ None
-    → Taken (λ z. (0 < unsigned_abs z) × (unsigned_abs z ≤ 2 ^ 36)) signed_number (λ z rest. next (place + length (signed_number z)) rest) bytes
+    → Taken (λ z. (0 < unsigned_abs z) × (unsigned_abs z ≤ 2 ^ 36)) signed_number (λ z rest. next (place + length (signed_number z))
+    rest) bytes
 multiplier_taken row place bytes next each none = by (unsigned z.value == 0) refl
   where
     z : Taken (λ z. unsigned_abs z ≤ 2 ^ 36) signed_number (λ z rest. elim (unsigned z == 0) [
@@ -132,7 +192,8 @@ multiplier_taken row place bytes next each none = by (unsigned z.value == 0) ref
     z = signed_taken (2 ^ 36) place bytes _ (lit< tt) each none
 
     by : (t : Bool) → (unsigned z.value == 0) ≡ t
-        → Taken (λ z. (0 < unsigned_abs z) × (unsigned_abs z ≤ 2 ^ 36)) signed_number (λ z rest. next (place + length (signed_number z)) rest) bytes
+        → Taken (λ z. (0 < unsigned_abs z) × (unsigned_abs z ≤ 2 ^ 36)) signed_number (λ z rest. next (place + length (signed_number
+        z)) rest) bytes
     by true e = absurd (let no : Some (faults.Zero place) ≡ None = rw e at z.none in cc)
     by false e = record {
       value = z.value;
@@ -360,7 +421,11 @@ tree_taken (suc k) nodes place (b ∷ bytes) next each none = by (nat_lt nodes 1
     by : (t : Bool) (kind : NodeKind) → nat_lt nodes 1000000 ≡ t → node_kind b ≡ kind → AreTaken k
         → TreeTaken (suc k) nodes place (b ∷ bytes) next
     by false kind e f sides = absurd (let no : Some (faults.TooMany place) ≡ None = rw (tree_at, e) at none in cc)
-    by true leaf_kind e f sides = leaf_taken k nodes place b bytes next each.1 (lt_is nodes 1000000 e) (kind_leaf b f) (rw (tree_at, e, f) at none)
+    by true leaf_kind e f sides = leaf_taken k nodes place b bytes next each.1 (lt_is nodes 1000000 e) (kind_leaf b f) (rw (
+      tree_at,
+      e,
+      f,
+    ) at none)
     by true split_kind e f sides = sides_taken k nodes place b bytes next each.1 (kind_split b f) sides (rw (tree_at, e, f) at none)
     by true no_kind e f sides = absurd (let no : Some (faults.Tag place) ≡ None = rw (tree_at, e, f) at none in cc)
 

@@ -1,5 +1,29 @@
 -- Numbers as bytes: what their bytes weigh, and that what was written is read.
-use Rattle.std.specs.Prelude.{◌&&◌, ◌==◌, ◌-◌, Bool, true, false, nat_lt, length, ◌≡◌, ℕ, zero, suc, ◌+◌, ◌*◌, ◌/◌, ◌%◌, ◌^◌, ◌<◌, ◌≤◌, List, [], ◌∷◌, ◌++◌}
+use Rattle.std.specs.Prelude.{
+  ◌&&◌,
+  ◌==◌,
+  ◌-◌,
+  Bool,
+  true,
+  false,
+  nat_lt,
+  length,
+  ◌≡◌,
+  ℕ,
+  zero,
+  suc,
+  ◌+◌,
+  ◌*◌,
+  ◌/◌,
+  ◌%◌,
+  ◌^◌,
+  ◌<◌,
+  ◌≤◌,
+  List,
+  [],
+  ◌∷◌,
+  ◌++◌,
+}
 use Rattle.std.proofs.Common.{arith, mod-lt, lit<, refl, ap, ◌∙◌, sym}
 use Rattle.std.proofs.Math.Nat.{pow-le-pow_right, mul_assoc, mul_comm, add-mul, pow-suc, div-lt_iff_lt-mul}
 use Rattle.std.proofs.lemmas.Nat.{div-add-mod'}
@@ -79,7 +103,8 @@ joined : (n p : ℕ) → (n % 128) * p + n / 128 * (p * 128) ≡ n * p
 joined n p =
     let whole = ap (λ (k : ℕ). k * p) (div-add-mod' n 128) in
     let split = add-mul (n / 128 * 128) (n % 128) p in
-    let turned : n / 128 * (p * 128) ≡ n / 128 * 128 * p = ap (λ (k : ℕ). n / 128 * k) (mul_comm p 128) ∙ sym (mul_assoc (n / 128) 128 p) in
+    let turned : n / 128 * (p * 128) ≡ n / 128 * 128 * p = ap (λ (k : ℕ). n / 128 * k) (mul_comm p 128)
+    ∙ sym (mul_assoc (n / 128) 128 p) in
     omega arith
 
 joined_on : (read low n : ℕ) → (low + (128 + n % 128 - 128) * 128 ^ read) + n / 128 * 128 ^ (read + 1) ≡ low + n * 128 ^ read

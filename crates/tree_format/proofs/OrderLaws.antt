@@ -1,5 +1,28 @@
 -- The parts of all bytes are in order.
-use Rattle.std.specs.Prelude.{◌≡◌, ℕ, zero, suc, ◌+◌, ◌<◌, ◌^◌, ◌==◌, if◌then◌else◌, Bool, true, false, nat_lt, List, [], ◌∷◌, ◌++◌, length, ℤ, Option, Some, None}
+use Rattle.std.specs.Prelude.{
+  ◌≡◌,
+  ℕ,
+  zero,
+  suc,
+  ◌+◌,
+  ◌<◌,
+  ◌^◌,
+  ◌==◌,
+  if◌then◌else◌,
+  Bool,
+  true,
+  false,
+  nat_lt,
+  List,
+  [],
+  ◌∷◌,
+  ◌++◌,
+  length,
+  ℤ,
+  Option,
+  Some,
+  None,
+}
 use Rattle.std.specs.List.{flat_map}
 use Rattle.std.proofs.Common.{arith, refl, sym, subst, append_assoc, ap, length-append, ◌∙◌}
 use Rattle.proof_tree.specs.LabelledTrees.{leaf, split}
@@ -7,8 +30,41 @@ use Rattle.proof_tree.specs.Trees.{PlainTree}
 use Rattle.tree_format.specs.Readings.{Reading, complete, stopped, part_then, parts_then}
 use Rattle.tree_format.specs.Numbers.{number_from, next_digit, signed}
 use Rattle.tree_format.specs.Spellings.{longest, opening, tree_parts, multiplier_part}
-use Rattle.tree_format.specs.Grammar.{opening_at, coordinates_at, point_at, claim_at, claim_kind, of_point, of_emptiness, of_neither, ClaimKind, multiplier_at, multipliers_at, cert_at, split_at, NodeKind, node_kind, leaf_kind, split_kind, no_kind, tree_at, end_at}
-use Rattle.tree_format.specs.Orders.{Expected, a_claim, a_coordinate, trees, a_count, a_multiplier, multipliers, AreInOrder, IsInOrder, PartsAreInOrder, MayEnd}
+use Rattle.tree_format.specs.Grammar.{
+  opening_at,
+  coordinates_at,
+  point_at,
+  claim_at,
+  claim_kind,
+  of_point,
+  of_emptiness,
+  of_neither,
+  ClaimKind,
+  multiplier_at,
+  multipliers_at,
+  cert_at,
+  split_at,
+  NodeKind,
+  node_kind,
+  leaf_kind,
+  split_kind,
+  no_kind,
+  tree_at,
+  end_at,
+}
+use Rattle.tree_format.specs.Orders.{
+  Expected,
+  a_claim,
+  a_coordinate,
+  trees,
+  a_count,
+  a_multiplier,
+  multipliers,
+  AreInOrder,
+  IsInOrder,
+  PartsAreInOrder,
+  MayEnd,
+}
 use Rattle.tree_format.specs.declared.errors.TreeError.{TreeError}
 use Rattle.tree_format.specs.declared.errors.TreeError.TheVariants as faults
 use Rattle.tree_format.specs.declared.numbers.Digit.{Digit}
@@ -55,7 +111,8 @@ coordinates_in_order (suc n) place bytes next h =
     number_in_order (2 ^ 25) 0 0 place bytes _ a_coordinate (λ v p rest. coordinates_in_order n p rest next h)
 
 multiplier_in_order : (n k row place : ℕ) (bytes : List ℕ) (next : ℕ → List ℕ → Reading Token)
-    → ((p : ℕ) (rest : List ℕ) → IsInOrder (multipliers n k) (next p rest)) → IsInOrder (a_multiplier n k) (multiplier_at row place bytes next)
+    → ((p : ℕ) (rest : List ℕ) → IsInOrder (multipliers n k) (next p rest))
+    → IsInOrder (a_multiplier n k) (multiplier_at row place bytes next)
 multiplier_in_order n k row place bytes next h =
     number_in_order (2 ^ 37) 0 0 place bytes _ (a_multiplier n k) (λ v p rest. by v p rest (v == 0))
   where

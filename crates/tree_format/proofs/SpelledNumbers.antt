@@ -111,7 +111,8 @@ gone_on i g read low b bytes l under n = record {
 no_fail : {A : Type 0} (most g read low start b : ℕ) (f : TreeError) (bytes : List ℕ) (next : ℕ → ℕ → List ℕ → Reading A)
     → (number_from most g read low start (b ∷ bytes) next).fault ≡ None → next_digit most g read low start b ≡ Fails f → ⊥
 no_fail {A = A} most g read low start b f bytes next none d =
-    let is = ap (λ (r : Reading A). r.fault) (from_fails most g read low start b f bytes next d) in absurd (let no : Some f ≡ None = sym is ∙ none in cc)
+    let is = ap (λ (r : Reading A). r.fault) (from_fails most g read low start b f bytes next d) in absurd (let no : Some f
+    ≡ None = sym is ∙ none in cc)
 
 -- the last byte that a number may have does not say that it goes on
 no_more : (most g read low start b : ℕ) → 128 ≤ b → most ≤ read + 1 → next_digit most g read low start b ≡ Fails (Width start)

@@ -1,5 +1,30 @@
 -- What spells a proof is read, part by part, whatever follows it.
-use Rattle.std.specs.Prelude.{◌≡◌, ℕ, zero, suc, ◌+◌, ◌*◌, ◌/◌, ◌%◌, ◌^◌, ◌<◌, ◌≤◌, ◌&&◌, not, true, nat_lt, List, [], ◌∷◌, ◌++◌, length, ℤ, pos, negsuc, ◌≤ℤ◌}
+use Rattle.std.specs.Prelude.{
+  ◌≡◌,
+  ℕ,
+  zero,
+  suc,
+  ◌+◌,
+  ◌*◌,
+  ◌/◌,
+  ◌%◌,
+  ◌^◌,
+  ◌<◌,
+  ◌≤◌,
+  ◌&&◌,
+  not,
+  true,
+  nat_lt,
+  List,
+  [],
+  ◌∷◌,
+  ◌++◌,
+  length,
+  ℤ,
+  pos,
+  negsuc,
+  ◌≤ℤ◌,
+}
 use Rattle.std.specs.Int.RustNames.{unsigned_abs}
 use Rattle.std.specs.Int.Signed.{lt_z}
 use Rattle.std.specs.List.{flat_map, list_all}
@@ -19,7 +44,21 @@ use Rattle.proof_tree.specs.declared.claims.Claim.TheVariants.{Best, Empty}
 use Rattle.proof_tree.proofs.CertLaws.{cert_exact}
 use Rattle.tree_format.specs.Readings.{Reading, part_then, parts_then, complete}
 use Rattle.tree_format.specs.Numbers.{unsigned, signed}
-use Rattle.tree_format.specs.Spellings.{number, signed_number, claim_bytes, multiplier_bytes, cert_bytes, tree_bytes, spelling, claim_parts, coordinate_part, multiplier_part, tree_parts, proof_parts, IsClaimWithin}
+use Rattle.tree_format.specs.Spellings.{
+  number,
+  signed_number,
+  claim_bytes,
+  multiplier_bytes,
+  cert_bytes,
+  tree_bytes,
+  spelling,
+  claim_parts,
+  coordinate_part,
+  multiplier_part,
+  tree_parts,
+  proof_parts,
+  IsClaimWithin,
+}
 use Rattle.tree_format.specs.Grammar.{
   number_at,
   coordinates_at,
@@ -91,7 +130,8 @@ coordinates_are_read (z ∷ x) place bytes next each =
     λ v p rest. part_then (Coordinate (signed v)) (coordinates_at (length x) p rest next) in
     ap (λ (bs : List ℕ). number_at (2 ^ 25) place bs after) (append_assoc first others bytes)
     ∙ signed_is_read (2 ^ 24) z place (others ++ bytes) after each.0 (lit< tt)
-    ∙ ap (λ (w : ℤ). part_then (Coordinate w) (coordinates_at (length x) (place + length first) (others ++ bytes) next)) (signed_unsigned z)
+    ∙ ap (λ (w : ℤ). part_then (Coordinate w) (coordinates_at (length x) (place + length first) (others ++ bytes) next))
+    (signed_unsigned z)
     ∙ ap (part_then (Coordinate z)) (coordinates_are_read x (place + length first) bytes next each.1)
     ∙ ap (λ (r : Reading Token). part_then (Coordinate z) (parts_then (flat_map coordinate_part x) r))
     (place_more place first others bytes next)
@@ -196,7 +236,8 @@ pub split_is_read : (col : ℕ) (cut : ℤ) (place : ℕ) (bytes : List ℕ) (ne
 split_is_read col cut place bytes next l small =
     number_is_read 4095 col place (signed_number cut ++ bytes) _ l (lit< tt)
     ∙ signed_is_read (2 ^ 24) cut (place + length (number col)) bytes _ small (lit< tt)
-    ∙ ap (λ (z : ℤ). part_then (SplitAt col z) (next (place + length (number col) + length (signed_number cut)) bytes)) (signed_unsigned cut)
+    ∙ ap (λ (z : ℤ). part_then (SplitAt col z) (next (place + length (number col) + length (signed_number cut)) bytes))
+    (signed_unsigned cut)
 
 pub tree_is_read : (t : PlainTree) (k nodes place : ℕ) (bytes : List ℕ) (next : ℕ → ℕ → List ℕ → Reading Token) → depth t ≤ k
     → nodes + node_count t ≤ 1000000 → AreNumbersWithin t
@@ -211,7 +252,8 @@ tree_is_read (split col cut y left right) (suc k) nodes place bytes next deep fe
     rw (tree_at, lt_true nodes 1000000 (omega arith)) (
     ap (λ (bs : List ℕ). split_at (place + 1) bs first) bytes_are
     ∙ split_is_read col cut (place + 1) (tree_bytes left ++ (tree_bytes right ++ bytes)) first within.0 within.1
-    ∙ ap (part_then (SplitAt col cut)) (tree_is_read left k (nodes + 1) one (tree_bytes right ++ bytes) second (omega arith) (omega arith) within.2
+    ∙ ap (part_then (SplitAt col cut)) (tree_is_read left k (nodes + 1) one (tree_bytes right ++ bytes) second (omega arith) (omega
+    arith) within.2
     ∙ ap (parts_then (tree_parts left))
     (tree_is_read right k (nodes + 1 + node_count left) two bytes next (omega arith) (omega arith) within.3)
     ∙ parts_then_more (tree_parts left) (tree_parts right) _)

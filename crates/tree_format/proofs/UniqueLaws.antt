@@ -9,7 +9,18 @@ use Rattle.proof_tree.specs.Trees.{PlainTree}
 use Rattle.proof_tree.specs.declared.claims.Claim.{Claim}
 use Rattle.proof_tree.specs.declared.claims.Claim.TheVariants.{Best, Empty}
 use Rattle.tree_format.specs.Readings.{Reading, parts_then, complete}
-use Rattle.tree_format.specs.Spellings.{spelling, opening, claim_bytes, tree_bytes, claim_parts, tree_parts, proof_parts, coordinate_part, multiplier_part, IsClaimWithin}
+use Rattle.tree_format.specs.Spellings.{
+  spelling,
+  opening,
+  claim_bytes,
+  tree_bytes,
+  claim_parts,
+  tree_parts,
+  proof_parts,
+  coordinate_part,
+  multiplier_part,
+  IsClaimWithin,
+}
 use Rattle.tree_format.specs.Grammar.{reading, end_at}
 use Rattle.tree_format.specs.Laws.{OneSpelling}
 use Rattle.tree_format.specs.declared.tokens.Token.{Token}
@@ -92,7 +103,8 @@ same_proofs Empty Empty t u xs ys b e =
 -- ---- what follows a spelling
 
 regrouped : (c : Claim) (t : PlainTree) (more : List ℕ) → spelling c t ++ more ≡ opening ++ (claim_bytes c ++ (tree_bytes t ++ more))
-regrouped c t more = append_assoc (opening ++ claim_bytes c) (tree_bytes t) more ∙ append_assoc opening (claim_bytes c) (tree_bytes t ++ more)
+regrouped c t more = append_assoc (opening ++ claim_bytes c) (tree_bytes t) more
+    ∙ append_assoc opening (claim_bytes c) (tree_bytes t ++ more)
 
 -- a spelling with bytes after it
 followed : (c : Claim) (t : PlainTree) (more : List ℕ) → IsClaimWithin c → IsTreeWithin t → (place : ℕ)

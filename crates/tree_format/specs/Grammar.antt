@@ -46,7 +46,8 @@ opening_at (wanted ∷ more) place [] next = stopped (faults.Cut place)
 opening_at (wanted ∷ more) place (b ∷ bytes) next =
     elim (b == wanted) [ true ↦ opening_at more (place + 1) bytes next | false ↦ stopped (faults.Magic place) ]
 
--- coordinates, of which some number is still to come; a signed number is at most 2 ^ 24 in absolute value where its number is at most 2 ^ 25
+-- coordinates, of which some number is still to come; a signed number is at most 2 ^ 24 in absolute value where its number is at most
+-- 2 ^ 25
 abbrev pub coordinates_at : ℕ → ℕ → List ℕ → (ℕ → List ℕ → Reading Token) → Reading Token
 coordinates_at zero place bytes next = next place bytes
 coordinates_at (suc n) place bytes next =
@@ -76,7 +77,11 @@ claim_at place (b ∷ bytes) next =
 -- a multiplier of a row, which is not 0
 abbrev pub multiplier_at : ℕ → ℕ → List ℕ → (ℕ → List ℕ → Reading Token) → Reading Token
 multiplier_at row place bytes next =
-    number_at (2 ^ 37) place bytes (λ v p rest. elim (v == 0) [ true ↦ stopped (faults.Zero place) | false ↦ part_then (Part row (signed v)) (next p rest) ])
+    number_at (2 ^ 37) place bytes (λ v p rest. elim (v == 0) [
+      | true ↦ stopped (faults.Zero place)
+      | false ↦ part_then (Part row
+          (signed v)) (next p rest)
+    ])
 
 -- multipliers with their rows, of which some number is still to come, where the next row is at least some row
 abbrev pub multipliers_at : ℕ → ℕ → ℕ → List ℕ → (ℕ → List ℕ → Reading Token) → Reading Token
@@ -107,7 +112,7 @@ pub data NodeKind : Type 0 where
 abbrev pub node_kind : ℕ → NodeKind
 node_kind b = if b == 76 then leaf_kind else if b == 83 then split_kind else no_kind
 
--- a tree of at most some levels, where some nodes stand before it; what follows is told how many nodes stand before it
+-- a tree of at most some levels, where some nodes stand before it; what follows is given how many nodes stand before it
 abbrev pub tree_at : ℕ → ℕ → ℕ → List ℕ → (ℕ → ℕ → List ℕ → Reading Token) → Reading Token
 tree_at zero nodes place [] next = stopped (faults.Cut place)
 tree_at zero nodes place (b ∷ bytes) next =
@@ -173,7 +178,8 @@ shown (Part row m) = Part row m ∷ []
 
 -- what one byte after others answers: its part where the bytes so far have no fault, else their fault
 abbrev pub IsAnswer : List ℕ → ℕ → Result Token TreeError → Type 0
-IsAnswer bytes b (Ok token) = (fault_so_far (bytes ++ b ∷ []) ≡ None) × (parts_so_far (bytes ++ b ∷ []) ≡ parts_so_far bytes ++ shown token)
+IsAnswer bytes b (Ok token) = (fault_so_far (bytes ++ b ∷ []) ≡ None) × (parts_so_far (bytes ++ b ∷ [])
+    ≡ parts_so_far bytes ++ shown token)
 IsAnswer bytes b (Err e) = fault_so_far (bytes ++ b ∷ []) ≡ Some e
 
 -- an error is that memory ran out, or a fault

@@ -5,7 +5,8 @@ ghost use Rattle.proof_tree.specs.Trees.{PlainTree, plain};
 ghost use Rattle.tree_format.specs.Readings.{complete, part_then};
 ghost use Rattle.tree_format.specs.Spellings.{Spells, multiplier_part, tree_parts, coordinate_part};
 ghost use Rattle.tree_format.specs.Grammar.{IsErrorOf, IsRefusal, claims_point};
-ghost use Rattle.tree_format.specs.Orders.{IsInOrder, a_claim, a_coordinate, trees, a_count, a_multiplier, multipliers as some_multipliers};
+ghost use Rattle.tree_format.specs.Orders.{IsInOrder, a_claim, a_coordinate, trees, a_count, a_multiplier};
+ghost use Rattle.tree_format.specs.Orders.{multipliers as some_multipliers};
 ghost use Rattle.tree_format.specs.Internal.Remaining.{HasRead, fault_of, remaining};
 ghost use Rattle.tree_format.specs.Internal.Stretches.{ReadsOn, IsReadAs, claim_of};
 

@@ -6,7 +6,8 @@ ghost use Rattle.ip_defs.specs.Limits.{AreSmall, IsCert};
 ghost use Rattle.ip_defs.specs.Lists.{Each};
 ghost use Rattle.proof_tree.specs.Trees.{plain};
 ghost use Rattle.proof_tree.specs.Within.{AreNumbersWithin, IsTreeWithin};
-ghost use Rattle.tree_format.specs.Spellings.{signed_number, multiplier_bytes, cert_bytes, claim_bytes, tree_bytes, spelling, IsClaimWithin};
+ghost use Rattle.tree_format.specs.Spellings.{signed_number, multiplier_bytes, cert_bytes, claim_bytes, tree_bytes, spelling};
+ghost use Rattle.tree_format.specs.Spellings.{IsClaimWithin};
 
 use crate::numbers::push_number;
 use crate::values::unsigned;

@@ -1,7 +1,8 @@
 //! What the grammar of a tree file wants next, and what a number leads to.
 ghost use Rattle.std.specs.Prelude.{◌≡◌, ◌+◌, ◌*◌, ◌^◌, ◌≤◌, IfOk, IfErr};
 ghost use Rattle.tree_format.specs.Internal.Remaining.{IsFinal};
-ghost use Rattle.tree_format.specs.Internal.Fields.{greatest_of, IsUpTo, IsAfter, IsFieldSound, IsClaimed, most_left, coordinate_field, multiplier_field};
+ghost use Rattle.tree_format.specs.Internal.Fields.{greatest_of, IsUpTo, IsAfter, IsFieldSound, IsClaimed, most_left, coordinate_field};
+ghost use Rattle.tree_format.specs.Internal.Fields.{multiplier_field};
 
 use crate::values::signed;
 use crate::{Token, TreeError};

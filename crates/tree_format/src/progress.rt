@@ -1,7 +1,8 @@
 //! How far a tree file is read: what is wanted next, and what one byte more leads to.
 ghost use Rattle.std.specs.Prelude.{◌≡◌, ◌+◌, ◌^◌, ◌<◌, ◌∷◌, ℕ, List, [], None, Some, OnOk, IfErr};
 ghost use Rattle.tree_format.specs.Internal.Fields.{greatest_of, claim_from, is_whole as is_whole_at};
-ghost use Rattle.tree_format.specs.Internal.Remaining.{left_of, remaining, claim_after, claim_unless, IsFinal, answer_then, fault_of, ended_by, begun, IsSound, IsSoundUnless};
+ghost use Rattle.tree_format.specs.Internal.Remaining.{left_of, remaining, claim_after, claim_unless, IsFinal, answer_then, fault_of};
+ghost use Rattle.tree_format.specs.Internal.Remaining.{ended_by, begun, IsSound, IsSoundUnless};
 
 use crate::fields::{Field, after, greatest};
 use crate::numbers::{Digit, next_digit};
@@ -53,7 +54,8 @@ impl Progress {
         ensures left { (bytes : List ℕ) → answer_then result (left_of self.new bytes) ≡ left_of self.old (byte ∷ bytes) }
         ensures sound { OnOk result (IsSound self.new) }
         ensures fault { self.new.fault ≡ None }
-        ensures claim { (bytes : List ℕ) → claim_after result self.new bytes ≡ claim_from self.old.field self.old.claims_point (byte ∷ bytes) }
+        ensures claim { (bytes : List ℕ) → claim_after result self.new bytes
+            ≡ claim_from self.old.field self.old.claims_point (byte ∷ bytes) }
         ensures final_fault { IfErr result (λ e. IsFinal e) }
     {
         if byte != OPENING[read as usize] {
@@ -76,7 +78,8 @@ impl Progress {
         ensures left { (bytes : List ℕ) → answer_then result (left_of self.new bytes) ≡ left_of self.old (byte ∷ bytes) }
         ensures sound { OnOk result (IsSound self.new) }
         ensures fault { self.new.fault ≡ None }
-        ensures claim { (bytes : List ℕ) → claim_after result self.new bytes ≡ claim_from self.old.field self.old.claims_point (byte ∷ bytes) }
+        ensures claim { (bytes : List ℕ) → claim_after result self.new bytes
+            ≡ claim_from self.old.field self.old.claims_point (byte ∷ bytes) }
         ensures final_fault { IfErr result (λ e. IsFinal e) }
     {
         self.field = match byte {
@@ -108,7 +111,8 @@ impl Progress {
         ensures left { (bytes : List ℕ) → answer_then result (left_of self.new bytes) ≡ left_of self.old (byte ∷ bytes) }
         ensures sound { OnOk result (IsSound self.new) }
         ensures fault { self.new.fault ≡ None }
-        ensures claim { (bytes : List ℕ) → claim_after result self.new bytes ≡ claim_from self.old.field self.old.claims_point (byte ∷ bytes) }
+        ensures claim { (bytes : List ℕ) → claim_after result self.new bytes
+            ≡ claim_from self.old.field self.old.claims_point (byte ∷ bytes) }
         ensures final_fault { IfErr result (λ e. IsFinal e) }
     {
         let place = self.start;
@@ -144,7 +148,8 @@ impl Progress {
         ensures left { (bytes : List ℕ) → answer_then result (left_of self.new bytes) ≡ left_of self.old (byte ∷ bytes) }
         ensures sound { OnOk result (IsSound self.new) }
         ensures fault { self.new.fault ≡ None }
-        ensures claim { (bytes : List ℕ) → claim_after result self.new bytes ≡ claim_from self.old.field self.old.claims_point (byte ∷ bytes) }
+        ensures claim { (bytes : List ℕ) → claim_after result self.new bytes
+            ≡ claim_from self.old.field self.old.claims_point (byte ∷ bytes) }
         ensures final_fault { IfErr result (λ e. IsFinal e) }
     {
         match next_digit(greatest, self.read, self.low, self.start, byte) {
@@ -174,7 +179,8 @@ impl Progress {
         ensures left { (bytes : List ℕ) → answer_then result (left_of self.new bytes) ≡ left_of self.old (byte ∷ bytes) }
         ensures sound { OnOk result (IsSound self.new) }
         ensures fault { self.new.fault ≡ None }
-        ensures claim { (bytes : List ℕ) → claim_after result self.new bytes ≡ claim_from self.old.field self.old.claims_point (byte ∷ bytes) }
+        ensures claim { (bytes : List ℕ) → claim_after result self.new bytes
+            ≡ claim_from self.old.field self.old.claims_point (byte ∷ bytes) }
         ensures final_fault { IfErr result (λ e. IsFinal e) }
     {
         if let Some(greatest) = greatest(self.field) {
@@ -193,7 +199,8 @@ impl Progress {
         ensures left { (bytes : List ℕ) → answer_then result (remaining self.new bytes) ≡ remaining self.old (byte ∷ bytes) }
         ensures sound { IsSoundUnless self.new.fault self.new }
         ensures fault { self.new.fault ≡ fault_of result }
-        ensures claim { (bytes : List ℕ) → claim_unless self.new.fault self.new bytes ≡ claim_unless self.old.fault self.old (byte ∷ bytes) }
+        ensures claim { (bytes : List ℕ) → claim_unless self.new.fault self.new bytes
+            ≡ claim_unless self.old.fault self.old (byte ∷ bytes) }
     {
         if let Some(fault) = self.fault {
             return Err(fault);

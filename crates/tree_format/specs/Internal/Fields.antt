@@ -77,7 +77,8 @@ after_number (fields.Multiplier more row) start trees v p rest =
       | true ↦ stopped (faults.Zero start)
       | false ↦ part_then (Part row (signed v)) (multipliers_at more (row + 1) p rest trees)
     ]
-after_number fields.Column start trees col p rest = number_at (2 ^ 25) p rest (λ v p rest. part_then (SplitAt col (signed v)) (trees p rest))
+after_number fields.Column start trees col p rest = number_at (2 ^ 25) p rest (λ v p rest. part_then (SplitAt col (signed v)) (trees
+    p rest))
 after_number (fields.Cut col) start trees v p rest = part_then (SplitAt col (signed v)) (trees p rest)
 
 -- what is left of a field of which a number's first bytes are read, and the trees after it

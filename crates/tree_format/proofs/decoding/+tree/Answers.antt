@@ -12,7 +12,8 @@ next_part-requires-in-SplitAt-clause-left t c =
     let o = c.requires.order in
     let one = c.in-Ok-next_part.ensures.on in
     let left = c.in-Ok-tree.ensures.on in
-    something_left (trees (suc o.0)) _ (λ h. h) (after_left o.0 c.args.first c.in-Ok-next_part.part c.in-SplitAt.col c.in-SplitAt.cut left.0
+    something_left (trees (suc o.0)) _ (λ h. h) (after_left o.0 c.args.first c.in-Ok-next_part.part c.in-SplitAt.col c.in-SplitAt.cut
+    left.0
     (plain c.in-Ok-tree.left) _ _ _ o.1 c.in-SplitAt.is one.left left.1 left.2.left)
 
 pub tree-requires-in-SplitAt : goal.tree-requires-in-SplitAt
@@ -48,7 +49,8 @@ returns-in_ok-right-in-SplitAt-clause-on t c =
     c.next_part-in-SplitAt.new.at (p ∷ left.0) (q ∷ []) to_left two in
     let all = both_read bytes c.args.reader.now c.next_part-in-SplitAt.new.reader c.tree-in-SplitAt.new.reader c.args.at.now
     c.next_part-in-SplitAt.new.at c.tree-in-SplitAt.new.at ((p ∷ left.0) ++ q ∷ []) right.0 to_right right.2 in
-    let parts = split_parts c.args.first c.in-SplitAt.col c.in-SplitAt.cut (plain c.in-Ok-tree.left) (plain c.in-Ok-tree-2.right) p q left.0
+    let parts = split_parts c.args.first c.in-SplitAt.col c.in-SplitAt.cut (plain c.in-Ok-tree.left) (plain c.in-Ok-tree-2.right) p q
+    left.0
     right.0 c.in-SplitAt.is left.1 right.1 in (
       ((p ∷ left.0) ++ q ∷ []) ++ right.0,
       rw (c.in_ok-left-in-SplitAt.ensures.ok, c.in_ok-right-in-SplitAt.ensures.ok, back) parts,

@@ -29,5 +29,6 @@ returns-in_default c =
 
 pub returns-clause-fault : goal.returns-clause-fault
 returns-clause-fault c =
-    error_before c.args.bytes.now c.args.reader.now c.loop-at.reader c.args.at.now c.loop-at.at [] c.in-Err-ending.fault c.loop-at.invariant
+    error_before c.args.bytes.now c.args.reader.now c.loop-at.reader c.args.at.now c.loop-at.at [] c.in-Err-ending.fault
+    c.loop-at.invariant
     (error_at_end c.args.bytes.now c.loop-at.reader c.loop-at.at c.in-Err-ending.fault c.loop-at-test.false c.in-Err-ending.ensures)

@@ -11,14 +11,16 @@ next_part-requires-clause-left c =
 
 pub point-requires-clause-order : goal.point-requires-clause-order
 point-requires-clause-order c =
-    (claim_first c.args.reader.now c.next_part.new.reader c.args.bytes.now c.next_part.new.at c.in-Ok.field-0 c.requires c.in-Ok.ensures.on).1
+    (claim_first c.args.reader.now c.next_part.new.reader c.args.bytes.now c.next_part.new.at c.in-Ok.field-0 c.requires
+    c.in-Ok.ensures.on).1
 
 pub returns-clause-read : goal.returns-clause-read
 returns-clause-read c =
     let tree = c.in-Ok-tree.ensures.on in
     let rest = c.in-Ok-finish.ensures.on in
     let bytes = c.args.bytes.now in
-    whole_is_read bytes c.args.reader.now c.next_part.new.reader c.point.new.reader c.tree.new.reader c.finish.new.reader c.next_part.new.at
+    whole_is_read bytes c.args.reader.now c.next_part.new.reader c.point.new.reader c.tree.new.reader c.finish.new.reader
+    c.next_part.new.at
     c.point.new.at c.tree.new.at c.in-Ok.field-0 c.in-Ok-point.both.1 c.in-Ok-point.both.0 (plain c.in-Ok-tree.tree) tree.0 rest.0
     c.claim-claim.result (record {
       start = c.requires;

@@ -12,5 +12,6 @@ pub returns-else-is_whole : goal.returns-else-is_whole
 returns-else-is_whole c =
     let s = c.args.self.now in
     let sound = rw c.in_default.is at c.requires.sound in
-    let cut = field_cut s.field s.read s.low s.start s.nodes s.pending sound.bare sound.field (sym c.is_whole.ensures ∙ c.if-is_whole.false) in
+    let cut = field_cut s.field s.read s.low s.start s.nodes s.pending sound.bare sound.field (sym c.is_whole.ensures
+    ∙ c.if-is_whole.false) in
     rw (c.in_default.is, c.place_after.ensures) cut

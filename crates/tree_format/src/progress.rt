@@ -1,8 +1,8 @@
 //! How far a tree file is read: what is wanted next, and what one byte more leads to.
-ghost use Rattle.std.specs.Prelude.{◌≡◌, ◌+◌, ◌^◌, ◌<◌, ◌∷◌, ℕ, List, [], None, Some, OnOk, IfErr};
+ghost use Rattle.std.specs.Prelude.{◌≡◌, ◌+◌, ◌^◌, ◌<◌, ◌∷◌, ℕ, List, [], None, Some, OnOk, IfErr, Err};
 ghost use Rattle.tree_format.specs.Internal.Fields.{greatest_of, claim_from, is_whole as is_whole_at};
 ghost use Rattle.tree_format.specs.Internal.Remaining.{left_of, remaining, claim_after, claim_unless, IsFinal, answer_then, fault_of};
-ghost use Rattle.tree_format.specs.Internal.Remaining.{ended_by, begun, IsSound, IsSoundUnless};
+ghost use Rattle.tree_format.specs.Internal.Remaining.{ended_by, begun, HasFailed, IsSound, IsSoundUnless};
 
 use crate::fields::{Field, after, greatest};
 use crate::numbers::{Digit, next_digit};
@@ -199,6 +199,7 @@ impl Progress {
         ensures left { (bytes : List ℕ) → answer_then result (remaining self.new bytes) ≡ remaining self.old (byte ∷ bytes) }
         ensures sound { IsSoundUnless self.new.fault self.new }
         ensures fault { self.new.fault ≡ fault_of result }
+        ensures failed { (e : TreeError) → HasFailed self.old e → result ≡ Err e }
         ensures claim { (bytes : List ℕ) → claim_unless self.new.fault self.new bytes
             ≡ claim_unless self.old.fault self.old (byte ∷ bytes) }
     {
@@ -225,7 +226,8 @@ impl Progress {
     /// The fault of the bytes where no more come.
     pub(crate) fn ending(&self) -> Result<(), TreeError>
         requires sound { IsSoundUnless self.now.fault self.now }
-        ensures { remaining self.now [] ≡ ended_by result }
+        ensures left { remaining self.now [] ≡ ended_by result }
+        ensures failed { (e : TreeError) → HasFailed self.now e → result ≡ Err e }
     {
         if let Some(fault) = self.fault {
             return Err(fault);

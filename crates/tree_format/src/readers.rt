@@ -1,7 +1,7 @@
 //! Reading a tree file one byte at a time.
-ghost use Rattle.std.specs.Prelude.{◌≡◌, ◌∷◌, ◌++◌, ℕ, List, [], IfOk};
+ghost use Rattle.std.specs.Prelude.{◌≡◌, ◌∷◌, ◌++◌, ℕ, List, [], IfOk, IfErr, Err};
 ghost use Rattle.tree_format.specs.Grammar.{IsAnswer, claims_point as claims_point_of, first_fault};
-ghost use Rattle.tree_format.specs.Internal.Remaining.{HasRead, IsStep, ended_by, fault_of, remaining, start_with};
+ghost use Rattle.tree_format.specs.Internal.Remaining.{HasFailed, HasRead, IsStep, ended_by, fault_of, remaining, start_with};
 
 use crate::fields::Field;
 use crate::pending::Pending;
@@ -59,14 +59,16 @@ pub fn tree_reader(alloc: Global) -> Result<TreeReader, Memory>
 impl TreeReader {
     /// Takes the next byte, as `step` does.
     pub(crate) fn take(&mut self, byte: u8) -> Result<Token, TreeError>
-        ensures { IsStep self.old self.new byte result }
+        ensures step { IsStep self.old self.new byte result }
+        ensures failed { (e : TreeError) → HasFailed self.old e → result ≡ Err e }
     {
         self.progress.step(byte)
     }
 
     /// What is left where no more bytes come, as `close` answers it.
     pub(crate) fn ending(&self) -> Result<(), TreeError>
-        ensures { remaining self.now [] ≡ ended_by result }
+        ensures left { remaining self.now [] ≡ ended_by result }
+        ensures failed { (e : TreeError) → HasFailed self.now e → result ≡ Err e }
     {
         self.progress.ending()
     }
@@ -76,6 +78,8 @@ impl TreeReader {
     pub fn step(&mut self, byte: u8) -> Result<Token, TreeError>
         ensures answer { (bytes : List ℕ) → HasRead self.old bytes → IsAnswer bytes byte result }
         ensures read { (bytes : List ℕ) → HasRead self.old bytes → HasRead self.new (bytes ++ byte ∷ []) }
+        ensures fails { IfErr result (λ e. HasFailed self.new e) }
+        ensures failed { (e : TreeError) → HasFailed self.old e → result ≡ Err e }
     {
         self.take(byte)
     }
@@ -83,7 +87,8 @@ impl TreeReader {
     /// The first fault of the bytes so far where no more come: that they are cut, where they are no whole file and had no other fault.
     /// Takes no memory.
     pub fn close(&self) -> Result<(), TreeError>
-        ensures { (bytes : List ℕ) → HasRead self.now bytes → fault_of result ≡ first_fault bytes }
+        ensures fault { (bytes : List ℕ) → HasRead self.now bytes → fault_of result ≡ first_fault bytes }
+        ensures failed { (e : TreeError) → HasFailed self.now e → result ≡ Err e }
     {
         self.ending()
     }

@@ -100,6 +100,10 @@ pub record HasRead (s : Progress) (bytes : List ℕ) : Type 0 where
   pub left : (more : List ℕ) → reading (bytes ++ more) ≡ parts_then (parts_so_far bytes) (remaining s more)
   pub claim : (more : List ℕ) → claims_point (bytes ++ more) ≡ claim_unless s.fault s more
 
+-- a byte of a reader had a fault
+abbrev pub HasFailed : Progress → TreeError → Type 0
+HasFailed s e = s.fault ≡ Some e
+
 -- a reader before the first byte, with trees pending
 abbrev pub start_with : List ℕ → Progress
 start_with pending = record {

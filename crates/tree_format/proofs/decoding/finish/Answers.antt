@@ -11,7 +11,7 @@ returns-in-Err-clause-fault c =
     let i = c.loop-i.invariant in
     let bytes = c.args.bytes.now in
     let step = subst (λ (a : Result Token TreeError). IsStep c.loop-i.reader c.take.new.self (get_or bytes c.loop-i.i 0) a)
-    c.in-Err.is c.take.ensures in
+    c.in-Err.is c.take.ensures.step in
     sym (fault_before bytes c.args.reader.now c.loop-i.reader c.args.at c.loop-i.i i.0 i.1
     ∙ byte_stops bytes c.loop-i.reader c.take.new.self c.loop-i.i c.in-Err.fault c.loop-i-test.true step)
 
@@ -20,7 +20,7 @@ loop-i-preserved c =
     let i = c.loop-i.invariant in
     let bytes = c.args.bytes.now in
     let step = subst (λ (a : Result Token TreeError). IsStep c.loop-i.reader c.take.new.self (get_or bytes c.loop-i.i 0) a)
-    c.in-Ok.is c.take.ensures in (
+    c.in-Ok.is c.take.ensures.step in (
       i.0 ++ shown c.in-Ok.field-0,
       both_read bytes c.args.reader.now c.loop-i.reader c.take.new.self c.args.at c.loop-i.i (c.loop-i.i + 1) i.0 (shown c.in-Ok.field-0)
           i.1 (byte_read bytes c.loop-i.reader c.take.new.self c.loop-i.i c.in-Ok.field-0 c.loop-i-test.true step),
@@ -31,4 +31,4 @@ returns-clause-fault c =
     let i = c.loop-i.invariant in
     let bytes = c.args.bytes.now in
     sym (fault_before bytes c.args.reader.now c.loop-i.reader c.args.at c.loop-i.i i.0 i.1
-    ∙ end_stops bytes c.loop-i.reader c.loop-i.i c.ending.result c.loop-i-test.false c.ending.ensures)
+    ∙ end_stops bytes c.loop-i.reader c.loop-i.i c.ending.result c.loop-i-test.false c.ending.ensures.left)

@@ -10,6 +10,6 @@ fault_is : (r : Result (Unit {0}) TreeError) → fault_of r ≡ (ended_by r).fau
 fault_is (Ok done) = refl
 fault_is (Err e) = refl
 
-pub returns : goal.returns
-returns c = λ bytes h.
-    fault_is c.ending.result ∙ ap (λ (r : Reading Token). r.fault) (sym c.ending.ensures) ∙ ended c.args.self.now bytes h
+pub returns-clause-fault : goal.returns-clause-fault
+returns-clause-fault c = λ bytes h.
+    fault_is c.ending.result ∙ ap (λ (r : Reading Token). r.fault) (sym c.ending.ensures.left) ∙ ended c.args.self.now bytes h

@@ -11,5 +11,5 @@ step_is c = record {
   claim = c.step.ensures.claim;
 }
 
-pub returns : goal.returns
-returns c = subst (λ (s : Progress). IsStep s c.step.new.self c.args.byte c.step.result) c.self.view_is (step_is c)
+pub returns-clause-step : goal.returns-clause-step
+returns-clause-step c = subst (λ (s : Progress). IsStep s c.step.new.self c.args.byte c.step.result) c.self.view_is (step_is c)

@@ -11,3 +11,4 @@ pub mod OrderLaws
 pub mod StretchLaws
 pub mod DecodingLaws
 pub mod Examples
+pub mod StandLaws

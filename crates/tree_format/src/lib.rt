@@ -21,7 +21,9 @@ pub use decoding::decode;
 pub use encoding::encode;
 pub use errors::TreeError;
 pub use ip_defs::{Cert, Memory, Multipliers, Point};
-pub use laws::{one_spelling, parts_are_in_order, readings_are_spelled, spellings_are_read};
+pub use laws::{
+    faults_stand, one_spelling, parts_are_in_order, readings_are_spelled, spellings_are_read,
+};
 pub use proof_tree::{Claim, Proof, Tree};
 pub use readers::{TreeReader, tree_reader};
 pub use tokens::Token;

@@ -1,5 +1,5 @@
 -- A fault stands whatever follows it.
-use Rattle.std.specs.Prelude.{◌≡◌, ℕ, zero, suc, ◌+◌, ◌^◌, ◌==◌, Bool, true, false, nat_lt, List, [], ◌∷◌, ◌++◌, Some, None}
+use Rattle.std.specs.Prelude.{◌≡◌, ℕ, zero, suc, ◌+◌, ◌^◌, ◌==◌, Bool, true, false, nat_lt, List, [], ◌∷◌, ◌++◌, Some}
 use Rattle.std.proofs.Common.{refl, sym, ap, ◌∙◌}
 use Rattle.tree_format.specs.Readings.{Reading, stopped, part_then}
 use Rattle.tree_format.specs.Numbers.{number_from, next_digit, signed}
@@ -25,7 +25,6 @@ use Rattle.tree_format.specs.Grammar.{
   no_kind,
   tree_at,
   end_at,
-  reading,
   unless_cut,
 }
 use Rattle.tree_format.specs.Laws.{FaultsStand}

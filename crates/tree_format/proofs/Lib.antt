@@ -1,0 +1,14 @@
+pub mod FieldLaws
+pub mod NumberLaws
+pub mod PendingLaws
+pub mod ReadLaws
+pub mod CertSizes
+pub mod SpelledNumbers
+pub mod SpellingLaws
+pub mod GrammarLaws
+pub mod UniqueLaws
+pub mod OrderLaws
+pub mod StretchLaws
+pub mod DecodingLaws
+pub mod Examples
+pub mod StandLaws

@@ -10,6 +10,7 @@ mod leaves;
 mod nodes;
 mod open_trees;
 mod outcomes;
+mod proposals;
 mod reasons;
 mod relaxations;
 mod search;

@@ -11,6 +11,7 @@ ghost use Rattle.branching.specs.Splits.{IsWidest};
 use crate::boxes::{middle, widest_column};
 use crate::budgets::Limits;
 use crate::leaves::{Found, end_at_point, is_closed, plain_cert};
+use crate::proposals::Proposer;
 use crate::relaxations::{Relaxed, relax};
 use crate::{BudgetWhat, Why};
 use ip_defs::{Area, Cert, Memory};
@@ -32,7 +33,7 @@ pub enum Visit {
 }
 
 /// What a search takes from node to node.
-#[derive(Debug, Drop)]
+#[derive(Drop)]
 pub struct Progress {
     /// The best point so far, with its cost.
     pub found: Found,
@@ -40,6 +41,8 @@ pub struct Progress {
     pub nodes: u32,
     /// Memory for the bounds of leaves.
     pub scratch: Scratch,
+    /// What proposes the answers of linear programs.
+    pub proposer: Proposer,
 }
 
 /// The limit that forbids a split of a node at a depth, where the tree has a number of nodes. The depth is tested first.

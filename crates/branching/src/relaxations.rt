@@ -9,11 +9,12 @@ ghost use Rattle.ip_model.specs.Sizes.{first_crossed};
 ghost use Rattle.leaf_cert.specs.Room.{FitsScratch};
 ghost use Rattle.lp_duality.specs.Relaxations.{numbers_of};
 ghost use Rattle.branching.specs.Internal.Relaxed.{IsBounded, IsRelaxedNode, IsSmallNumber, IsWholeNumber, stops_by};
-ghost use Rattle.branching.specs.Internal.Search.{HasVisited, IsSearchArea, IsSound};
+ghost use Rattle.branching.specs.Internal.Search.{FitsSearch, HasVisited, IsSearchArea, IsSound};
 
 use crate::Why;
 use crate::leaves::is_closed;
 use crate::nodes::Progress;
+use crate::proposals::proposed;
 use dual_rays::{cert_of_prices, cert_of_ray};
 use frac128::Frac;
 use ip_defs::{Area, Cert, Memory, Point};
@@ -107,7 +108,7 @@ fn whole_point(alloc: Global, point: &[Frac]) -> Result<Point, AllocError>
 
 /// Closes a node, or splits it at a column with a fraction, by a point of its relaxation that costs least there and a certificate that
 /// bounds by just that cost. A whole point that costs less than what was found is kept.
-fn bounded(
+pub fn bounded(
     alloc: Global,
     model: &IntModel,
     area: &Area,
@@ -144,9 +145,9 @@ fn bounded(
     }
 }
 
-/// Solves the linear program of a node, and reads its answer: a certificate that closes the node, or a column between whose whole numbers
-/// a least point lies, or that there is no answer.
-pub fn relax<L: Ledger>(
+/// Solves the linear program of a node by the defined simplex, and reads its answer: a certificate that closes the node, or a column
+/// between whose whole numbers a least point lies, or that there is no answer.
+fn relax_exactly<L: Ledger>(
     alloc: Global,
     model: &IntModel,
     pivots: u32,
@@ -178,5 +179,35 @@ pub fn relax<L: Ledger>(
         },
         LpAnswer::Stopped => Ok(Relaxed::Unanswered(Why::Stopped)),
         LpAnswer::Wide => Ok(Relaxed::Unanswered(Why::Wide)),
+    }
+}
+
+/// What the linear program of a node says: a certificate that closes the node, or a column between whose whole numbers a least point lies,
+/// or that there is no answer. The living tableau proposes first; where its proposal is not accepted the defined simplex decides, whose
+/// steps alone are counted.
+pub fn relax<L: Ledger>(
+    alloc: Global,
+    model: &IntModel,
+    pivots: u32,
+    area: &Area,
+    search: &mut Progress,
+    steps: &mut Steps<L>,
+) -> Result<Relaxed, Memory>
+    requires uncrossed { first_crossed model.now ≡ None }
+    requires area { IsSearchArea model.now area.now }
+    requires open { IsOpen area.now }
+    requires sound { IsSound model.now search.old.found }
+    requires room { FitsSearch model.now search.old }
+    ensures relaxed { IfOk result (IsRelaxedNode model.now pivots area.now search.new.found) }
+    ensures least { IfOk result (λ r. steps.old + stops_by r * pivots ≤ steps.new) }
+    ensures rises { steps.old ≤ steps.new }
+    ensures most { steps.new ≤ steps.old + pivots }
+    ensures search { HasVisited model.now search.old search.new }
+{
+    // The parts of a model are within the limits.
+    let _parts = model.parts();
+    match proposed(alloc, model, pivots, area, search)? {
+        Some(relaxed) => Ok(relaxed),
+        None => relax_exactly(alloc, model, pivots, area, search, steps),
     }
 }

@@ -1,17 +1,17 @@
 //! The search: depth first, left side first, until no node is open or a limit stops it.
 ghost use Rattle.std.specs.Prelude.{◌≡◌, ◌≤◌, None, IfOk, OnOk};
 ghost use Rattle.ip_model.specs.Sizes.{allowance, first_crossed};
-ghost use Rattle.leaf_cert.specs.Room.{FitsScratch};
 ghost use Rattle.branching.specs.Counts.{AreCountsWithin, IsCounted, nodes_of, stopped_in, stopped_of};
 ghost use Rattle.proof_tree.specs.LabelledTrees.{node_count, split as split_of};
 ghost use Rattle.branching.specs.OpenTrees.{IsDone, plain_open};
 ghost use Rattle.branching.specs.Outcomes.{HasOneStuck, IsRightOutcome, IsTrueOutcome};
-ghost use Rattle.branching.specs.Internal.Search.{IsAnswerOf, IsGrown, MayVisit};
+ghost use Rattle.branching.specs.Internal.Search.{FitsSearch, IsAnswerOf, IsGrown, MayVisit};
 ghost use Rattle.branching.specs.Sizes.{AreAmple, IsAnswer};
 
 use crate::finished_trees::finish;
 use crate::leaves::best_point;
 use crate::nodes::{Progress, Visit, visit_node};
+use crate::proposals::Proposer;
 use crate::{BudgetWhat, Limits, OpenTree, Outcome, Why, Whys};
 use ip_defs::{Area, Memory, Point};
 use ip_model::{IntModel, box_of, cut_above, cut_below};
@@ -65,7 +65,7 @@ fn grow<L: Ledger>(
         steps.old steps.new) }
     ensures rises { steps.old ≤ steps.new }
     ensures restored { OnOk result (area.new ≡ area.old) }
-    ensures room { OnOk result (FitsScratch model.now search.new.scratch) }
+    ensures room { OnOk result (FitsSearch model.now search.new) }
 {
     match visit_node(alloc, model, limits, area, depth, search, steps)? {
         Visit::Closed(cert) => Ok(Grown {
@@ -148,6 +148,7 @@ fn search_box<L: Ledger>(
         found: None,
         nodes: 1,
         scratch: scratch(alloc, model)?,
+        proposer: Proposer::new(alloc, model)?,
     };
     let grown = grow(alloc, model, limits, &mut area, 0, &mut search, steps)?;
     let best = best_point(search.found);

@@ -14,7 +14,10 @@ use ip_defs::{Bound, Memory};
 use ip_model::{IntModel, allowance, crossed};
 use leaf_cert::scratch;
 use proof_tree::{fits_model, tree_bound, tree_limits};
-use sample_models::{empty_column, half, negative_sum, no_rows, parity, three_rows, wide_columns};
+use sample_models::{
+    SampleError, column, empty_column, half, model, negative_sum, no_rows, parity, row, three_rows,
+    wide_columns,
+};
 use std::alloc::Global;
 use std::marker::Brand;
 use std::sync::ledger::{Blank, Ledger};
@@ -245,6 +248,43 @@ fn stops_without_linear_programs(rt: HostRuntime) -> Result<(), Fail> {
     assert_eq!(rt;
         searched(alloc, &model, 50, 3, 0)?.as_str(),
         "depth, best none, 7 nodes, 3 skipped"
+    );
+    Ok(())
+}
+
+/// One step for each linear program. The living tableau keeps the steps of the nodes before, so that it ends some linear programs; the
+/// others are stopped. Without it the tree has 35 nodes, and 16 of its splits are skipped.
+#[test]
+fn one_step_a_node(rt: HostRuntime) -> Result<(), Fail> {
+    let alloc = rt.alloc();
+    let model = three_rows(alloc)?;
+    assert_eq!(rt;
+        solved(alloc, &model, 1)?.as_str(),
+        "best 2 0 1 of cost -13, 4 reasons, 9 nodes, 4 skipped"
+    );
+    Ok(())
+}
+
+/// Minimize -ax - by where ax <= 3 * 2^29 + 1 and by <= 3 * 2^29 - 1, a = 2^30 + 1 and b = 2^30 - 1, with x and y from 0 to 3. The
+/// vertex lies near (3/2, 3/2), and its common denominator has 60 bits.
+fn wide_vertex(alloc: Global) -> Result<IntModel, SampleError> {
+    let (a, b) = ((1 << 30) + 1, (1 << 30) - 1);
+    let columns = vec![in alloc; column(alloc, -a, 0, 3), column(alloc, -b, 0, 3)]?;
+    let rows = vec![in alloc;
+        row(alloc, &[(0, a)], None, Some((3 << 29) + 1))?,
+        row(alloc, &[(1, b)], None, Some((3 << 29) - 1))?,
+    ]?;
+    model(alloc, columns, rows)
+}
+
+/// Where the proposer gives up the defined simplex decides: no proposal has a denominator as wide as the first vertex needs.
+#[test]
+fn a_proposer_that_gives_up(rt: HostRuntime) -> Result<(), Fail> {
+    let alloc = rt.alloc();
+    let model = wide_vertex(alloc)?;
+    assert_eq!(rt;
+        solved(alloc, &model, 5_000)?.as_str(),
+        "best 1 1 of cost -2147483648, 2 reasons, 5 nodes, 0 skipped"
     );
     Ok(())
 }

@@ -1,6 +1,6 @@
 -- What a depth-first search says of a node that it visits, and of the subtree that it has grown over one box.
 use Rattle.std.specs.Prelude.{◌≡◌, ℕ, ◌+◌, ◌^◌, ◌<◌, ◌≤◌, List, [], ◌∷◌, length, map, slice_get, Option, Some, None, option_map, ℤ, pos}
-use Rattle.std.specs.Prelude.{◌≤ℤ◌, ◌<ℤ◌}
+use Rattle.std.specs.Prelude.{◌≤ℤ◌, ◌<ℤ◌, vec_len}
 use Rattle.std.specs.Int.RustNames.{unsigned_abs}
 use Rattle.ip_defs.specs.declared.certificates.Bound.{Bound}
 use Rattle.ip_defs.specs.declared.certificates.Bound.TheVariants.{At, Infinite}
@@ -94,6 +94,11 @@ ray_on row multiplier = record { q = pos 0; y = (row, multiplier) ∷ [] }
 
 -- ---- nodes
 
+-- a search has memory for the bounds and for the check of each node of a program
+pub record FitsSearch (m : Parts) (s : Progress) : Type 0 where
+  pub scratch : FitsScratch m s.scratch
+  pub numbers : vec_len s.proposer.numbers ≡ length m.columns
+
 -- a node may be visited: its box and its depth, with what the search has so far
 pub record MayVisit (m : Parts) (l : Limits) (d : ℕ) (b : List (ℤ × ℤ)) (s : Progress) : Type 0 where
   pub limits : IsWithinLimits m
@@ -102,7 +107,7 @@ pub record MayVisit (m : Parts) (l : Limits) (d : ℕ) (b : List (ℤ × ℤ)) (
   pub depth : d ≤ l.depth
   pub nodes : s.nodes ≤ l.nodes
   pub sound : IsSound m s.found
-  pub room : FitsScratch m s.scratch
+  pub room : FitsSearch m s
 
 -- a node was visited: the best point so far may be a better one, and the rest is as it was
 pub record HasVisited (m : Parts) (before after : Progress) : Type 0 where
@@ -110,6 +115,7 @@ pub record HasVisited (m : Parts) (before after : Progress) : Type 0 where
   pub improves : Improves before.found after.found
   pub nodes : after.nodes ≡ before.nodes
   pub room : room_of after.scratch ≡ room_of before.scratch
+  pub numbers : vec_len after.proposer.numbers ≡ vec_len before.proposer.numbers
 
 -- a certificate for the rows of the program closes a box
 pub record IsEnd (m : Parts) (b : List (ℤ × ℤ)) (found : Found) (c : Cert) : Type 0 where

@@ -73,4 +73,5 @@ returns-in_ok-point-in-None-clause-search c =
           c.if-is_closed.ensures price;
       nodes = search rules;
       room = search rules;
+      numbers = search rules;
     }

@@ -53,7 +53,10 @@ grow-requires g t c κs within =
     let falls : c.args.limits.depth - (c.args.depth + 1) < t = omega (arith, v.1) in
     let area = below_search m c.args.limits.pivots b c.in-Open.col c.in-Open.at c.in-Open.why v.0 c.requires.node.area in
     let sound = c.in_ok-cert.ensures.search.sound in
-    let room = c.in_ok-cert.ensures.search.room ∙ c.requires.node.room in (
+    let own = c.in_ok-cert.ensures.search in
+    let fits = c.requires.node.room in
+    let scratch = own.room ∙ fits.scratch in
+    let numbers = own.numbers ∙ fits.numbers in (
       falls,
       (
         within,
@@ -64,7 +67,7 @@ grow-requires g t c κs within =
           depth = omega (arith, v.1);
           nodes = omega (arith, v.2);
           sound = sound;
-          room = room;
+          room = record { scratch = scratch; numbers = numbers };
         },
       ),
     )

@@ -163,8 +163,12 @@ fn search_box<L: Ledger>(
 }
 
 /// Solves a model by branch and bound over exact linear programs: a least point, or that no point is feasible, with the tree that proves
-/// it. It goes depth first, left side first; the linear program of a node is solved once, in at most `limits.pivots` steps. The method is
-/// that of Land and Doig (An automatic method of solving discrete programming problems, 1960), with a certificate for each leaf.
+/// it. It goes depth first, left side first. The method is that of Land and Doig (An automatic method of solving discrete programming
+/// problems, 1960), with a certificate for each leaf.
+///
+/// One dual tableau lives through the whole search. At each node it proposes the answer of the linear program, in at most
+/// `limits.pivots` dual steps, and an exact check decides. Where no proposal is accepted the defined simplex solves the linear program, in
+/// at most `limits.pivots` steps; these alone are counted. With 0 steps nothing is proposed.
 ///
 /// A box is closed where the sum of its least costs, or its linear program, is not below the cost of the best point so far. A box of one
 /// point closes its own node: it is kept, where it is feasible; else a ray on the row that it breaks shows the box empty. A whole point

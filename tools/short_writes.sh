@@ -22,7 +22,7 @@ judge() { # a name, the status and the file that was written
     failed=1
   fi
 }
-for blocks in 0 1 8 33 64; do
+for blocks in 1 8 33 64; do
   (trap '' XFSZ; ulimit -f "$blocks"; exec "$program" show "$model") > "$work/part" 2> "$work/errors"
   judge "a file of at most $blocks KiB" $? "$work/part"
 done

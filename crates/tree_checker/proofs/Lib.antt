@@ -1,0 +1,5 @@
+pub mod DescentLaws
+pub mod LeafLaws
+pub mod PartLaws
+pub mod TreeLaws
+pub mod StreamLaws

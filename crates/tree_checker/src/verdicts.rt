@@ -1,6 +1,6 @@
 //! Verdicts by the bound of a tree.
 ghost use Rattle.std.specs.Prelude.{◌≡◌, ◌↔◌, length};
-ghost use Rattle.proof_tree.specs.Room.{HasRoom};
+ghost use Rattle.proof_tree.specs.Scratches.{FitsWalk};
 ghost use Rattle.proof_tree.specs.Trees.{plain, FitsModel};
 ghost use Rattle.proof_tree.specs.Verdicts.{HasLength, IsProved, IsProvedVerdict, IsTrueClaim, is_at_least as is_at_least_by, judged};
 ghost use Rattle.proof_tree.specs.Verdicts.{verdict_of};
@@ -57,12 +57,12 @@ pub fn check(alloc: Global, model: &IntModel, proof: &Proof, scratch: &mut Scrat
     requires limits { IsTreeWithin (plain proof.now.tree) }
     requires fits { FitsModel model.now (plain proof.now.tree) }
     requires point { HasLength (length model.now.columns) proof.now.claim }
-    requires room { HasRoom (length model.now.columns) scratch.old }
+    requires scratch { FitsWalk (length model.now.columns) scratch.old }
     ensures verdict { result ≡ verdict_of model.now proof.now }
     ensures exact { IsProvedVerdict result ↔ IsProved model.now proof.now }
     ensures holds { IsProvedVerdict result → IsTrueClaim model.now proof.now.claim }
     ensures area { scratch.new.area ≡ box_of model.now }
-    ensures room { HasRoom (length model.now.columns) scratch.new }
+    ensures scratch { FitsWalk (length model.now.columns) scratch.new }
 {
     let bound = tree_bound(alloc, model, &proof.tree, scratch);
     judge(model, &proof.claim, bound)

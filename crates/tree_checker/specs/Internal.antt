@@ -1,0 +1,6 @@
+-- What only the contracts of private functions and the proofs of this crate speak of.
+pub mod Leaves
+pub mod Workspaces
+pub mod Descents
+pub mod Walks
+pub mod Streaming

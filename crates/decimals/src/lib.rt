@@ -4,8 +4,6 @@
 mod numbers;
 mod numerals;
 mod scales;
-#[cfg(test)]
-mod tests;
 mod writing;
 
 pub use ip_defs::Memory;

@@ -37,27 +37,23 @@ fn scaled(side: i64, denominator: i128) -> Option<i128> {
     i128::from(side).checked_mul(denominator)
 }
 
-/// How far a value is below a low side, negative where it is not; none where a number does not fit.
-#[inline]
-fn below(side: Option<i64>, denominator: i128, value: i128) -> Option<i128> {
-    match side {
-        Some(side) => match scaled(side, denominator) {
-            Some(least) => least.checked_sub(value),
-            None => None,
-        },
-        None => Some(-1),
-    }
+/// The two sides of a range.
+#[derive(Clone, Copy)]
+enum Side {
+    Low,
+    High,
 }
 
-/// How far a value is above a high side, negative where it is not; none where a number does not fit.
+/// How far a value is below a low side or above a high one, negative where it is within; none where a number does not fit.
 #[inline]
-fn above(side: Option<i64>, denominator: i128, value: i128) -> Option<i128> {
-    match side {
-        Some(side) => match scaled(side, denominator) {
-            Some(most) => value.checked_sub(most),
-            None => None,
-        },
-        None => Some(-1),
+fn outside(end: Side, side: Option<i64>, denominator: i128, value: i128) -> Option<i128> {
+    let Some(side) = side else {
+        return Some(-1);
+    };
+    let side = scaled(side, denominator)?;
+    match end {
+        Side::Low => side.checked_sub(value),
+        Side::High => value.checked_sub(side),
     }
 }
 
@@ -66,8 +62,8 @@ fn above(side: Option<i64>, denominator: i128, value: i128) -> Option<i128> {
 fn standing(index: usize, basic: &BasicRow, range: Range) -> Choice {
     let row = &basic.row;
     let (Some(below), Some(above)) = (
-        below(range.low, row.denominator, row.value),
-        above(range.high, row.denominator, row.value),
+        outside(Side::Low, range.low, row.denominator, row.value),
+        outside(Side::High, range.high, row.denominator, row.value),
     ) else {
         return Choice::TooWide;
     };

@@ -18,8 +18,6 @@ mod quotients;
 mod ranges;
 mod tableau_rows;
 mod tableaus;
-#[cfg(test)]
-mod tests;
 mod ties;
 
 pub use proposers::{Answer, Proposed, propose};

@@ -8,8 +8,6 @@ mod denominators;
 mod multipliers;
 mod prices;
 mod rays;
-#[cfg(test)]
-mod tests;
 
 pub use ip_defs::{Cert, Memory, Multipliers};
 pub use lp_duality::Fracs;

@@ -5,11 +5,11 @@ use mir.Val.{bits}
 use Rattle.std.proofs.Common.{arith, ap, sym, ◌∙◌, ⊎_elim}
 use Rattle.std.proofs.lemmas.Bool.{cases_lt}
 use Rattle.std.proofs.Math.Nat.{dvd-one, mul_comm, pow-suc}
-use Rattle.std.proofs.lemmas.Nat.{pow-add, mod-pow-add, pow_pos, shr_split}
+use Rattle.std.proofs.lemmas.Nat.{pow-add, mod-pow-add, pow_pos, shr_split, shr_le}
 use Rattle.std.proofs.lemmas.Nat.Bits.{bit_at-trailing_zeros}
 use Rattle.std.proofs.lemmas.Nat.Gcd.{dvd_refl, IsGcd-from_sub, same_from_IsGcd}
 use Rattle.frac128.specs.Gcd.{gcd}
-use Rattle.frac128.proofs.GcdLaws.{gcd-is, gcd-mul, gcd-mod, gcd_comm, coprime-mul, gcd-skip}
+use Rattle.frac128.proofs.GcdLaws.{gcd-is, gcd-mul, gcd-mod, gcd_comm, gcd-zero, gcd-small, coprime-mul, gcd-skip}
 
 -- ---- the odd part of a number
 low-zero : (n k : ℕ) → ((i : ℕ) → i < k → bit_at n i ≡ 0) → n % 2 ^ k ≡ 0
@@ -28,8 +28,8 @@ odd-times w n p l =
     let split = shr_split n k in
     omega arith
 
-pub odd-part : (w : Width) (n : ℕ) → 0 < n → n < 2 ^ bits w → (n / 2 ^ trailing_zeros w n) % 2 ≡ 1
-odd-part w n p l = (bit_at-trailing_zeros w n p l).1
+pub odd_part : (w : Width) (n : ℕ) → 0 < n → n < 2 ^ bits w → (n / 2 ^ trailing_zeros w n) % 2 ≡ 1
+odd_part w n p l = (bit_at-trailing_zeros w n p l).1
 
 -- ---- twos beside an odd number
 gcd-two : (y : ℕ) → y % 2 ≡ 1 → gcd y 2 ≡ 1
@@ -72,6 +72,37 @@ gcd-step w x y h a b p q =
 pub gcd-same : (x : ℕ) → gcd x x ≡ x
 gcd-same x = same_from_IsGcd x x (gcd x x) x (gcd-is x x) (dvd_refl x, dvd_refl x, λ d p q. p)
 
+-- two odd numbers of a width, whose greatest common divisor is that of two others
+pub record IsOddPair (w : Width) (x y a b : ℕ) : Type 0 where
+  pub first : x % 2 ≡ 1
+  pub second : y % 2 ≡ 1
+  pub first_fits : x < 2 ^ bits w
+  pub second_fits : y < 2 ^ bits w
+  pub same : gcd x y ≡ gcd a b
+
+-- a step of the binary algorithm
+pub odd-pair-step : (w : Width) (x y a b gap lesser : ℕ) → x ≢ y → IsOddPair w x y a b → gap ≡ abs_diff x y → lesser ≡ min x y →
+    IsOddPair w (gap / 2 ^ trailing_zeros w gap) lesser a b
+odd-pair-step w x y a b gap lesser apart pair is least =
+    let small = pair.first_fits in
+    let other_small = pair.second_fits in
+    let positive : 0 < gap = omega arith in
+    let fits : gap < 2 ^ bits w = omega arith in
+    let shifted = shr_le gap (trailing_zeros w gap) in
+    record {
+      first = odd_part w gap positive fits;
+      second = ap (λ n. n % 2) least ∙ min-odd x y pair.first pair.second;
+      first_fits = omega arith;
+      second_fits = omega arith;
+      same = ap (λ n. gcd (n / 2 ^ trailing_zeros w n) lesser) is
+          ∙ ap (gcd (abs_diff x y / 2 ^ trailing_zeros w (abs_diff x y))) least
+          ∙ gcd-step w x y apart small other_small pair.first pair.second ∙ pair.same;
+    }
+
+-- the end of the binary algorithm
+pub odd-pair-end : (w : Width) (x y a b : ℕ) → x ≡ y → IsOddPair w x y a b → x ≡ gcd a b
+odd-pair-end w x y a b same pair = sym (gcd-same x) ∙ ap (gcd x) same ∙ pair.same
+
 -- ---- the twos that both numbers have
 common-twos : (i j m n : ℕ) → i ≤ j → m % 2 ≡ 1 → gcd (m * 2 ^ i) (n * 2 ^ j) ≡ gcd m n * 2 ^ i
 common-twos i j m n l odd =
@@ -94,5 +125,22 @@ pub shifted-twos : (w : Width) (a b : ℕ) → 0 < a → 0 < b → a < 2 ^ bits 
 shifted-twos w a b p q l m =
     let i = trailing_zeros w a in
     let j = trailing_zeros w b in
-    sym (gcd-twos i j (a / 2 ^ i) (b / 2 ^ j) (odd-part w a p l) (odd-part w b q m))
+    sym (gcd-twos i j (a / 2 ^ i) (b / 2 ^ j) (odd_part w a p l) (odd_part w b q m))
     ∙ ap (λ z. gcd z (b / 2 ^ j * 2 ^ j)) (odd-times w a p l) ∙ ap (gcd a) (odd-times w b q m)
+
+-- the same for the greatest common divisor of the odd parts, with its shift
+pub shifted-gcd : (w : Width) (a b odd twos : ℕ) → 0 < a → 0 < b → a < 2 ^ bits w → b < 2 ^ bits w →
+    odd ≡ gcd (a / 2 ^ trailing_zeros w a) (b / 2 ^ trailing_zeros w b) → twos ≡ min (trailing_zeros w a) (trailing_zeros w b) →
+    (odd * 2 ^ twos ≡ gcd a b) × (gcd a b ≤ b)
+shifted-gcd w a b odd twos p q l m is shift = (
+  ap (λ n. n * 2 ^ twos) is ∙ ap (λ n. gcd (a / 2 ^ trailing_zeros w a) (b / 2 ^ trailing_zeros w b) * 2 ^ n) shift
+      ∙ shifted-twos w a b p q l m,
+  gcd-small a b q,
+)
+
+-- the greatest common divisor with 0
+pub gcd_none_first : (a b : ℕ) → a ≡ 0 → b ≡ gcd a b
+gcd_none_first a b none = sym (gcd_comm a b ∙ gcd-zero b a none)
+
+pub gcd_none_second : (a b : ℕ) → b ≡ 0 → a ≡ gcd a b
+gcd_none_second a b none = sym (gcd-zero a b none)

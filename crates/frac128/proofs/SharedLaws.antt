@@ -11,7 +11,7 @@ use Rattle.ring_laws.proofs.Products.{mul_sub}
 use Rattle.frac128.specs.Gcd.{gcd}
 use Rattle.frac128.specs.LowestTerms.{quotients, divided-absolute}
 use Rattle.frac128.specs.Fractions.{Fraction, IsFraction, IsSmall, in_range, within, shared, lowest_of, sum_of, product_of}
-use Rattle.frac128.proofs.GcdLaws.{gcd-is, gcd-mod, gcd_comm, coprime-mul, coprime-divisors, gcd-skip}
+use Rattle.frac128.proofs.GcdLaws.{gcd-is, gcd-mod, gcd-small, gcd-positive, gcd_comm, coprime-mul, coprime-divisors, gcd-skip}
 use Rattle.frac128.proofs.BinaryGcdLaws.{gcd-same}
 use Rattle.frac128.proofs.Rationals.{divided-is}
 use Rattle.frac128.proofs.FractionLaws.{quotient-divides, sum_num, sum_den, sum-positive, within-some, IsFraction-product}
@@ -46,6 +46,15 @@ coprime-sum a c m n first second =
     let one = coprime-mul k (unsigned_abs a) (unsigned_abs n) with_a with_n in
     dvd-one.0 (subst (λ z. k ∣ z) one ((gcd-is k (unsigned_abs a * unsigned_abs n)).2 k (dvd_refl k) in_first))
 
+-- a divisor of the one denominator is coprime to the sum of a and c over the common denominator
+coprime-part : (a c b n m : ℤ) (other own : ℕ) → gcd (unsigned_abs a) (unsigned_abs b) ≡ 1 → own ∣ unsigned_abs b →
+    unsigned_abs n ≡ other → unsigned_abs m ≡ own → gcd other own ≡ 1 → gcd (unsigned_abs (a *ℤ n +ℤ c *ℤ m)) own ≡ 1
+coprime-part a c b n m other own lowest divides is_other is_own apart =
+    let first : gcd (unsigned_abs a) own ≡ 1 = coprime-divisors (unsigned_abs a) (unsigned_abs b) (unsigned_abs a) own lowest
+    (dvd_refl (unsigned_abs a)) divides in
+    ap (gcd (unsigned_abs (a *ℤ n +ℤ c *ℤ m))) (sym is_own) ∙ coprime-sum a c m n (ap (gcd (unsigned_abs a)) is_own ∙ first)
+    (ap (λ z. gcd z (unsigned_abs m)) is_other ∙ ap (gcd other) is_own ∙ apart)
+
 module _ (a b c d : ℤ) (x : IsFraction a b) (y : IsFraction c d) where
   abbrev f : ℕ
   f = gcd (unsigned_abs b) (unsigned_abs d)
@@ -66,26 +75,16 @@ module _ (a b c d : ℤ) (x : IsFraction a b) (y : IsFraction c d) where
   apart = quotients (unsigned_abs b) (unsigned_abs d) positive-d
 
   coprime-left : gcd N B ≡ 1
-  coprime-left =
-      let both = gcd-is (unsigned_abs b) (unsigned_abs d) in
-      let first : gcd (unsigned_abs a) B ≡ 1 = coprime-divisors (unsigned_abs a) (unsigned_abs b) (unsigned_abs a) B x.lowest
-      (dvd_refl (unsigned_abs a)) (quotient-divides f (unsigned_abs b) both.0) in
-      let under = divided-absolute f b in
-      let other = divided-absolute f d in
-      ap (gcd N) (sym under) ∙ coprime-sum a c (int_div b (pos f)) (int_div d (pos f)) (ap (gcd (unsigned_abs a)) under ∙ first)
-      (ap (λ z. gcd z (unsigned_abs (int_div b (pos f)))) other ∙ ap (gcd D) under ∙ gcd_comm D B ∙ apart)
+  coprime-left = coprime-part a c b (int_div d (pos f)) (int_div b (pos f)) D B x.lowest
+      (quotient-divides f (unsigned_abs b) (gcd-is (unsigned_abs b) (unsigned_abs d)).0) (divided-absolute f d) (divided-absolute f b)
+      (gcd_comm D B ∙ apart)
 
   coprime-right : gcd N D ≡ 1
   coprime-right =
-      let both = gcd-is (unsigned_abs b) (unsigned_abs d) in
-      let first : gcd (unsigned_abs c) D ≡ 1 = coprime-divisors (unsigned_abs c) (unsigned_abs d) (unsigned_abs c) D y.lowest
-      (dvd_refl (unsigned_abs c)) (quotient-divides f (unsigned_abs d) both.1) in
-      let under = divided-absolute f b in
-      let other = divided-absolute f d in
       let swap : sum_num a b c d x y ≡ c *ℤ int_div b (pos f) +ℤ a *ℤ int_div d (pos f) = omega (arith, ints) in
-      ap (λ z. gcd (unsigned_abs z) D) swap ∙ ap (gcd (unsigned_abs (c *ℤ int_div b (pos f) +ℤ a *ℤ int_div d (pos f)))) (sym other)
-      ∙ coprime-sum c a (int_div d (pos f)) (int_div b (pos f)) (ap (gcd (unsigned_abs c)) other ∙ first)
-      (ap (λ z. gcd z (unsigned_abs (int_div d (pos f)))) under ∙ ap (gcd B) other ∙ apart)
+      ap (λ z. gcd (unsigned_abs z) D) swap ∙ coprime-part c a d (int_div b (pos f)) (int_div d (pos f)) B D y.lowest
+      (quotient-divides f (unsigned_abs d) (gcd-is (unsigned_abs b) (unsigned_abs d)).1) (divided-absolute f b) (divided-absolute f d)
+      apart
 
   -- a sum is reduced by what it has in common with the common part of the denominators
   pub sum-shared : shared (sum_num a b c d x y) (sum_den a b c d x y) ≡ shared (sum_num a b c d x y) (pos f)
@@ -180,6 +179,21 @@ lowest-already n d t u one e f = ap (λ (z : ℤ). fraction_with (int_div n z) (
 
 pub shared-one : (a b : ℤ) → b ≡ pos 1 → shared a b ≡ pos 1
 shared-one a b e = ap (shared a) e ∙ ap pos (dvd-one.0 (gcd-is (unsigned_abs a) 1).1)
+
+pub shared-positive : (a b : ℤ) → pos 0 <ℤ b → pos 0 <ℤ shared a b
+shared-positive a b p =
+    let positive = gcd-positive (unsigned_abs a) (unsigned_abs b) (omega (arith, ints)) in
+    omega (arith, ints)
+
+-- the greatest common divisor of absolute values, as a number with a sign
+pub shared-is : (a b : ℤ) (x y g : ℕ) → pos 0 <ℤ b → x ≡ unsigned_abs a → y ≡ unsigned_abs b → g ≡ gcd x y →
+    (pos g ≡ shared a b) × (0 < g) × (g ≤ unsigned_abs b)
+shared-is a b x y g p first second is =
+    let nonzero : 0 < unsigned_abs b = omega (arith, ints) in
+    let all : g ≡ gcd (unsigned_abs a) (unsigned_abs b) = is ∙ ap (λ n. gcd n y) first ∙ ap (gcd (unsigned_abs a)) second in
+    let small = gcd-small (unsigned_abs a) (unsigned_abs b) nonzero in
+    let positive = gcd-positive (unsigned_abs a) (unsigned_abs b) nonzero in
+    (ap pos all, omega arith, omega arith)
 
 pub shared-same : (a b : ℤ) → pos 0 <ℤ b → a ≡ b → b ≡ shared a b
 shared-same a b p e = size ∙ ap pos (sym (gcd-same (unsigned_abs b))) ∙ ap (λ z. shared z b) (sym e)

@@ -4,8 +4,10 @@ use Rattle.std.specs.Prelude.{unsigned_abs}
 use Rattle.std.proofs.Common.{arith, refl, ap, sym, ◌∙◌}
 use Rattle.std.proofs.lemmas.Int.{ints}
 use Rattle.std.proofs.Math.Nat.{div_self, zero-div, dvd-one}
+use Rattle.ring_laws.proofs.Rings.{whole}
 use Rattle.frac128.specs.Gcd.{gcd}
 use Rattle.frac128.specs.Fractions.{Fraction, IsFraction, within, shared, sum_of, fraction_where, product_of}
+use Rattle.frac128.specs.Fractions.{over_product, under_product}
 use Rattle.frac128.proofs.GcdLaws.{gcd-is, gcd_comm, gcd-zero}
 use Rattle.frac128.proofs.FractionLaws.{sum-made, sum-wide}
 use Rattle.frac128.proofs.SharedLaws.{within-fits, quotient-one, lowest-already, shared-one}
@@ -56,6 +58,28 @@ zero-divided : (z g : ℤ) → z ≡ pos 0 → int_div z g ≡ pos 0
 zero-divided z (pos m) e = ap (λ w. int_div w (pos m)) e ∙ ap pos (zero-div m)
 zero-divided z (negsuc m) e = ap (λ w. int_div w (negsuc m)) e ∙ ap (λ w. neg_ℤ (pos w)) (zero-div (suc m))
 
+-- ---- products
+product-swap : (x y : Fraction) → product_of x y ≡ product_of y x
+unfolding product_of
+product-swap x y =
+    ap (λ z. fraction_where (within z) (within (under_product x y)))
+    (whole.mul_comm (int_div x.num (shared x.num y.den)) (int_div y.num (shared y.num x.den)))
+    ∙ ap (λ z. fraction_where (within (over_product y x)) (within z))
+    (whole.mul_comm (int_div x.den (shared y.num x.den)) (int_div y.den (shared x.num y.den)))
+
+-- 0 on the left of a product
+pub zero-product_left : (x y : Fraction) → IsFraction x.num x.den → IsFraction y.num y.den → x.num ≡ pos 0 →
+    product_of x y ≡ Ok (record { num = pos 0; den = pos 1 })
+unfolding product_of
+zero-product_left x y p q none =
+    let one-x = zero-den x p none in
+    let numerator = zero-times (int_div x.num (shared x.num y.den)) (int_div y.num (shared y.num x.den))
+    (zero-divided x.num (shared x.num y.den) none) in
+    let denominator = ap (λ z. z *ℤ int_div y.den (shared x.num y.den)) (by-one x.den y.num x.den one-x)
+    ∙ ap (λ z. x.den *ℤ z) (zero-shared x.num y.den none q.positive) ∙ times-one x.den (pos 1) refl ∙ one-x in
+    ap (λ z. fraction_where z (within (under_product x y))) (within-is _ (pos 0) numerator (omega arith))
+    ∙ ap (fraction_where (Some (pos 0))) (within-is _ (pos 1) denominator (omega arith))
+
 module _ (x y : Fraction) (p : IsFraction x.num x.den) (q : IsFraction y.num y.den) where
   -- ---- whole numbers
   module _ (one : x.den ≡ pos 1) (one' : y.den ≡ pos 1) where
@@ -101,17 +125,6 @@ module _ (x y : Fraction) (p : IsFraction x.num x.den) (q : IsFraction y.num y.d
         (within-is _ y.den (ap (λ z. z *ℤ y.den) (by-one_left x.den x.den y.den one-x) ∙ one-times x.den y.den one-x) q.den_fits)
         ∙ ap (λ (r : Fraction). Ok r) (lowest-already y.num y.den y.num y.den (ap pos q.lowest) refl refl)
 
-    pub zero-product_left : product_of x y ≡ Ok (record { num = pos 0; den = pos 1 })
-    unfolding product_of
-    zero-product_left =
-        let numerator = zero-times (int_div x.num (shared x.num y.den)) (int_div y.num (shared y.num x.den))
-        (zero-divided x.num (shared x.num y.den) none) in
-        let denominator = ap (λ z. z *ℤ int_div y.den (shared x.num y.den)) (by-one x.den y.num x.den one-x)
-        ∙ ap (λ z. x.den *ℤ z) (zero-shared x.num y.den none q.positive) ∙ times-one x.den (pos 1) refl ∙ one-x in
-        ap (λ z. fraction_where z (within (int_div x.den (shared y.num x.den) *ℤ int_div y.den (shared x.num y.den))))
-        (within-is _ (pos 0) numerator (omega arith))
-        ∙ ap (fraction_where (Some (pos 0))) (within-is _ (pos 1) denominator (omega arith))
-
   -- ---- 0 on the right
   module _ (none : y.num ≡ pos 0) where
     one-y : y.den ≡ pos 1
@@ -127,15 +140,7 @@ module _ (x y : Fraction) (p : IsFraction x.num x.den) (q : IsFraction y.num y.d
         ∙ ap (λ (r : Fraction). Ok r) (lowest-already x.num x.den x.num x.den (ap pos p.lowest) refl refl)
 
     pub zero-product_right : product_of x y ≡ Ok (record { num = pos 0; den = pos 1 })
-    unfolding product_of
-    zero-product_right =
-        let numerator = times-zero (int_div x.num (shared x.num y.den)) (int_div y.num (shared y.num x.den))
-        (zero-divided y.num (shared y.num x.den) none) in
-        let denominator = ap (λ z. z *ℤ int_div y.den (shared x.num y.den)) (zero-shared y.num x.den none p.positive)
-        ∙ one-times (pos 1) (int_div y.den (shared x.num y.den)) refl ∙ by-one y.den x.num y.den one-y ∙ one-y in
-        ap (λ z. fraction_where z (within (int_div x.den (shared y.num x.den) *ℤ int_div y.den (shared x.num y.den))))
-        (within-is _ (pos 0) numerator (omega arith))
-        ∙ ap (fraction_where (Some (pos 0))) (within-is _ (pos 1) denominator (omega arith))
+    zero-product_right = product-swap x y ∙ zero-product_left y x q p none
 
 -- a whole number over 1 is in lowest terms
 pub IsFraction-whole : (n d : ℤ) → unsigned_abs n < 2 ^ 127 → d ≡ pos 1 → IsFraction n d

@@ -55,13 +55,20 @@ sum_where (Some left) (Some right) None den = Err (record {})
 sum_where (Some left) None num den = Err (record {})
 sum_where None right num den = Err (record {})
 
--- a/b + c/d with g = gcd(b, d): the numbers are a * (d/g), c * (b/g), their sum, and (b/g) * d
+-- a/b + c/d over the least common denominator, with g = gcd(b, d): the numerators a * (d/g) and c * (b/g), the denominator (b/g) * d
+abbrev pub left_of_sum : Fraction → Fraction → ℤ
+left_of_sum x y = x.num *ℤ int_div y.den (shared x.den y.den)
+
+abbrev pub right_of_sum : Fraction → Fraction → ℤ
+right_of_sum x y = y.num *ℤ int_div x.den (shared x.den y.den)
+
+abbrev pub under_sum : Fraction → Fraction → ℤ
+under_sum x y = int_div x.den (shared x.den y.den) *ℤ y.den
+
+-- the sum, where the numerators, their sum and the denominator are in the range
 unfoldable pub sum_of : Fraction → Fraction → Result Fraction Wide
-sum_of x y =
-    let g = shared x.den y.den in
-    let left = x.num *ℤ int_div y.den g in
-    let right = y.num *ℤ int_div x.den g in
-    sum_where (within left) (within right) (within (left +ℤ right)) (within (int_div x.den g *ℤ y.den))
+sum_of x y = sum_where (within (left_of_sum x y)) (within (right_of_sum x y)) (within (left_of_sum x y +ℤ right_of_sum x y))
+    (within (under_sum x y))
 
 -- num / den where both numbers are in the range, else wide
 abbrev pub fraction_where : Option ℤ → Option ℤ → Result Fraction Wide
@@ -69,12 +76,16 @@ fraction_where (Some num) (Some den) = Ok (record { num = num; den = den })
 fraction_where (Some num) None = Err (record {})
 fraction_where None den = Err (record {})
 
--- a/b * c/d with g = gcd(a, d) and h = gcd(c, b): the numbers are (a/g) * (c/h) and (b/h) * (d/g)
+-- a/b * c/d in lowest terms, with g = gcd(a, d) and h = gcd(c, b): the numerator (a/g) * (c/h) and the denominator (b/h) * (d/g)
+abbrev pub over_product : Fraction → Fraction → ℤ
+over_product x y = int_div x.num (shared x.num y.den) *ℤ int_div y.num (shared y.num x.den)
+
+abbrev pub under_product : Fraction → Fraction → ℤ
+under_product x y = int_div x.den (shared y.num x.den) *ℤ int_div y.den (shared x.num y.den)
+
+-- the product, where numerator and denominator are in the range
 unfoldable pub product_of : Fraction → Fraction → Result Fraction Wide
-product_of x y =
-    let g = shared x.num y.den in
-    let h = shared y.num x.den in
-    fraction_where (within (int_div x.num g *ℤ int_div y.num h)) (within (int_div x.den h *ℤ int_div y.den g))
+product_of x y = fraction_where (within (over_product x y)) (within (under_product x y))
 
 -- the negative of a fraction
 abbrev pub negative_of : Fraction → Fraction

@@ -23,6 +23,3 @@ pub use fraction::{Frac, Wide};
 pub use making::frac;
 pub use products::{div, mul};
 pub use sums::{add, sub};
-
-#[cfg(test)]
-mod tests;

@@ -53,7 +53,6 @@ pub fn divided(num: i128, den: i128, factor: i128) -> Frac
     requires positive { pos 0 <ℤ den }
     requires num_fits { unsigned_abs num < 2 ^ 127 }
     requires factor { factor ≡ shared_by num den }
-    requires factor_positive { pos 0 <ℤ factor }
     ensures value { result ≡ lowest_of num den }
     ensures equal { result.num *ℤ den ≡ num *ℤ result.den }
 {
@@ -66,7 +65,6 @@ pub fn divided_by_word(num: i128, den: i128, factor: i64) -> Frac
     requires positive { pos 0 <ℤ den }
     requires num_fits { unsigned_abs num < 2 ^ 127 }
     requires factor { factor ≡ shared_by num den }
-    requires factor_positive { pos 0 <ℤ factor }
     ensures { result ≡ lowest_of num den }
 {
     fraction_of(over_word(num, factor), over_word(den, factor))

@@ -42,17 +42,16 @@ pub fn small_sum(a: Frac, c: Frac) -> Frac
     requires second { IsSmall c }
     ensures { Ok result ≡ sum_of a c }
 {
-    let (num, den) = (a.num as i64, a.den as i64);
-    let (other_num, other_den) = (c.num as i64, c.den as i64);
-    let common = shared_den(den, other_den);
-    let (left_factor, right_factor) = (word_over(other_den, common), word_over(den, common));
+    let common = shared_den(a.den as i64, c.den as i64);
+    let left_factor = word_over(c.den as i64, common);
+    let right_factor = word_over(a.den as i64, common);
     let sum = total(
-        word_product(num, left_factor),
-        word_product(other_num, right_factor),
+        word_product(a.num as i64, left_factor),
+        word_product(c.num as i64, right_factor),
     );
     divided_by_word(
         sum,
-        word_product(right_factor, other_den),
+        word_product(right_factor, c.den as i64),
         shared_factor(sum, common),
     )
 }

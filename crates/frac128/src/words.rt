@@ -64,15 +64,6 @@ pub fn word_product(a: i64, b: i64) -> i128
     i128::from(a) * i128::from(b)
 }
 
-/// A sum that fits.
-#[inline]
-pub fn total(a: i128, b: i128) -> i128
-    requires { FitsSigned w128 (a +ℤ b) }
-    ensures { result ≡ a +ℤ b }
-{
-    a + b
-}
-
 /// A quotient by a positive word, toward zero: a division of words where the first number is one too.
 #[inline]
 pub fn over_word(a: i128, b: i64) -> i128
@@ -98,4 +89,13 @@ pub fn rest_by_word(a: i128, b: i64) -> i64
         Ok(word) => word % b,
         Err(_) => (a % i128::from(b)) as i64,
     }
+}
+
+/// A sum that fits.
+#[inline]
+pub fn total(a: i128, b: i128) -> i128
+    requires { FitsSigned w128 (a +ℤ b) }
+    ensures { result ≡ a +ℤ b }
+{
+    a + b
 }

@@ -139,17 +139,15 @@ pub below_area : (n : ℕ) (b : List (ℤ × ℤ)) (j : ℕ) (cut : ℤ) → j <
     IsArea n (below b j cut)
 below_area n b j cut l p q area =
     let within : j < n = omega (arith, area.size) in
-    let s = area.low j within in
-    let t = area.high j within in
-    area_cut b j (low_at b j) (int_min (high_at b j) cut) l n s (omega (arith, ints, clamps)) area
+    area_cut b j (low_at b j) (int_min (high_at b j) cut) l n (area.low j within)
+    (omega (arith, ints, clamps, area.low j within, area.high j within)) area
 
 pub above_area : (n : ℕ) (b : List (ℤ × ℤ)) (j : ℕ) (cut : ℤ) → j < length b → low_at b j ≤ℤ cut → cut <ℤ high_at b j → IsArea n b →
     IsArea n (above b j cut)
 above_area n b j cut l p q area =
     let within : j < n = omega (arith, area.size) in
-    let s = area.low j within in
-    let t = area.high j within in
-    area_cut b j (int_max (low_at b j) (cut +ℤ pos 1)) (high_at b j) l n (omega (arith, ints, clamps)) t area
+    area_cut b j (int_max (low_at b j) (cut +ℤ pos 1)) (high_at b j) l n
+    (omega (arith, ints, clamps, area.low j within, area.high j within)) (area.high j within) area
 
 -- a box that has no empty column is open
 pub open_from : (b : List (ℤ × ℤ)) → list_any is_empty_side b ≡ false → IsOpen b

@@ -42,7 +42,7 @@ sum_over_same f g (y ∷ ys) h =
     omega (arith, ints)
 
 -- the value of a row at a point, by row number
-abbrev activity : List Row → List ℤ → ℕ → ℤ
+abbrev pub activity : List Row → List ℤ → ℕ → ℤ
 activity rows x i = sum_below (λ j. coefficient_of rows i j *ℤ at x j) (length x)
 
 -- a payment is at most multiplier times the value of the row
@@ -91,9 +91,9 @@ all_pay rows x (p ∷ ps) v all e = by (payment rows p) (pay rows ps) refl (λ w
         omega (arith, ints)
 
 -- the reduced costs at a point: q times the costs, less the multipliers times the values of the rows
-taken : (m : Parts) (x : List ℤ) (q : ℤ) (y : List (ℕ × ℤ)) → sum_below (λ j. reduced m q y j *ℤ at x j) (length x)
+pub reduced_sum : (m : Parts) (x : List ℤ) (q : ℤ) (y : List (ℕ × ℤ)) → sum_below (λ j. reduced m q y j *ℤ at x j) (length x)
     ≡ q *ℤ sum_below (λ j. at (costs_of m) j *ℤ at x j) (length x) -ℤ sum_over (λ p. p.1 *ℤ activity m.rows x p.0) y
-taken m x q y =
+reduced_sum m x q y =
     let n = length x in
     let F : ℕ × ℤ → ℕ → ℤ = λ p j. p.1 *ℤ (coefficient_of m.rows p.0 j *ℤ at x j) in
     let each : (j : ℕ) → reduced m q y j *ℤ at x j ≡ q *ℤ (at (costs_of m) j *ℤ at x j) -ℤ sum_over (λ p. F p j) y =
@@ -128,7 +128,7 @@ dual_value_below m b q y x g all inside e = by (pay m.rows y) refl e
         (λ j. reduced m q y j *ℤ at x j) (length b) (λ j l. lesser_end (reduced m q y j) (low_at b j) (at x j) (high_at b j)
         (inside.low j l) (inside.high j l)) in
         let sized = ap (sum_below (λ j. reduced m q y j *ℤ at x j)) inside.size in
-        let all_taken = taken m x q y in
+        let all_taken = reduced_sum m x q y in
         let whole = mul_add q m.constant (sum_below (λ j. at (costs_of m) j *ℤ at x j) (length x)) in
         omega (arith, ints)
 

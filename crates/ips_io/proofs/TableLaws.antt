@@ -218,6 +218,12 @@ changed ls b name new p filled is =
       count = ap length (sym at.files) ∙ count_of_files ls' b' ∙ listed;
     }
 
+-- so where the place was looked up in the same lengths and buffer, by the same name
+pub changed_at : {ls ls' : List Lengths} {b b' name name' : List ℕ} {p : Place} (new : List ℕ) → ls' ≡ ls → b' ≡ b → name' ≡ name
+    → total ls ≡ length b → Some p ≡ place_of ls' b' name' → Changed ls b name new p
+changed_at {ls} {ls'} {b} {b'} {name} {name'} {p} new same_lengths same_buffer same_name filled is =
+    changed ls b name new p filled (sym (rw (same_lengths, same_buffer, same_name) at is))
+
 -- a file of a name that the table has not stands last
 files_added : (ls : List Lengths) (b name new : List ℕ) → total ls ≡ length b → place_of ls b name ≡ None →
     files_of (ls ++ record { name = length name; content = length new } ∷ []) ((b ++ name) ++ new) ≡ with_file (files_of ls b) name new

@@ -1,5 +1,5 @@
 -- Calls that are counted from 1, some of which are to fail.
-use Rattle.std.specs.Prelude.{ℕ, Bool, ◌==◌, List}
+use Rattle.std.specs.Prelude.{ℕ, Bool, ◌==◌, List, [], ◌∷◌, ◌++◌}
 use Rattle.std.specs.List.{list_any}
 use Rattle.ips_io.specs.Causes.{counted}
 
@@ -15,3 +15,7 @@ is_due c = list_any (λ k. k == counted c.made) c.failing
 -- one more call was made
 abbrev pub after_call : Calls → Calls
 after_call c = record { made = counted c.made; failing = c.failing }
+
+-- one more call is to fail
+abbrev pub failing_at : ℕ → Calls → Calls
+failing_at call c = record { made = c.made; failing = c.failing ++ call ∷ [] }

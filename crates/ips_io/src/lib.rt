@@ -13,8 +13,6 @@ mod real_output;
 mod shelves;
 mod sinks;
 mod tables;
-#[cfg(test)]
-mod tests;
 mod writing;
 
 pub use memory_shelves::{MemShelf, mem_shelf};

@@ -1,12 +1,13 @@
 //! A shelf of files in memory.
 
-ghost use Rattle.std.specs.Prelude.{◌≡◌, ◌↔◌, ◌<◌, ◌≤◌, ◌++◌, ◌∷◌, [], length, min, is_ok, is_some, true, false, Some, None, option_copied, IfOk, OnOk, OnErr, IsOk, IsSome, IsTrue, MatchResult};
+ghost use Rattle.std.specs.Prelude.{◌≡◌, ◌↔◌, ◌<◌, ◌≤◌, ◌∷◌, [], length, min, is_ok, is_some, true, false, Some, None, option_copied};
+ghost use Rattle.std.specs.Prelude.{IfOk, OnOk, OnErr, IsOk, IsSome, IsTrue, MatchResult};
 ghost use Rattle.std.specs.Bool.{OnTrue, OnFalse};
 ghost use Rattle.std.specs.Option.{ForSome};
 ghost use Rattle.ips_io.specs.Files.{Began, file_of, Keeps, KeepsOthers};
 ghost use Rattle.ips_io.specs.Causes.{HasCause, shown_count};
 ghost use Rattle.std.proofs.Common.{arith};
-ghost use Rattle.ips_io.specs.Plans.{is_due};
+ghost use Rattle.ips_io.specs.Plans.{failing_at, is_due};
 ghost use Rattle.ips_io.specs.Shelves.{BecomesUnknown, Begins, FillsFront, IsWhole, Moves};
 ghost use Rattle.ips_io.specs.Tables.{with_file, IsWithinRoom};
 ghost use Rattle.ips_io.specs.MemShelves.{after_begin, after_failed_read, after_failed_save, after_read, after_save, opened, with_files};
@@ -112,12 +113,7 @@ impl MemShelf {
     /// eight are listed.
     pub fn fail_at(&mut self, call: u64) -> bool
         ensures room { IsTrue result ↔ (length self.old.calls.failing < 8) }
-        ensures listed { OnTrue result (self.new ≡ record self.old {
-          calls = record self.old.calls {
-            failing = self.old.calls.failing ++
-                call ∷ [];
-          };
-        }) }
+        ensures listed { OnTrue result (self.new ≡ record self.old { calls = failing_at call self.old.calls }) }
         ensures full { OnFalse result (self.new ≡ self.old) }
     {
         self.plan.fail_at(call)

@@ -1,11 +1,12 @@
 //! A sink of output in memory.
 
-ghost use Rattle.std.specs.Prelude.{◌≡◌, ◌↔◌, ◌<◌, ◌≤◌, ◌++◌, ◌∷◌, [], length, take, IfOk, OnErr, IsTrue, IsOk, Some, false};
+ghost use Rattle.std.specs.Prelude.{◌≡◌, ◌↔◌, ◌<◌, ◌≤◌, [], length, take, IfOk, OnErr, IsTrue, IsOk, Some, false};
 ghost use Rattle.std.specs.Bool.{OnTrue, OnFalse};
 ghost use Rattle.ips_io.specs.Files.{Takes};
 ghost use Rattle.ips_io.specs.Causes.{HasCause, shown_count};
 ghost use Rattle.std.proofs.Common.{arith};
 ghost use Rattle.ips_io.specs.MemSinks.{after_write, refuses, taken_at_once};
+ghost use Rattle.ips_io.specs.Plans.{failing_at};
 
 use crate::plans::Plan;
 use crate::{Failed, Sink};
@@ -73,12 +74,7 @@ impl MemSink {
     /// Lists a call of `write` that is to fail, by its number from 1. False, and nothing changed, exactly where eight are listed.
     pub fn fail_at(&mut self, call: u64) -> bool
         ensures room { IsTrue result ↔ (length self.old.calls.failing < 8) }
-        ensures listed { OnTrue result (self.new ≡ record self.old {
-          calls = record self.old.calls {
-            failing = self.old.calls.failing ++
-                call ∷ [];
-          };
-        }) }
+        ensures listed { OnTrue result (self.new ≡ record self.old { calls = failing_at call self.old.calls }) }
         ensures full { OnFalse result (self.new ≡ self.old) }
     {
         self.plan.fail_at(call)

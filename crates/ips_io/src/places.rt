@@ -113,10 +113,10 @@ fn resize(files: &mut [Lengths], index: usize, content: usize)
 pub(crate) fn add(
     files: &mut Vec<Lengths>,
     buffer: &mut Vec<u8>,
-    most_files: u32,
-    room: u64,
     name: &[u8],
     bytes: &[u8],
+    most_files: u32,
+    room: u64,
 ) -> bool
     requires listed { vec_len files.old ≤ most_files }
     requires reserved_files { most_files ≤ vec_capacity files.old }

@@ -1,8 +1,8 @@
 //! The calls of a shelf or a sink in memory, some of which are to fail.
 
-ghost use Rattle.std.specs.Prelude.{◌≡◌, ◌↔◌, ◌<◌, ◌++◌, ◌∷◌, [], length, IfOk, IsTrue};
+ghost use Rattle.std.specs.Prelude.{◌≡◌, ◌↔◌, ◌<◌, [], length, IfOk, IsTrue};
 ghost use Rattle.std.specs.Bool.{OnTrue, OnFalse};
-ghost use Rattle.ips_io.specs.Plans.{after_call, is_due};
+ghost use Rattle.ips_io.specs.Plans.{after_call, failing_at, is_due};
 
 use ip_defs::Memory;
 use std::alloc::Global;
@@ -43,7 +43,7 @@ impl Plan {
     /// Lists a call that is to fail, by its number from 1. False, and nothing changed, where eight are listed.
     pub(crate) fn fail_at(&mut self, call: u64) -> bool
         ensures room { IsTrue result ↔ (length self.old.failing < 8) }
-        ensures listed { OnTrue result (self.new ≡ record self.old { failing = self.old.failing ++ call ∷ [] }) }
+        ensures listed { OnTrue result (self.new ≡ failing_at call self.old) }
         ensures full { OnFalse result (self.new ≡ self.old) }
     {
         if self.failing.len() == MOST_FAILING {

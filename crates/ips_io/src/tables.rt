@@ -95,10 +95,10 @@ impl Table {
             None => add(
                 &mut self.lengths,
                 &mut self.buffer,
-                self.most_files,
-                self.room,
                 name,
                 bytes,
+                self.most_files,
+                self.room,
             ),
         }
     }

@@ -15,7 +15,8 @@ use Rattle.ip_defs.specs.Certificates.{coefs_of, coefficient_of, reduced, column
 use Rattle.ip_defs.specs.Limits.{index_at, value_at, AreOrdered, AreSmall, IsColumn, IsWithinLimits}
 use Rattle.ip_defs.proofs.SumLaws.{sum_same}
 use Rattle.ip_model.proofs.WalkLaws.{sum_over_more}
-use Rattle.leaf_cert.specs.Internal.Columns.{taken_of, least_part}
+use Rattle.leaf_cert.specs.Columns.{taken_of}
+use Rattle.leaf_cert.specs.Internal.Columns.{least_part}
 use Rattle.ip_model.proofs.RowLaws.{coefficient_small}
 use Rattle.leaf_cert.proofs.Rows.{length_below}
 use Rattle.leaf_cert.proofs.Steps.{size_of_product}

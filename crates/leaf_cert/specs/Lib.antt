@@ -1,2 +1,3 @@
-pub mod Room
+pub mod Columns
+pub mod Scratches
 pub mod Internal

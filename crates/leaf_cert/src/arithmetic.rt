@@ -1,28 +1,9 @@
-//! Products, differences and quotients that fit into 128 bits.
-ghost use Rattle.std.specs.Prelude.{◌≡◌, pos, ◌-ℤ◌, ◌*ℤ◌, ◌<ℤ◌};
-ghost use Rattle.std.specs.Int.{w128};
-ghost use Rattle.std.specs.Int.RustNames.{FitsSigned, int_div, unsigned_abs};
+//! Quotients of 128 bits, rounded up.
+ghost use Rattle.std.specs.Prelude.{◌≡◌, pos, ◌<ℤ◌};
+ghost use Rattle.std.specs.Int.RustNames.{int_div, unsigned_abs};
 ghost use Rattle.ip_defs.specs.Certificates.{ceiling};
 
-use ip_model::total_of;
-
-/// A product that fits into 128 bits.
-#[inline]
-pub fn product(a: i128, b: i128) -> i128
-    requires { FitsSigned w128 (a *ℤ b) }
-    ensures { result ≡ a *ℤ b }
-{
-    a * b
-}
-
-/// A difference that fits into 128 bits.
-#[inline]
-pub fn difference(a: i128, b: i128) -> i128
-    requires { FitsSigned w128 (a -ℤ b) }
-    ensures { result ≡ a -ℤ b }
-{
-    a - b
-}
+use ip_model::{difference, total_of};
 
 /// A quotient by a positive number, rounded toward zero.
 #[inline]

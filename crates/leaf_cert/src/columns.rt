@@ -2,23 +2,14 @@
 ghost use Rattle.std.specs.Prelude.{◌≡◌, ◌*◌, ◌^◌, ◌<◌, ◌≤◌, ℕ, length, pos, ◌+ℤ◌, ◌*ℤ◌, ◌-ℤ◌};
 ghost use Rattle.std.specs.Int.{int_min};
 ghost use Rattle.std.specs.Int.RustNames.{unsigned_abs};
-ghost use Rattle.std.specs.List.{list_any};
 ghost use Rattle.ip_defs.specs.Program.{at, low_at, high_at, coefficient, costs_of};
-ghost use Rattle.ip_defs.specs.Certificates.{is_empty_side};
 ghost use Rattle.ip_defs.specs.Limits.{AreOrdered, AreSmall, IsWithinLimits, IsArea};
 ghost use Rattle.ip_defs.specs.Sums.{sum_below};
-ghost use Rattle.leaf_cert.specs.Internal.Columns.{AllSmall, taken_of, least_part};
+ghost use Rattle.leaf_cert.specs.Columns.{AllSmall, taken_of};
+ghost use Rattle.leaf_cert.specs.Internal.Columns.{least_part};
 
-use crate::arithmetic::{difference, product};
 use ip_defs::Parts;
-use ip_model::total_of;
-
-/// Whether a column of the box is empty: it has no integer between its bounds.
-pub fn has_empty(area: &[(i64, i64)]) -> bool
-    ensures { result ≡ list_any is_empty_side area.now }
-{
-    area.iter().any(|side| side.1 < side.0)
-}
+use ip_model::{difference, product, total_of};
 
 /// Sets each number to 0.
 pub fn clear(taken: &mut [i128])
@@ -53,7 +44,9 @@ fn add_row(taken: &mut [i128], coefs: &[(u32, i64)], multiplier: i64)
     }
 }
 
-/// For each column the sum over the rows of multiplier times coefficient. Its absolute value is at most 2^10 * 2^36 * 2^40 = 2^86.
+/// For each column the sum over the rows of multiplier times coefficient, for multipliers in order, each of an absolute value of at most
+/// 2^36. `taken` has a number for each column; what the numbers are before does not matter. After, the absolute value of each is at most
+/// 2^10 * 2^36 * 2^40 = 2^86.
 pub fn take_rows(parts: &Parts, y: &[(u32, i64)], taken: &mut [i128])
     requires limits { IsWithinLimits parts.now }
     requires ordered { AreOrdered (length parts.now.rows) y.now }
@@ -81,6 +74,21 @@ fn reduced_cost(q: i64, cost: i64, taken: i128) -> i128
     difference(product(i128::from(q), i128::from(cost)), taken)
 }
 
+/// The reduced cost of a column, times q: q times its cost, less the sum over the rows that `taken` has for it. Its absolute value is at
+/// most 2^87.
+pub fn reduced_at(parts: &Parts, q: i64, taken: &[i128], j: usize) -> i128
+    requires limits { IsWithinLimits parts.now }
+    requires q_small { unsigned_abs q ≤ 2 ^ 36 }
+    requires taken_small { AllSmall (2 ^ 86) taken.now }
+    requires size { length taken.now ≡ length parts.now.columns }
+    requires within { j < length parts.now.columns }
+    ensures value { result ≡ q *ℤ at (costs_of parts.now) j -ℤ at taken.now j }
+    ensures small { unsigned_abs result ≤ 2 ^ 87 }
+{
+    let columns = parts.columns.as_slice();
+    reduced_cost(q, columns[j].cost, taken[j])
+}
+
 /// The lesser of reduced cost times lower bound and times upper bound.
 #[inline]
 fn lesser_end(reduced: i128, low: i64, high: i64) -> i128
@@ -105,10 +113,9 @@ pub fn column_sum(parts: &Parts, q: i64, taken: &[i128], area: &[(i64, i64)]) ->
     ensures sum { result ≡ sum_below (least_part (costs_of parts.now) q taken.now area.now) (length area.now) }
     ensures small { unsigned_abs result ≤ 2 ^ 123 }
 {
-    let columns = parts.columns.as_slice();
     let mut total: i128 = 0;
     for (j, side) in area.iter().enumerate() {
-        let reduced = reduced_cost(q, columns[j].cost, taken[j]);
+        let reduced = reduced_at(parts, q, taken, j);
         total = total_of(total, lesser_end(reduced, side.0, side.1));
     }
     total

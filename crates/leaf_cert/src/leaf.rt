@@ -4,14 +4,14 @@ ghost use Rattle.std.specs.Int.RustNames.{unsigned_abs};
 ghost use Rattle.ip_defs.specs.Program.{IsFeasible, IsIn, cost};
 ghost use Rattle.ip_defs.specs.Certificates.{IsAtMost, dual_value, box_sum, leaf_bound as leaf_bound_of};
 ghost use Rattle.ip_defs.specs.Limits.{IsWithinLimits, IsCert, IsArea};
-ghost use Rattle.leaf_cert.specs.Room.{FitsScratch, room_of};
+ghost use Rattle.leaf_cert.specs.Scratches.{FitsScratch, column_count_of};
 
-use crate::arithmetic::{ceil_div, product};
-use crate::columns::{clear, column_sum, has_empty, take_rows};
+use crate::arithmetic::ceil_div;
+use crate::columns::{clear, column_sum, take_rows};
 use crate::payments::paid;
 use crate::workspaces::Scratch;
 use ip_defs::{Area, Bound, Cert, Parts};
-use ip_model::{IntModel, total_of};
+use ip_model::{IntModel, has_empty_column, product, total_of};
 
 /// The constant times q.
 fn weighed(q: i64, constant: i64) -> i128
@@ -71,7 +71,7 @@ fn bound_of(parts: &Parts, cert: &Cert, area: &[(i64, i64)], taken: &mut [i128])
     requires scratch { length taken.old ≡ length parts.now.columns }
     ensures { result ≡ leaf_bound_of parts.now area.now cert.now }
 {
-    if has_empty(area) {
+    if has_empty_column(area) {
         return Bound::Infinite;
     }
     match dual_value_of(parts, cert, area, taken) {
@@ -101,7 +101,7 @@ pub fn leaf_bound(model: &IntModel, cert: &Cert, area: &Area, scratch: &mut Scra
     ensures bound { result ≡ leaf_bound_of model.now area.now cert.now }
     ensures holds { (x : List ℤ) → IsFeasible model.now x → IsIn area.now x → IsAtMost result (cost model.now x) }
     ensures area { scratch.new.area ≡ scratch.old.area }
-    ensures room { room_of scratch.new ≡ room_of scratch.old }
+    ensures scratch { column_count_of scratch.new ≡ column_count_of scratch.old }
 {
     bound_of(
         model.parts(),

@@ -7,12 +7,12 @@ mod columns;
 mod leaf;
 mod payments;
 mod scratches;
-#[cfg(test)]
-mod tests;
 mod workspaces;
 
 pub use certs::cert_ok;
+pub use columns::{reduced_at, take_rows};
 pub use ip_defs::{Area, Bound, Cert, Memory, Multipliers, weak_duality};
 pub use leaf::leaf_bound;
+pub use payments::side_of;
 pub use scratches::scratch;
 pub use workspaces::Scratch;

@@ -4,12 +4,12 @@ ghost use Rattle.std.specs.Int.RustNames.{unsigned_abs};
 ghost use Rattle.ip_defs.specs.Certificates.{side_for, payment, pay};
 ghost use Rattle.ip_defs.specs.Limits.{AreOrdered, AreSmall, IsWithinLimits};
 
-use crate::arithmetic::product;
 use ip_defs::{Parts, Row};
-use ip_model::total_of;
+use ip_model::{product, total_of};
 
-/// The side that a multiplier is paid for.
-fn side_of(multiplier: i64, row: &Row) -> Option<i64>
+/// The side of a row that a multiplier is paid for, where the row has it: the low side for a positive multiplier, the high side for a
+/// negative one, and 0 for 0.
+pub fn side_of(multiplier: i64, row: &Row) -> Option<i64>
     ensures { result ≡ side_for multiplier row.now }
 {
     if multiplier > 0 {

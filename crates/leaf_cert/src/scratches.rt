@@ -1,7 +1,7 @@
 //! A scratch for a model.
 ghost use Rattle.std.specs.Prelude.{◌≡◌, IfOk};
 ghost use Rattle.ip_defs.specs.Program.{box_of as box_of_parts};
-ghost use Rattle.leaf_cert.specs.Room.{FitsScratch};
+ghost use Rattle.leaf_cert.specs.Scratches.{FitsScratch};
 
 use crate::workspaces::Scratch;
 use ip_defs::Memory;

@@ -7,8 +7,6 @@ mod lines;
 mod names;
 mod printer;
 mod rows;
-#[cfg(test)]
-mod tests;
 
 pub use ip_defs::Memory;
 pub use names::printable;

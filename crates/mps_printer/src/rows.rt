@@ -3,11 +3,18 @@
 ghost use Rattle.std.specs.Prelude.{◌≡◌, ◌++◌, None, OnOk, Some, flat_map, map, string_bytes};
 ghost use Rattle.mps_defs.specs.CanonicalText.{constant_line, is_equation as is_equation_of, is_from_below as is_from_below_of};
 ghost use Rattle.mps_defs.specs.CanonicalText.{kind_text as kind_text_of, range_line, rhs_line, right_side as right_side_of, written_text};
-ghost use Rattle.mps_printer.specs.Internal.Sections.{kind_line, lines_text, range_section, row_section, side_section};
+ghost use Rattle.mps_printer.specs.Internal.Sections.{kind_line, lines_text, part_lines, range_section, row_section, side_section};
 
 use crate::lines::{push_amount, push_head, push_pair, push_triple};
 use ip_defs::{Memory, Parts, Row};
 use std::alloc::Global;
+
+/// A part of a row that is written on lines of its own: its right side in RHS, or its range in RANGES.
+#[derive(Clone, Copy, Debug, PartialEq, Eq)]
+pub enum RowPart {
+    RightSide,
+    Range,
+}
 
 /// Whether a row has both sides, and they are equal.
 fn is_equation(row: &Row) -> bool
@@ -101,25 +108,6 @@ fn push_side(alloc: Global, text: &mut String, row: &Row) -> Result<(), Memory>
     }
 }
 
-/// Adds the right side of each row.
-fn push_sides(alloc: Global, text: &mut String, rows: &[Row]) -> Result<(), Memory>
-    ensures { OnOk result (string_bytes text.new ≡ string_bytes text.old ++ lines_text (flat_map rhs_line rows.now)) }
-{
-    for row in rows {
-        push_side(alloc, text, row)?;
-    }
-    Ok(())
-}
-
-/// Adds RHS.
-pub fn push_side_section(alloc: Global, text: &mut String, parts: &Parts) -> Result<(), Memory>
-    ensures { OnOk result (string_bytes text.new ≡ string_bytes text.old ++ lines_text (side_section parts.now)) }
-{
-    push_head(text, "RHS")?;
-    push_constant(alloc, text, parts)?;
-    push_sides(alloc, text, parts.rows.as_slice())
-}
-
 /// Adds the range of a row, its high side minus its low side, where it has two different sides.
 fn push_range(alloc: Global, text: &mut String, row: &Row) -> Result<(), Memory>
     ensures { OnOk result (string_bytes text.new ≡ string_bytes text.old ++ lines_text (range_line row.now)) }
@@ -133,14 +121,33 @@ fn push_range(alloc: Global, text: &mut String, row: &Row) -> Result<(), Memory>
     }
 }
 
-/// Adds the range of each row.
-fn push_ranges(alloc: Global, text: &mut String, rows: &[Row]) -> Result<(), Memory>
-    ensures { OnOk result (string_bytes text.new ≡ string_bytes text.old ++ lines_text (flat_map range_line rows.now)) }
+/// Adds the lines of a part of a row.
+fn push_part(alloc: Global, text: &mut String, row: &Row, part: RowPart) -> Result<(), Memory>
+    ensures { OnOk result (string_bytes text.new ≡ string_bytes text.old ++ lines_text (part_lines part row.now)) }
+{
+    match part {
+        RowPart::RightSide => push_side(alloc, text, row),
+        RowPart::Range => push_range(alloc, text, row),
+    }
+}
+
+/// Adds the lines of a part of each row.
+fn push_parts(alloc: Global, text: &mut String, rows: &[Row], part: RowPart) -> Result<(), Memory>
+    ensures { OnOk result (string_bytes text.new ≡ string_bytes text.old ++ lines_text (flat_map (part_lines part) rows.now)) }
 {
     for row in rows {
-        push_range(alloc, text, row)?;
+        push_part(alloc, text, row, part)?;
     }
     Ok(())
+}
+
+/// Adds RHS.
+pub fn push_side_section(alloc: Global, text: &mut String, parts: &Parts) -> Result<(), Memory>
+    ensures { OnOk result (string_bytes text.new ≡ string_bytes text.old ++ lines_text (side_section parts.now)) }
+{
+    push_head(text, "RHS")?;
+    push_constant(alloc, text, parts)?;
+    push_parts(alloc, text, parts.rows.as_slice(), RowPart::RightSide)
 }
 
 /// Adds RANGES.
@@ -148,5 +155,5 @@ pub fn push_range_section(alloc: Global, text: &mut String, parts: &Parts) -> Re
     ensures { OnOk result (string_bytes text.new ≡ string_bytes text.old ++ lines_text (range_section parts.now)) }
 {
     push_head(text, "RANGES")?;
-    push_ranges(alloc, text, parts.rows.as_slice())
+    push_parts(alloc, text, parts.rows.as_slice(), RowPart::Range)
 }

@@ -9,7 +9,7 @@ use Rattle.std.proofs.lemmas.List.Quantifiers.{position-Some}
 use Rattle.std.proofs.lemmas.List.{length-set, append-nil}
 use Rattle.std.proofs.lemmas.List.Folds.{list_any-append}
 use Rattle.std.proofs.lemmas.Slice.Eq.{bytes_eq-Decides}
-use Rattle.ip_defs.specs.Lists.{first_of, when}
+use Rattle.ip_defs.specs.Lists.{Each, first_of, when}
 use Rattle.mps_defs.specs.Lists.{last_of, is_among, where_true}
 use Rattle.std.specs.Option.{option_or}
 use Rattle.mps_defs.specs.Numbers.{is_number, number_of}
@@ -28,8 +28,8 @@ use Rattle.mps_reader.specs.declared.bounds.BoundKind.TheVariants.{Binary}
 use Rattle.mps_reader.specs.declared.draft.ColumnDraft.{ColumnDraft}
 use Rattle.mps_reader.specs.declared.draft.ColumnTable.{ColumnTable}
 use Rattle.mps_reader.specs.declared.draft.Draft.{Draft}
-use Rattle.mps_reader.specs.Internal.BoundWords.{Says, after_bound, bound_word, has_right_count, integer_words, lower_of, numbered_words}
-use Rattle.mps_reader.specs.Internal.BoundWords.{plain_words, upper_of}
+use Rattle.mps_reader.specs.Internal.BoundWords.{IsBound, Says, after_bound, bound_word, has_right_count, integer_words, lower_of}
+use Rattle.mps_reader.specs.Internal.BoundWords.{numbered_words, plain_words, upper_of}
 use Rattle.mps_reader.specs.Internal.Progress.{upper_said, AreApart, Stands, SectionsStand, RowsStand, EntriesStand, ColumnsStand}
 use Rattle.mps_reader.specs.Internal.Progress.{ColumnStands, BoundsStand}
 use Rattle.mps_reader.proofs.StayLaws.{first_lines_stay, column_names_stay, sections_stay, rows_stand_stay, entries_stay}
@@ -49,41 +49,40 @@ bound_item n fields = item (codes "BOUNDS") n fields
 
 -- ---- kinds
 
+-- what holds of each kind
+abbrev kinds : List BoundKind
+kinds = Lower ∷ LowerInteger ∷ Upper ∷ UpperInteger ∷ Fixed ∷ Free ∷ NoLower ∷ NoUpper ∷ Binary ∷ []
+
+of_kind : (P : BoundKind → Type 0) (k : BoundKind) → Each P kinds → P k
+of_kind P Lower all = all.0
+of_kind P LowerInteger all = all.1.0
+of_kind P Upper all = all.1.1.0
+of_kind P UpperInteger all = all.1.1.1.0
+of_kind P Fixed all = all.1.1.1.1.0
+of_kind P Free all = all.1.1.1.1.1.0
+of_kind P NoLower all = all.1.1.1.1.1.1.0
+of_kind P NoUpper all = all.1.1.1.1.1.1.1.0
+of_kind P Binary all = all.1.1.1.1.1.1.1.1.0
+
 pub known_bound : (k : BoundKind) → (is_among (bound_word k) numbered_words || is_among (bound_word k) plain_words) ≡ true
-known_bound Lower = refl
-known_bound LowerInteger = refl
-known_bound Upper = refl
-known_bound UpperInteger = refl
-known_bound Fixed = refl
-known_bound Free = refl
-known_bound NoLower = refl
-known_bound NoUpper = refl
-known_bound Binary = refl
+known_bound k =
+    of_kind (λ j. (is_among (bound_word j) numbered_words || is_among (bound_word j) plain_words) ≡ true) k
+    (refl, (refl, (refl, (refl, (refl, (refl, (refl, (refl, (refl, tt)))))))))
 
 -- a kind without a number says the same whatever the number is
-plain_lower : (k : BoundKind) (n m : Number) → is_among (bound_word k) numbered_words ≡ false
-    → lower_of (bound_word k) n ≡ lower_of (bound_word k) m
-plain_lower Lower n m h = absurd (true≢false h)
-plain_lower LowerInteger n m h = absurd (true≢false h)
-plain_lower Upper n m h = absurd (true≢false h)
-plain_lower UpperInteger n m h = absurd (true≢false h)
-plain_lower Fixed n m h = absurd (true≢false h)
-plain_lower Free n m h = refl
-plain_lower NoLower n m h = refl
-plain_lower NoUpper n m h = refl
-plain_lower Binary n m h = refl
+abbrev SaysSame : Number → Number → BoundKind → Type 0
+SaysSame n m k = is_among (bound_word k) numbered_words ≡ false
+    → (lower_of (bound_word k) n ≡ lower_of (bound_word k) m) × (upper_of (bound_word k) n ≡ upper_of (bound_word k) m)
 
-plain_upper : (k : BoundKind) (n m : Number) → is_among (bound_word k) numbered_words ≡ false
-    → upper_of (bound_word k) n ≡ upper_of (bound_word k) m
-plain_upper Lower n m h = absurd (true≢false h)
-plain_upper LowerInteger n m h = absurd (true≢false h)
-plain_upper Upper n m h = absurd (true≢false h)
-plain_upper UpperInteger n m h = absurd (true≢false h)
-plain_upper Fixed n m h = absurd (true≢false h)
-plain_upper Free n m h = refl
-plain_upper NoLower n m h = refl
-plain_upper NoUpper n m h = refl
-plain_upper Binary n m h = refl
+plain_bound : (k : BoundKind) (n m : Number) → SaysSame n m k
+plain_bound k n m =
+    of_kind (SaysSame n m) k (
+      λ h. absurd (true≢false h),
+      (λ h. absurd (true≢false h), (λ h. absurd (true≢false h), (λ h. absurd (true≢false h), (λ h. absurd (true≢false h), plain)))),
+    )
+  where
+    plain : Each (SaysSame n m) (Free ∷ NoLower ∷ NoUpper ∷ Binary ∷ [])
+    plain = (λ h. (refl, refl), (λ h. (refl, refl), (λ h. (refl, refl), (λ h. (refl, refl), tt))))
 
 -- what a line says of its column
 pub record LineSays (l : Line) (s : ColumnDraft) : Type 0 where
@@ -111,11 +110,11 @@ line_says l k n s is counts h = record {
   where
     same_lower : (t : Bool) → takes_number l ≡ t → lower_of (bound_word k) n ≡ lower_of (bound_word k) (number_or_zero (bound_text l))
     same_lower true e = ap (lower_of (bound_word k)) (counts e)
-    same_lower false e = plain_lower k n (number_or_zero (bound_text l)) (ap (λ w. is_among w numbered_words) (sym is) ∙ e)
+    same_lower false e = (plain_bound k n (number_or_zero (bound_text l)) (ap (λ w. is_among w numbered_words) (sym is) ∙ e)).0
 
     same_upper : (t : Bool) → takes_number l ≡ t → upper_of (bound_word k) n ≡ upper_of (bound_word k) (number_or_zero (bound_text l))
     same_upper true e = ap (upper_of (bound_word k)) (counts e)
-    same_upper false e = plain_upper k n (number_or_zero (bound_text l)) (ap (λ w. is_among w numbered_words) (sym is) ∙ e)
+    same_upper false e = (plain_bound k n (number_or_zero (bound_text l)) (ap (λ w. is_among w numbered_words) (sym is) ∙ e)).1
 
 -- ---- faults
 
@@ -440,6 +439,21 @@ faults_by before n fields k place number there is right found counted =
     ∙ ap (λ t. when (not t) (UnknownColumn n)
     ++ when (takes_number (bound_item n fields) && not (is_number (bound_text (bound_item n fields)))) (NoNumber n)) found
     ∙ ap (λ t. when (not (is_some place)) (UnknownColumn n) ++ when t (NoNumber n)) counted
+
+-- where the look-up of its column answers, a number alone can be wrong
+pub found_faults : (before : List Line) (n : ℕ) (fields : List (List ℕ)) (k : BoundKind) (set name text : List ℕ) (t : ColumnTable)
+    (place : ℕ) (number : Option Number)
+    → ColumnsStand before t → is_among (codes "ROWS") (words_of before) ≡ true → IsBound (bound_item n fields) k set name text
+    → Some place ≡ position (λ c. bytes_eq name (string_bytes c)) t.names.keys
+    → (is_among (bound_word k) numbered_words ≡ true → number ≡ number_of text)
+    → (is_among (bound_word k) numbered_words ≡ false → number ≡ Some no_number)
+    → line_faults before (bound_item n fields) ≡ when (is_none number) (NoNumber n)
+found_faults before n fields k set name text t place number h rows bound at some none =
+    let l = bound_item n fields in
+    let found = column_found before t (bound_column l) name (Some place) h bound.column_is at in
+    faults_by before n fields k (Some place) number rows bound.kind_is bound.count
+    (has_column_where before (bound_column l) (Some place) found)
+    (number_fault l k text number bound.kind_is bound.text_is some none)
 
 pub noted_count : (cs new : List ColumnDraft) (names : List (List ℕ)) (name : List ℕ) (place : ℕ) (s : ColumnDraft)
     → length cs ≡ length names → position (bytes_eq name) names ≡ Some place

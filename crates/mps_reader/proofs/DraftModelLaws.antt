@@ -1,8 +1,7 @@
 -- What a draft says of the whole is what its lines say.
-use Rattle.std.specs.Prelude.{◌≡◌, ℕ, zero, suc, ◌<◌, ◌≤◌, max, ◌||◌, if◌then◌else◌, neg_ℤ, filter, Bool, true, false, not, ◌&&◌, cond}
+use Rattle.std.specs.Prelude.{◌≡◌, ℕ, zero, suc, ◌<◌, ◌≤◌, max, if◌then◌else◌, neg_ℤ, filter, Bool, true, false, not, ◌&&◌, cond}
 use Rattle.std.specs.Prelude.{List, [], ◌∷◌, ◌++◌, length, map, flat_map, find, position, slice_get, Option, None, Some, option_map}
-use Rattle.std.specs.Prelude.{unwrap_or, bytes_eq, codes, Result, Ok, Err, ℤ}
-use Rattle.std.specs.List.{list_any}
+use Rattle.std.specs.Prelude.{unwrap_or, codes, Result, Ok, Err, ℤ}
 use Rattle.std.specs.Option.{option_map_or, is_none, ForSome}
 use Rattle.std.proofs.Common.{refl, arith, ap, sym, ◌∙◌, get_or, subst}
 use Rattle.std.proofs.lemmas.Option.{slice_get_within, slice_get-map}
@@ -24,7 +23,6 @@ use Rattle.ip_defs.specs.declared.programs.Parts.{Parts}
 use Rattle.ip_defs.specs.declared.programs.Row.{Row}
 use Rattle.ip_defs.specs.declared.programs.Column.{Column}
 use Rattle.mps_reader.specs.declared.sections.Section.{Section}
-use Rattle.mps_reader.specs.declared.sections.Section.TheVariants as Sections
 use Rattle.mps_reader.specs.declared.draft.RowDraft.{RowDraft}
 use Rattle.mps_reader.specs.declared.draft.ColumnDraft.{ColumnDraft}
 use Rattle.mps_reader.specs.declared.draft.Draft.{Draft}
@@ -32,14 +30,14 @@ use Rattle.mps_reader.specs.declared.column_rules.Rule.TheVariants.{Integer, Bou
 use Rattle.mps_reader.specs.Internal.Below.{AreBelowLarge, AreWithin, AreRowsBelow}
 use Rattle.mps_reader.specs.Internal.Clamps.{clamped_coefs, clamped_row, clamped_column, clamped_parts}
 use Rattle.mps_defs.specs.Faults.{IsFirst}
-use Rattle.mps_reader.specs.Internal.Drafted.{asked, column_faults, is_negative_bound, is_end, is_free_kind, drafted_coefs, drafted_row}
+use Rattle.mps_reader.specs.Internal.Drafted.{asked, column_faults, is_negative_bound, has_end, is_free_kind, drafted_coefs, drafted_row}
 use Rattle.mps_reader.specs.Internal.Drafted.{drafted_rows, drafted_columns, drafted_decimals, drafted_lower, drafted_model}
 use Rattle.mps_reader.specs.Internal.Drafted.{drafted_column_faults, drafted_row_names}
 use Rattle.mps_reader.specs.Internal.Drafted.{drafted_column_names}
 use Rattle.mps_reader.specs.Internal.DraftModels.{IsDrafted, IsFinished, IsLimited}
-use Rattle.mps_reader.specs.Internal.Progress.{Stands, ColumnStands, section_word, kind_word, upper_said}
+use Rattle.mps_reader.specs.Internal.Progress.{Stands, ColumnStands, kind_word, upper_said}
 use Rattle.mps_reader.proofs.WrittenLaws.{entries_below, entries_within, written_for_below, coefs_ordered}
-use Rattle.mps_reader.proofs.FaultLaws.{first_later}
+use Rattle.mps_reader.proofs.FaultLaws.{first_here, first_later}
 use Rattle.mps_reader.proofs.LimitedLaws.{count_columns}
 use Rattle.mps_reader.proofs.ModelLaws.{rows_are, columns_are, sides_are, found_at}
 use Rattle.std.proofs.lemmas.List.{length-map}
@@ -273,21 +271,12 @@ columns_agree ls d how s =
     ∙ ap (λ l. column_faults (asked Integer how) (drafted_column_names d) cs ++ column_faults (asked Bounded how)
     (drafted_column_names d) cs ++ l) z
 
-end_word : (x : Section) → bytes_eq (codes "ENDATA") (section_word x) ≡ is_end x
-end_word Sections.Name = refl
-end_word Sections.Rows = refl
-end_word Sections.Columns = refl
-end_word Sections.RightSides = refl
-end_word Sections.Ranges = refl
-end_word Sections.Bounds = refl
-end_word Sections.End = refl
+pub ended_as : {sections items : List Section} {t ended : Bool} → sections ≡ items → t ≡ has_end sections → t ≡ ended
+    → has_end items ≡ ended
+ended_as same is so = ap has_end (sym same) ∙ sym is ∙ so
 
-end_among : (xs : List Section) → is_among (codes "ENDATA") (map section_word xs) ≡ list_any is_end xs
-end_among [] = refl
-end_among (x ∷ xs) = ap (λ t. t || is_among (codes "ENDATA") (map section_word xs)) (end_word x) ∙ ap (λ t. is_end x || t) (end_among xs)
-
-pub ended_is : (ls : List Line) (d : Draft) → Stands ls d → is_ended ls ≡ list_any is_end d.sections.items
-ended_is ls d s = ap (is_among (codes "ENDATA")) (sym s.sections.words) ∙ end_among d.sections.items
+pub ended_is : (ls : List Line) (d : Draft) → Stands ls d → is_ended ls ≡ has_end d.sections.items
+ended_is ls d s = ap (is_among (codes "ENDATA")) (sym s.sections.words)
 
 -- the faults before those of the columns
 abbrev before_columns : Bool → Bool → List MpsError → List MpsError → List MpsError → List MpsError → List MpsError
@@ -303,7 +292,7 @@ faults_are ls d how s =
     (model_from ls how)) s.no_fault
 
 -- no ENDATA line
-pub unended_is : (ls : List Line) (d : Draft) (how : How) → Stands ls d → list_any is_end d.sections.items ≡ false
+pub unended_is : (ls : List Line) (d : Draft) (how : How) → Stands ls d → has_end d.sections.items ≡ false
     → first_of (faults_of_lines ls how) ≡ Some NoEnd
 unended_is ls d how s e =
     ap first_of (faults_are ls d how s)
@@ -313,7 +302,7 @@ unended_is ls d how s e =
     ∙ e)
 
 -- no objective
-pub aimless_is : (ls : List Line) (d : Draft) (how : How) → Stands ls d → list_any is_end d.sections.items ≡ true → d.rows.objective ≡ None
+pub aimless_is : (ls : List Line) (d : Draft) (how : How) → Stands ls d → has_end d.sections.items ≡ true → d.rows.objective ≡ None
     → first_of (faults_of_lines ls how) ≡ Some NoObjective
 aimless_is ls d how s e none =
     ap first_of (faults_are ls d how s)
@@ -328,8 +317,8 @@ aimless_is ls d how s e none =
     ∙ none)))
 
 -- an answer to a draft that has ended and has an objective
-pub finished_is : (ls : List Line) (d : Draft) (how : How) (name : List ℕ) (r : RowDraft) (o : ℕ) (result : Result Parts MpsError)
-    → Stands ls d → list_any is_end d.sections.items ≡ true → d.rows.objective ≡ Some o
+finished_is : (ls : List Line) (d : Draft) (how : How) (name : List ℕ) (r : RowDraft) (o : ℕ) (result : Result Parts MpsError)
+    → Stands ls d → has_end d.sections.items ≡ true → d.rows.objective ≡ Some o
     → slice_get (drafted_row_names d) o ≡ Some name → slice_get d.rows.rows.items o ≡ Some r → IsDrafted d how name r result
     → IsFinished ls how result
 finished_is ls d how name r o result s e aim named at h = by result h
@@ -374,6 +363,16 @@ objective_there ls d o s e =
     let row = element_at d.rows.rows.items o (omega arith) in
     (row_name found.0, row.0, named, row.1)
 
+-- so an answer to the draft with each objective that it may have is an answer to the lines
+pub finished_there : (ls : List Line) (d : Draft) (how : How) (o : ℕ) (result : Result Parts MpsError)
+    → Stands ls d → has_end d.sections.items ≡ true → d.rows.objective ≡ Some o
+    → ((name : List ℕ) (r : RowDraft) → slice_get (drafted_row_names d) o ≡ Some name → slice_get d.rows.rows.items o ≡ Some r
+    → IsDrafted d how name r result)
+    → IsFinished ls how result
+finished_there ls d how o result s e aim answered =
+    let t = objective_there ls d o s aim in
+    finished_is ls d how t.0 t.1 o result s e aim t.2 t.3 (answered t.0 t.1 t.2 t.3)
+
 -- the objective, as the model of a draft wants it
 pub objective_shaped : (ls : List Line) (d : Draft) (how : How) (o : ℕ) → Stands ls d → how.digits ≤ 9 → d.rows.objective ≡ Some o
     → (name : List ℕ) × (r : RowDraft) × (slice_get (drafted_row_names d) o ≡ Some name) ×
@@ -382,6 +381,10 @@ objective_shaped ls d how o s digits e =
     let t = objective_there ls d o s e in (t.0, t.1, t.2, t.3, model_shaped ls d how t.0 t.1 o s digits t.2 t.3)
 
 -- columns without a fault: what the limits answer is the answer
+pub drafted_faulty : (d : Draft) (how : How) (name : List ℕ) (r : RowDraft) (e : MpsError)
+    → IsFirst (first_of (drafted_column_faults d how)) e → IsDrafted d how name r (Err e)
+drafted_faulty d how name r e h = first_here (drafted_column_faults d how) (limit_faults (drafted_model d how name r)) e h
+
 pub drafted_is : (d : Draft) (how : How) (name : List ℕ) (r : RowDraft) (result : Result Parts MpsError)
     → first_of (drafted_column_faults d how) ≡ None → IsLimited (drafted_model d how name r) result → IsDrafted d how name r result
 drafted_is d how name r (Ok m) none h =

@@ -21,27 +21,8 @@ use Rattle.mps_reader.proofs.ModelListLaws.{drop_at, drop_mapped}
 
 -- where there is no fault, an error is that of memory
 pub from_none : (e : MpsError) → IsFirst None e → (o : Option MpsError) → IsFirst o e
-from_none Out.NotUtf8 h o = absurd cc
-from_none (Out.SectionOrder a) h o = absurd cc
-from_none (Out.UnknownSection a) h o = absurd cc
-from_none (Out.FieldCount a) h o = absurd cc
-from_none (Out.RowKind a) h o = absurd cc
-from_none (Out.TwiceRow a) h o = absurd cc
-from_none (Out.UnknownRow a) h o = absurd cc
-from_none (Out.SplitColumn a) h o = absurd cc
-from_none (Out.TwiceEntry a) h o = absurd cc
-from_none (Out.Number a) h o = absurd cc
-from_none (Out.Marker a) h o = absurd cc
-from_none (Out.BoundKind a) h o = absurd cc
-from_none (Out.UnknownColumn a) h o = absurd cc
-from_none (Out.Continuous a) h o = absurd cc
-from_none (Out.NoBound a b) h o = absurd cc
-from_none (Out.NegativeUpper a) h o = absurd cc
-from_none (Out.Limit a) h o = absurd cc
-from_none Out.NoObjective h o = absurd cc
-from_none Out.NoEnd h o = absurd cc
-from_none (Out.Digits a) h o = absurd cc
 from_none Out.Memory h o = tt
+from_none e h o = absurd cc
 
 -- the first fault of a list is that of a longer one
 pub first_here : (here rest : List MpsError) (e : MpsError) → IsFirst (first_of here) e → IsFirst (first_of (here ++ rest)) e
@@ -60,7 +41,7 @@ pub faults_at : (f : List ℕ → ColumnDraft → List MpsError) (names others :
 faults_at f names others cs later name c named is = ap (λ ns. column_faults f ns cs) named ∙ ap (column_faults f (name ∷ others)) is
 
 -- so for the names of a table and its columns from a number on
-pub faults_from : (f : List ℕ → ColumnDraft → List MpsError) (keys : List (String Global)) (cs : List ColumnDraft) (j : ℕ)
+faults_from : (f : List ℕ → ColumnDraft → List MpsError) (keys : List (String Global)) (cs : List ColumnDraft) (j : ℕ)
     (key : String Global)
     (none : ColumnDraft) → length keys ≡ length cs → j < length cs → key ≡ get_or keys j key
     → column_faults f (drop j (map string_bytes keys)) (drop j cs)
@@ -70,6 +51,23 @@ faults_from f keys cs j key none same within at =
     faults_at f (drop j names) (drop (j + 1) names) (drop j cs) (drop (j + 1) cs) (string_bytes key) (get_or cs j none)
     (drop_mapped string_bytes keys j key (omega (arith, same, within)) at) (drop_at cs j none within)
 
+-- where its column has none, they are those from the next number on; else the first is that of its column
+pub column_clean : (f : List ℕ → ColumnDraft → List MpsError) (keys : List (String Global)) (cs : List ColumnDraft) (j : ℕ)
+    (key : String Global) (none : ColumnDraft) → length keys ≡ length cs → j < length cs → key ≡ get_or keys j key
+    → first_of (f (string_bytes key) (get_or cs j none)) ≡ None
+    → first_of (column_faults f (drop j (map string_bytes keys)) (drop j cs))
+    ≡ first_of (column_faults f (drop (j + 1) (map string_bytes keys)) (drop (j + 1) cs))
+column_clean f keys cs j key none same within at clean =
+    ap first_of (faults_from f keys cs j key none same within at) ∙ first_later (f (string_bytes key) (get_or cs j none)) _ clean
+
+pub column_faulty : (f : List ℕ → ColumnDraft → List MpsError) (keys : List (String Global)) (cs : List ColumnDraft) (j : ℕ)
+    (key : String Global) (none : ColumnDraft) (e : MpsError) → length keys ≡ length cs → j < length cs → key ≡ get_or keys j key
+    → IsFirst (first_of (f (string_bytes key) (get_or cs j none))) e
+    → IsFirst (first_of (column_faults f (drop j (map string_bytes keys)) (drop j cs))) e
+column_faulty f keys cs j key none e same within at faulty =
+    subst (λ fs. IsFirst (first_of fs) e) (sym (faults_from f keys cs j key none same within at))
+    (first_here (f (string_bytes key) (get_or cs j none)) _ e faulty)
+
 -- an answer to the faults after a list without one
 pub answers_later : (here rest : List MpsError) (r : Result (Unit {0}) MpsError) → first_of here ≡ None → AnswersFaults rest r
     → AnswersFaults (here ++ rest) r
@@ -78,27 +76,8 @@ answers_later here rest (Err e) none h = subst (λ o. IsFirst o e) (sym (first_l
 
 -- the first fault is an answer, and so is being out of memory
 pub first_is : (o : Option MpsError) (e : MpsError) → o ≡ Some e → IsFirst o e
-first_is o Out.NotUtf8 h = h
-first_is o (Out.SectionOrder a) h = h
-first_is o (Out.UnknownSection a) h = h
-first_is o (Out.FieldCount a) h = h
-first_is o (Out.RowKind a) h = h
-first_is o (Out.TwiceRow a) h = h
-first_is o (Out.UnknownRow a) h = h
-first_is o (Out.SplitColumn a) h = h
-first_is o (Out.TwiceEntry a) h = h
-first_is o (Out.Number a) h = h
-first_is o (Out.Marker a) h = h
-first_is o (Out.BoundKind a) h = h
-first_is o (Out.UnknownColumn a) h = h
-first_is o (Out.Continuous a) h = h
-first_is o (Out.NoBound a b) h = h
-first_is o (Out.NegativeUpper a) h = h
-first_is o (Out.Limit a) h = h
-first_is o Out.NoObjective h = h
-first_is o Out.NoEnd h = h
-first_is o (Out.Digits a) h = h
 first_is o Out.Memory h = tt
+first_is o e h = h
 
 -- the first fault of the lines is that of a text
 pub line_first : (ls : List Line) (how : How) (e : MpsError) → IsFirst (first_of (all_line_faults ls)) e

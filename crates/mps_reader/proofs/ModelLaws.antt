@@ -15,8 +15,6 @@ use Rattle.mps_defs.specs.declared.reading.How.{How}
 use Rattle.mps_defs.specs.declared.reading.Number.{Number}
 use Rattle.ip_defs.specs.declared.programs.Column.{Column}
 use Rattle.ip_defs.specs.declared.programs.Row.{Row}
-use Rattle.mps_reader.specs.declared.draft.RowKind.{RowKind}
-use Rattle.mps_reader.specs.declared.draft.RowKind.TheVariants.{Free, AtMost, AtLeast, Equal}
 use Rattle.mps_reader.specs.declared.draft.RowDraft.{RowDraft}
 use Rattle.mps_reader.specs.declared.draft.ColumnDraft.{ColumnDraft}
 use Rattle.mps_reader.specs.Internal.Progress.{kind_word, RowStands, ColumnStands, upper_said}
@@ -27,12 +25,6 @@ use Rattle.mps_defs.proofs.NumberLaws.{largest-from}
 use Rattle.std.proofs.lemmas.Bool.{eq-eqb}
 
 -- ---- rows
-
-free_word : (k : RowKind) → bytes_eq (kind_word k) (codes "N") ≡ is_free_kind k
-free_word Free = refl
-free_word AtMost = refl
-free_word AtLeast = refl
-free_word Equal = refl
 
 row_is : (ls : List Line) (how : How) (name kind : List ℕ) (r : RowDraft) → kind_word r.kind ≡ kind
     → RowStands (kept_entries (codes "COLUMNS") ls) (kept_entries (codes "RHS") ls) (kept_entries (codes "RANGES") ls)
@@ -68,7 +60,7 @@ rows_are ls how (k ∷ ks) (r ∷ rs) kinds s =
     let word : kind_word r.kind ≡ row_kind k = cc in
     let words : map (λ x. kind_word x.kind) rs ≡ map row_kind ks = cc in
     let later = rows_are ls how ks rs words (λ i name x named at. s (suc i) name x named at) in
-    let free : is_free k ≡ is_free_kind r.kind = ap (λ w. bytes_eq w (codes "N")) (sym word) ∙ free_word r.kind in
+    let free : is_free k ≡ is_free_kind r.kind = ap (λ w. bytes_eq w (codes "N")) (sym word) in
     ap (λ row. when (not (is_free_kind r.kind)) row ++ drafted_rows how (map row_name ks) rs)
     (row_is ls how (row_name k) (row_kind k) r word (s 0 (row_name k) r refl refl))
     ∙ ap (λ l. when (not (is_free_kind r.kind)) (row_from ls how (row_kind k) (row_name k)) ++ l) later

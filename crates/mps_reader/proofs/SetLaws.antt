@@ -2,7 +2,7 @@
 use Rattle.std.specs.Prelude.{◌≡◌, ℕ, nat_le, true, false, not, ◌&&◌, drop, if◌then◌else◌, List, [], ◌∷◌, ◌++◌, length, Option, Some}
 use Rattle.std.specs.Prelude.{option_map, unwrap_or, bytes_eq, string_bytes, codes, Result, refl}
 use Rattle.std.specs.Option.{option_map_or}
-use Rattle.std.proofs.Common.{ap, sym, ◌∙◌, subst}
+use Rattle.std.proofs.Common.{ap, sym, ◌∙◌, subst, String, Global}
 use Rattle.ip_defs.specs.Lists.{first_of, when}
 use Rattle.mps_defs.specs.Lists.{is_among}
 use Rattle.mps_defs.specs.Records.{row_names, is_columns, is_marker, column_name, names_set, Line, Entry, items_of, words_of, column_names}
@@ -113,34 +113,49 @@ entries_line before d owner n fields set entries rows sets r h there parts takes
       sets = parts.sets_stand;
     }
 
--- the sets after a line of each section
-right_sides_stand : (before : List Line) (s new : Sets) (n : ℕ) (fields : List (List ℕ)) (set : List ℕ) → SetsStand before s
-    → set ≡ set_of (item (codes "RHS") n fields) → IsSetKept Sections.RightSides set s new
-    → SetsStand (before ++ item (codes "RHS") n fields ∷ []) new
-right_sides_stand before s new n fields set h set_is kept =
+-- the kept name of another section stays, and that of the line's own is the first one
+name_stays : (word : List ℕ) (name_of : Line → List ℕ) (before : List Line) (l : Line) (old new : Option (String Global))
+    → items_of word (l ∷ []) ≡ [] → new ≡ old → option_map string_bytes old ≡ option_map name_of (first_of (items_of word before))
+    → option_map string_bytes new ≡ option_map name_of (first_of (items_of word (before ++ l ∷ [])))
+name_stays word name_of before l old new none same is =
+    ap (option_map string_bytes) same ∙ is ∙ ap (λ ks. option_map name_of (first_of ks)) (sym (items_stay word before (l ∷ []) none))
+
+name_kept : (word : List ℕ) (before : List Line) (l : Line) (set : List ℕ) (o new : Option (List ℕ)) → items_of word (l ∷ []) ≡ l ∷ []
+    → new ≡ Some (unwrap_or o set) → o ≡ option_map set_of (first_of (items_of word before)) → set ≡ set_of l
+    → new ≡ option_map set_of (first_of (items_of word (before ++ l ∷ [])))
+name_kept word before l set o new one kept is set_is =
+    kept ∙ kept_name (items_of word before) l set o is set_is
+    ∙ ap (λ ks. option_map set_of (first_of ks)) (sym (items_of-append word before (l ∷ []) ∙ ap (λ k. items_of word before ++ k) one))
+
+-- the sets after a line of RHS or RANGES
+sets_stand : (before : List Line) (section : Section) (s new : Sets) (n : ℕ) (fields : List (List ℕ)) (set : List ℕ)
+    → is_among (section_word section) (codes "RHS" ∷ codes "RANGES" ∷ []) ≡ true → SetsStand before s
+    → set ≡ set_of (item (section_word section) n fields) → IsSetKept section set s new
+    → SetsStand (before ++ item (section_word section) n fields ∷ []) new
+sets_stand before Sections.RightSides s new n fields set is h set_is kept =
     let l = item (codes "RHS") n fields in
     record {
-      right_sides = kept.0 ∙ kept_name (items_of (codes "RHS") before) l set _ h.right_sides set_is
-          ∙ ap (λ ks. option_map set_of (first_of ks)) (sym (items_of-append (codes "RHS") before (l ∷ [])));
-      ranges = ap (option_map string_bytes) kept.1 ∙ h.ranges
-          ∙ ap (λ ks. option_map set_of (first_of ks)) (sym (items_stay (codes "RANGES") before (l ∷ []) refl));
-      bounds = ap (option_map string_bytes) kept.2 ∙ h.bounds
-          ∙ ap (λ ks. option_map bound_set (first_of ks)) (sym (items_stay (codes "BOUNDS") before (l ∷ []) refl));
+      right_sides = name_kept (codes "RHS") before l set _ _ refl kept.0 h.right_sides set_is;
+      ranges = name_stays (codes "RANGES") set_of before l s.ranges new.ranges refl kept.1 h.ranges;
+      bounds = name_stays (codes "BOUNDS") bound_set before l s.bounds new.bounds refl kept.2 h.bounds;
     }
-
-ranges_stand : (before : List Line) (s new : Sets) (n : ℕ) (fields : List (List ℕ)) (set : List ℕ) → SetsStand before s
-    → set ≡ set_of (item (codes "RANGES") n fields) → IsSetKept Sections.Ranges set s new
-    → SetsStand (before ++ item (codes "RANGES") n fields ∷ []) new
-ranges_stand before s new n fields set h set_is kept =
+sets_stand before Sections.Ranges s new n fields set is h set_is kept =
     let l = item (codes "RANGES") n fields in
     record {
-      right_sides = ap (option_map string_bytes) kept.0 ∙ h.right_sides
-          ∙ ap (λ ks. option_map set_of (first_of ks)) (sym (items_stay (codes "RHS") before (l ∷ []) refl));
-      ranges = kept.1 ∙ kept_name (items_of (codes "RANGES") before) l set _ h.ranges set_is
-          ∙ ap (λ ks. option_map set_of (first_of ks)) (sym (items_of-append (codes "RANGES") before (l ∷ [])));
-      bounds = ap (option_map string_bytes) kept.2 ∙ h.bounds
-          ∙ ap (λ ks. option_map bound_set (first_of ks)) (sym (items_stay (codes "BOUNDS") before (l ∷ []) refl));
+      right_sides = name_stays (codes "RHS") set_of before l s.right_sides new.right_sides refl kept.0 h.right_sides;
+      ranges = name_kept (codes "RANGES") before l set _ _ refl kept.1 h.ranges set_is;
+      bounds = name_stays (codes "BOUNDS") bound_set before l s.bounds new.bounds refl kept.2 h.bounds;
     }
+sets_stand before section s new n fields set is h set_is kept = absurd (true≢false (sym is))
+
+-- a set is the kept one after a line of it
+owned : (word : List ℕ) (before : List Line) (l : Line) (set : List ℕ) (o : Option (List ℕ)) → items_of word (l ∷ []) ≡ l ∷ []
+    → o ≡ option_map set_of (first_of (items_of word before)) → set ≡ set_of l
+    → option_map_or (λ k. bytes_eq (set_of k) set) (first_of (items_of word (before ++ l ∷ []))) false ≡ bytes_eq (unwrap_or o set) set
+owned word before l set o one is set_is =
+    ap (λ ks. option_map_or (λ k. bytes_eq (set_of k) set) (first_of ks) false)
+    (items_of-append word before (l ∷ []) ∙ ap (λ k. items_of word before ++ k) one)
+    ∙ kept_set (items_of word before) l set o is set_is
 
 -- the entries of a line whose section is not COLUMNS
 entries_read : (word : List ℕ) (n : ℕ) (fields : List (List ℕ)) (set : List ℕ) (entries : List (List ℕ)) → is_columns word ≡ false
@@ -152,6 +167,28 @@ entries_read word n fields set entries other parts =
     ∙ sym (ap (λ t. if t then (if is_marker l then [] else entries_from n (column_name l) (drop 1 fields))
     else entries_from n (set_of l) (if names_set l then drop 1 fields else fields)) other)
 
+-- a line of entries is taken where its section is not COLUMNS and it names its set
+line_of_set : (before : List Line) (d : Draft) (owner : Owner) (n : ℕ) (fields : List (List ℕ)) (set : List ℕ) (entries : List (List ℕ))
+    (rows : RowTable) (sets : Sets) (r : Result (Unit {0}) MpsError) → Stands before d
+    → is_among (owner_word owner) (words_of before) ≡ true
+    → line_faults before (item (owner_word owner) n fields) ≡ pair_faults before (item (owner_word owner) n fields)
+    → is_columns (owner_word owner) ≡ false → items_of (codes "COLUMNS") (item (owner_word owner) n fields ∷ []) ≡ []
+    → items_of (codes "BOUNDS") (item (owner_word owner) n fields ∷ []) ≡ [] → IsSetLine fields set entries
+    → Owns (before ++ item (owner_word owner) n fields ∷ []) owner set
+    → SetsStand (before ++ item (owner_word owner) n fields ∷ []) sets → Takes owner n entries d.rows rows r
+    → IsTaken before (item (owner_word owner) n fields) (record d { rows = rows; sets = sets }) r
+line_of_set before d owner n fields set entries rows sets r h there faults' other no_column' no_bound' parts owns' stand takes =
+    entries_line before d owner n fields set entries rows sets r h there
+    (record {
+      faults = faults';
+      no_column = no_column';
+      no_bound = no_bound';
+      entries_are = entries_read (owner_word owner) n fields set entries other parts;
+      owns = owns';
+      sets_stand = stand;
+    })
+    takes
+
 -- a line of RHS or RANGES is taken
 pub set_line : (before : List Line) (d : Draft) (section : Section) (n : ℕ) (fields : List (List ℕ)) (set : List ℕ)
     (entries : List (List ℕ)) (rows : RowTable) (sets : Sets) (r : Result (Unit {0}) MpsError)
@@ -161,33 +198,13 @@ pub set_line : (before : List Line) (d : Draft) (section : Section) (n : ℕ) (f
     → IsSetKept section set d.sets sets → Takes (set_owner section d.sets set) n entries d.rows rows r
     → IsTaken before (item (section_word section) n fields) (record d { rows = rows; sets = sets }) r
 set_line before d Sections.RightSides n fields set entries rows sets r h is there has_rows parts kept takes =
-    let l = item (codes "RHS") n fields in
-    entries_line before d (set_owner Sections.RightSides d.sets set) n fields set entries rows sets r h there
-    (record {
-      faults = set_line_faults before (pair_faults before l) n fields has_rows parts.count;
-      no_column = refl;
-      no_bound = refl;
-      entries_are = entries_read (codes "RHS") n fields set entries refl parts;
-      owns = ap (λ ks. option_map_or (λ k. bytes_eq (set_of k) set) (first_of ks) false) (items_of-append (codes "RHS") before (l ∷ []))
-          ∙ kept_set (items_of (codes "RHS") before) l set _ h.sets.right_sides parts.set_is;
-      sets_stand = right_sides_stand before d.sets sets n fields set h.sets parts.set_is kept;
-    })
-    takes
+    line_of_set before d (set_owner Sections.RightSides d.sets set) n fields set entries rows sets r h there
+    (set_line_faults before (pair_faults before (item (codes "RHS") n fields)) n fields has_rows parts.count) refl refl refl parts
+    (owned (codes "RHS") before (item (codes "RHS") n fields) set _ refl h.sets.right_sides parts.set_is)
+    (sets_stand before Sections.RightSides d.sets sets n fields set refl h.sets parts.set_is kept) takes
 set_line before d Sections.Ranges n fields set entries rows sets r h is there has_rows parts kept takes =
-    let l = item (codes "RANGES") n fields in
-    entries_line before d (set_owner Sections.Ranges d.sets set) n fields set entries rows sets r h there
-    (record {
-      faults = set_line_faults before (pair_faults before l) n fields has_rows parts.count;
-      no_column = refl;
-      no_bound = refl;
-      entries_are = entries_read (codes "RANGES") n fields set entries refl parts;
-      owns = ap (λ ks. option_map_or (λ k. bytes_eq (set_of k) set) (first_of ks) false) (items_of-append (codes "RANGES") before (l ∷ []))
-          ∙ kept_set (items_of (codes "RANGES") before) l set _ h.sets.ranges parts.set_is;
-      sets_stand = ranges_stand before d.sets sets n fields set h.sets parts.set_is kept;
-    })
-    takes
-set_line before d Sections.Name n fields set entries rows sets r h is there has_rows parts kept takes = absurd (true≢false (sym is))
-set_line before d Sections.Rows n fields set entries rows sets r h is there has_rows parts kept takes = absurd (true≢false (sym is))
-set_line before d Sections.Columns n fields set entries rows sets r h is there has_rows parts kept takes = absurd (true≢false (sym is))
-set_line before d Sections.Bounds n fields set entries rows sets r h is there has_rows parts kept takes = absurd (true≢false (sym is))
-set_line before d Sections.End n fields set entries rows sets r h is there has_rows parts kept takes = absurd (true≢false (sym is))
+    line_of_set before d (set_owner Sections.Ranges d.sets set) n fields set entries rows sets r h there
+    (set_line_faults before (pair_faults before (item (codes "RANGES") n fields)) n fields has_rows parts.count) refl refl refl parts
+    (owned (codes "RANGES") before (item (codes "RANGES") n fields) set _ refl h.sets.ranges parts.set_is)
+    (sets_stand before Sections.Ranges d.sets sets n fields set refl h.sets parts.set_is kept) takes
+set_line before d section n fields set entries rows sets r h is there has_rows parts kept takes = absurd (true≢false (sym is))

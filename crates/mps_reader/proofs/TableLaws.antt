@@ -4,8 +4,8 @@ use Rattle.std.specs.Prelude.{position, slice_get, slice_set, None, Some, bytes_
 use Rattle.std.specs.List.{list_any}
 use Rattle.std.specs.Vec.{with_item}
 use Rattle.std.proofs.Common.{arith, ap, sym, ◌∙◌, subst, ◌-◌, ◌<◌, get_or, take, drop, Bor}
-use Rattle.std.proofs.lemmas.Bool.{eqb-true, eqb-false, ltb-false, false_from_ne_true}
-use Rattle.std.proofs.lemmas.Option.{get_or_from_slice_get, slice_get_past}
+use Rattle.std.proofs.lemmas.Bool.{eqb-true, eqb-false, ltb-true, ltb-false, false_from_ne_true}
+use Rattle.std.proofs.lemmas.Option.{get_or_from_slice_get, slice_get-get_or, slice_get_past}
 use Rattle.std.proofs.Math.Seq.{map-set_same, take-length}
 use Rattle.ip_defs.specs.Lists.{first_of, when}
 use Rattle.mps_defs.specs.Lists.{is_among}
@@ -179,6 +179,16 @@ not_counted ls owner es t i r e n have owns at there is idle =
       table_after ls owner es t i r r e have at there refl (λ has. idle_entry ls owner es e.row r e kept has)
           (λ name k other has. idle_entry ls owner es name k e kept has),
     )
+
+-- the row at a place, and whether an entry counts on it, from what the look-ups answer
+pub row_at : (rows : List RowDraft) (i : ℕ) (r : RowDraft) → true ≡ nat_lt i (length rows) → r ≡ get_or rows i r
+    → slice_get rows i ≡ Some r
+row_at rows i r within is = slice_get-get_or rows i r (ltb-true i (length rows) (sym within)) ∙ ap Some (sym is)
+
+pub counts_as : (owner : Owner) (free objective is_free is_objective t : Bool) → is_free ≡ free → is_objective ≡ objective
+    → t ≡ counts_on owner is_free is_objective → counts_on owner free objective ≡ t
+counts_as owner free objective is_free is_objective t f o e =
+    ap (λ b. counts_on owner b objective) (sym f) ∙ ap (counts_on owner is_free) (sym o) ∙ sym e
 
 -- it counts, and is written where it has no fault
 pub counted_entry : (ls : List Line) (owner : Owner) (es : List Entry) (t : RowTable) (i : ℕ) (r new : RowDraft) (e : Entry) (n : Number)

@@ -117,6 +117,7 @@ pub at_end : (xs : List (List ℕ)) (i : ℕ) (x : List ℕ) → slice_get xs i 
     → (is_read (i + 1, without_return x) && is_end_line (i + 1, without_return x)) ≡ true
     → lines_by (read_from 1 (take i xs) ++ when (is_read (i + 1, without_return x)) (i + 1, without_return x)) ≡ said_by xs
 at_end xs i x at going ended =
+    let others = some_and_others xs (i + 1) in
     ap lines_by (ap (λ t. done ++ when t p) read
     ∙ sym (ap (λ t. done ++ (if t then p ∷ [] else p ∷ through_first is_end_line others.0)) ends)
     ∙ sym (through-append is_end_line done (p ∷ others.0) going)
@@ -129,9 +130,6 @@ at_end xs i x at going ended =
 
     done : List (ℕ × List ℕ)
     done = read_from 1 (take i xs)
-
-    others : (ys : List (ℕ × List ℕ)) × (read_from 1 xs ≡ read_from 1 (take (i + 1) xs) ++ ys)
-    others = some_and_others xs (i + 1)
 
     read : is_read p ≡ true
     read = left_true (is_read p) (is_end_line p) ended
@@ -186,6 +184,20 @@ NextTaken xs i n x new r =
     (slice_get xs i ≡ Some x) × (n ≡ i) × (list_any is_end_line (read_from 1 (take i xs)) ≡ false)
     × IsLineTaken (read_from 1 (take i xs)) (n + 1, without_return x) new r
 
+-- places in a list that a function is applied to
+item_at : {A B : Type 0} (f : A → B) (xs : List A) (i : ℕ) (d : A) → i < length xs → slice_get (map f xs) i ≡ Some (f (get_or xs i d))
+item_at f xs i d within = slice_get-map f xs i ∙ ap (option_map f) (slice_get-get_or xs i d within)
+
+pub next_taken : {A : Type 0} (f : A → List ℕ) (items : List A) (i n : ℕ) (d : A) (draft new : Draft) (r : Result Bool MpsError)
+    → i < length items
+    → (n ≡ i) × (list_any is_end_line (read_from 1 (take i (map f items))) ≡ false)
+    × Stands (lines_by (read_from 1 (take i (map f items)))) draft
+    → ((done : List (ℕ × List ℕ)) → Stands (lines_by done) draft → list_any is_end_line done ≡ false
+    → IsLineTaken done (n + 1, without_return (f (get_or items i d))) new r)
+    → NextTaken (map f items) i n (f (get_or items i d)) new r
+next_taken f items i n d draft new r within so_far taken =
+    (item_at f items i d within, so_far.0, so_far.1, taken (read_from 1 (take i (map f items))) so_far.2 so_far.1)
+
 pub next_ended : (xs : List (List ℕ)) (i n : ℕ) (x : List ℕ) (new : Draft) (r : Result Bool MpsError) (ended : Bool)
     → NextTaken xs i n x new r
     → r ≡ Ok ended → ended ≡ true → Stands (said_by xs) new
@@ -217,11 +229,6 @@ next_goes_on xs i n x new r ended next is on =
           (goes_on (read_from 1 (take i xs)) (i + 1, without_return x) next.2 (sym here.0 ∙ on)),
       subst (λ ps. Stands (lines_by ps) new) more here.1,
     )
-
--- ---- places in a list that a function is applied to
-
-pub item_at : {A B : Type 0} (f : A → B) (xs : List A) (i : ℕ) (d : A) → i < length xs → slice_get (map f xs) i ≡ Some (f (get_or xs i d))
-item_at f xs i d within = slice_get-map f xs i ∙ ap (option_map f) (slice_get-get_or xs i d within)
 
 -- a text has at most one line more than it has bytes
 pub few_lines : (text : List ℕ) → length (slice_split is_line_end text) ≤ length text + 1

@@ -6,4 +6,5 @@ pub mod Drafted
 pub mod DraftModels
 pub mod Progress
 pub mod Reading
+pub mod Rounding
 pub mod Taking

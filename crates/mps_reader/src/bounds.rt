@@ -12,9 +12,9 @@ ghost use Rattle.mps_reader.specs.Internal.BoundWords.{integer_words, lower_of, 
 ghost use Rattle.mps_reader.specs.declared.draft.ColumnDraft.{ColumnDraft as ColumnDraftOf};
 ghost use Rattle.mps_reader.specs.Internal.Progress.{IsTaken, Stands};
 
-use crate::draft::{ColumnDraft, Draft, UpperBound};
+use crate::draft::{ColumnDraft, Draft, Taken, UpperBound};
 use crate::kept_sets::keep_set;
-use crate::rounding::{rounded_down, rounded_up};
+use crate::rounding::{Direction, rounded};
 use decimals::read_number;
 use mps_defs::{MpsError, Number};
 use std::alloc::Global;
@@ -106,7 +106,7 @@ fn lower_side(number: Number) -> Option<i128>
 {
     match number {
         Number::Large { negative: true } => None,
-        _ => Some(rounded_up(number)),
+        _ => Some(rounded(Direction::Up, number)),
     }
 }
 
@@ -117,7 +117,7 @@ fn upper_side(number: Number) -> Option<i128>
 {
     match number {
         Number::Large { negative: false } => None,
-        _ => Some(rounded_down(number)),
+        _ => Some(rounded(Direction::Down, number)),
     }
 }
 
@@ -264,7 +264,7 @@ fn take_bound(
     line: u32,
     kind: BoundKind,
     bound: BoundFields<'_>,
-) -> Result<(), MpsError>
+) -> Taken
     ensures { (before : List Line) (fields : List (List ℕ)) → Stands before draft.old
         → is_among (codes "ROWS") (words_of before) ≡ true → is_among (codes "BOUNDS") (words_of before) ≡ true
         → IsBound (item (codes "BOUNDS") line fields) kind bound.entry.set.now bound.entry.column.now bound.entry.text.now
@@ -286,12 +286,7 @@ fn take_bound(
 
 /// Takes a line of BOUNDS: a kind, a set where one is named, a column, and a number where the kind takes one. `BoundKind` comes first,
 /// then `FieldCount`, then the faults of the bound.
-pub fn take_bound_line(
-    alloc: Global,
-    draft: &mut Draft,
-    line: u32,
-    fields: &[&str],
-) -> Result<(), MpsError>
+pub fn take_bound_line(alloc: Global, draft: &mut Draft, line: u32, fields: &[&str]) -> Taken
     ensures { (before : List Line) → Stands before draft.old → is_among (codes "ROWS") (words_of before) ≡ true
         → last_of (words_of before) ≡ Some (codes "BOUNDS")
         → IsTaken before (item (codes "BOUNDS") line (map (λ f. f.now) fields.now)) draft.new result }

@@ -11,7 +11,7 @@ ghost use Rattle.mps_defs.specs.declared.reading.MpsError.TheVariants as Out;
 ghost use Rattle.mps_reader.specs.Internal.Progress.{BoundsStand, ColumnsStand, IsTaken, Stands};
 ghost use Rattle.mps_reader.specs.Internal.Taking.{IsColumnAdded, IsColumnOpen, IsDone, IsMarked};
 
-use crate::draft::{ColumnDraft, ColumnTable, Draft};
+use crate::draft::{ColumnDraft, ColumnTable, Draft, Taken, is_at};
 use crate::entries::{Owner, take_entries};
 use mps_defs::MpsError;
 use std::alloc::{AllocError, Global};
@@ -31,7 +31,7 @@ fn is_right(in_force: bool, word: &str) -> bool
 }
 
 /// Takes a marker: Marker where it begins what is in force, ends what is not, or is none.
-fn take_marker(columns: &mut ColumnTable, line: u32, word: &str) -> Result<(), MpsError>
+fn take_marker(columns: &mut ColumnTable, line: u32, word: &str) -> Taken
     ensures { IsDone (when (not (is_right_marker columns.old.in_integers word.now)) (Out.Marker line))
         (λ _. IsMarked columns.old columns.new word.now) result }
 {
@@ -44,7 +44,7 @@ fn take_marker(columns: &mut ColumnTable, line: u32, word: &str) -> Result<(), M
 }
 
 /// Takes a marker line: FieldCount comes first.
-fn take_marker_line(draft: &mut Draft, line: u32, fields: &[&str]) -> Result<(), MpsError>
+fn take_marker_line(draft: &mut Draft, line: u32, fields: &[&str]) -> Taken
     ensures { (before : List Line) → Stands before draft.old → is_among (codes "COLUMNS") (words_of before) ≡ true
         → is_among (codes "ROWS") (words_of before) ≡ true
         → is_marker_of (item (codes "COLUMNS") line (map (λ f. f.now) fields.now)) ≡ true
@@ -53,18 +53,6 @@ fn take_marker_line(draft: &mut Draft, line: u32, fields: &[&str]) -> Result<(),
     match fields {
         [_, _, word] => take_marker(&mut draft.columns, line, word),
         _ => Err(MpsError::FieldCount { line }),
-    }
-}
-
-impl ColumnTable {
-    /// Whether the last line is one of a column.
-    fn is_open(&self, number: usize) -> bool
-        ensures { result ≡ option_map_or (λ j. j == number) self.now.open false }
-    {
-        match self.open {
-            Some(open) => open == number,
-            None => false,
-        }
     }
 }
 
@@ -100,7 +88,7 @@ fn open_column(
 {
     match columns.names.get_index_of(name) {
         Some(number) => {
-            if columns.is_open(number) {
+            if is_at(columns.open, number) {
                 Ok(number)
             } else {
                 Err(MpsError::SplitColumn { line })
@@ -118,12 +106,7 @@ fn has_entries(fields: &[&str]) -> bool
 }
 
 /// Takes a line with one or two entries of a column: FieldCount comes first, then SplitColumn, then what is wrong with each entry.
-fn take_entry_line(
-    alloc: Global,
-    draft: &mut Draft,
-    line: u32,
-    fields: &[&str],
-) -> Result<(), MpsError>
+fn take_entry_line(alloc: Global, draft: &mut Draft, line: u32, fields: &[&str]) -> Taken
     ensures { (before : List Line) → Stands before draft.old → is_among (codes "COLUMNS") (words_of before) ≡ true
         → is_among (codes "ROWS") (words_of before) ≡ true → items_of (codes "BOUNDS") before ≡ []
         → is_marker_of (item (codes "COLUMNS") line (map (λ f. f.now) fields.now)) ≡ false
@@ -138,12 +121,7 @@ fn take_entry_line(
 
 /// Takes a line of COLUMNS: a marker, or a column with one or two entries. FieldCount comes first, then for a marker Marker, else
 /// SplitColumn, then what is wrong with each entry.
-pub fn take_column_line(
-    alloc: Global,
-    draft: &mut Draft,
-    line: u32,
-    fields: &[&str],
-) -> Result<(), MpsError>
+pub fn take_column_line(alloc: Global, draft: &mut Draft, line: u32, fields: &[&str]) -> Taken
     ensures { (before : List Line) → Stands before draft.old → is_among (codes "COLUMNS") (words_of before) ≡ true
         → is_among (codes "ROWS") (words_of before) ≡ true → items_of (codes "BOUNDS") before ≡ []
         → IsTaken before (item (codes "COLUMNS") line (map (λ f. f.now) fields.now)) draft.new result }

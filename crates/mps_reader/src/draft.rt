@@ -1,11 +1,13 @@
 //! What was read of a text so far.
 
-ghost use Rattle.std.specs.Prelude.{[]};
+ghost use Rattle.std.specs.Prelude.{◌≡◌, ◌==◌, [], false};
+ghost use Rattle.std.specs.Option.{option_map_or};
+ghost use Rattle.mps_reader.specs.Internal.Drafted.{is_free_kind};
 ghost use Rattle.mps_reader.specs.Internal.Progress.{Stands};
 
 use crate::sections::Section;
 use indexmap::IndexSet;
-use mps_defs::Number;
+use mps_defs::{MpsError, Number};
 use std::alloc::Global;
 
 /// The kind of a row.
@@ -19,6 +21,18 @@ pub enum RowKind {
     AtLeast,
     /// Equal to its right side.
     Equal,
+}
+
+impl RowKind {
+    /// Whether a row of this kind has no sides.
+    pub fn is_free(self) -> bool
+        ensures { result ≡ is_free_kind self }
+    {
+        match self {
+            RowKind::Free => true,
+            RowKind::AtMost | RowKind::AtLeast | RowKind::Equal => false,
+        }
+    }
 }
 
 /// A row so far: its kept entries by column number, zeros among them, its kept right side and range, and the most decimals of these.
@@ -65,6 +79,19 @@ pub struct ColumnTable {
     /// The column of the last line of COLUMNS, where that is no marker.
     pub open: Option<usize>,
 }
+
+/// Whether a number is this one.
+pub fn is_at(place: Option<usize>, number: usize) -> bool
+    ensures { result ≡ option_map_or (λ j. j == number) place false }
+{
+    match place {
+        Some(place) => place == number,
+        None => false,
+    }
+}
+
+/// What taking a line, or a part of one, answers: nothing, or its first fault.
+pub type Taken = Result<(), MpsError>;
 
 /// The names of the kept sets: those of the first data line of each section.
 #[derive(Drop)]

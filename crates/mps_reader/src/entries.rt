@@ -11,7 +11,7 @@ ghost use Rattle.mps_reader.specs.Internal.Progress.{kind_word};
 ghost use Rattle.mps_reader.specs.Internal.Taking.{IsDone, IsPut, IsRead, IsEntryTaken, AreEntriesTaken, RowsHave, Owns, counts_on};
 ghost use Rattle.mps_reader.specs.Internal.Taking.{has_number};
 
-use crate::draft::{RowDraft, RowKind, RowTable};
+use crate::draft::{RowDraft, RowTable, Taken, is_at};
 use decimals::read_number;
 use mps_defs::{MpsError, Number};
 use std::alloc::AllocError;
@@ -32,30 +32,6 @@ fn decimals_of(number: Number) -> u32
     match number {
         Number::Dec { units: _, decimals } => decimals,
         Number::Large { negative: _ } => 0,
-    }
-}
-
-impl RowKind {
-    /// Whether a row of this kind has no sides.
-    fn is_free(self) -> bool
-        ensures { result ≡ bytes_eq (kind_word self) (codes "N") }
-    {
-        match self {
-            RowKind::Free => true,
-            RowKind::AtMost | RowKind::AtLeast | RowKind::Equal => false,
-        }
-    }
-}
-
-impl RowTable {
-    /// Whether a row is the objective, by its number.
-    fn is_objective(&self, row: usize) -> bool
-        ensures { result ≡ option_map_or (λ j. j == row) self.now.objective false }
-    {
-        match self.objective {
-            Some(objective) => objective == row,
-            None => false,
-        }
     }
 }
 
@@ -108,7 +84,7 @@ impl RowDraft {
     }
 
     /// Writes a number that counts.
-    fn write(&mut self, owner: Owner, line: u32, number: Number) -> Result<(), MpsError>
+    fn write(&mut self, owner: Owner, line: u32, number: Number) -> Taken
         ensures { IsDone (when (nat_lt 9 (decimals_in number)) (Out.Digits line)
             ++ when (has_number owner self.old) (Out.TwiceEntry line)) (λ _. IsPut owner number self.old self.new) result }
     {
@@ -145,18 +121,12 @@ fn read_entry(
 
 /// Takes an entry: UnknownRow where no row has that name, Number where the text is none; and where it counts Digits where it has more
 /// than nine decimals, and TwiceEntry where it was written before.
-pub fn take_entry(
-    rows: &mut RowTable,
-    owner: Owner,
-    line: u32,
-    row: &str,
-    text: &str,
-) -> Result<(), MpsError>
+pub fn take_entry(rows: &mut RowTable, owner: Owner, line: u32, row: &str, text: &str) -> Taken
     ensures { (ls : List Line) (es : List Entry) (name : List ℕ) → RowsHave ls owner es rows.old → Owns ls owner name
         → IsEntryTaken ls owner es rows.new (entry_of line name row.now text.now) result }
 {
     let (place, number) = read_entry(rows, line, row, text)?;
-    let is_objective = rows.is_objective(place);
+    let is_objective = is_at(rows.objective, place);
     match rows.rows.get_mut(place) {
         Some(row) => {
             if owner.keeps(row.kind.is_free(), is_objective) {
@@ -170,12 +140,7 @@ pub fn take_entry(
 }
 
 /// Takes one or two entries.
-pub fn take_entries(
-    rows: &mut RowTable,
-    owner: Owner,
-    line: u32,
-    fields: &[&str],
-) -> Result<(), MpsError>
+pub fn take_entries(rows: &mut RowTable, owner: Owner, line: u32, fields: &[&str]) -> Taken
     ensures { (ls : List Line) (es : List Entry) (name : List ℕ) → RowsHave ls owner es rows.old → Owns ls owner name
         → AreEntriesTaken ls owner es rows.new (entries_from line name (map (λ f. f.now) fields.now)) result }
 {

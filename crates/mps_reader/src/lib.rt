@@ -18,8 +18,6 @@ mod rounding;
 mod row_list;
 mod rows;
 mod sections;
-#[cfg(test)]
-mod tests;
 
 pub use mps_defs::{How, MpsError, Side};
 pub use reader::read;

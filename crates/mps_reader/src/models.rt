@@ -1,7 +1,6 @@
 //! The model of a draft, or the first fault of its columns and limits.
 
 ghost use Rattle.std.specs.Prelude.{◌≡◌, ◌≤◌, ◌<◌, IfOk, List, ℕ, Some, length, neg_ℤ, slice_get, string_bytes, unwrap_or};
-ghost use Rattle.std.specs.List.{list_any};
 ghost use Rattle.std.specs.Option.{ForSome};
 ghost use Rattle.decimals.specs.Decimals.{IsBelowLarge};
 ghost use Rattle.ip_defs.specs.Limits.{IsWellShaped};
@@ -9,9 +8,9 @@ ghost use Rattle.mps_defs.specs.Records.{Line};
 ghost use Rattle.mps_defs.specs.TextModels.{no_number, units as units_of};
 ghost use Rattle.mps_reader.specs.Internal.Below.{AreRowsBelow, AreWithin, IsRowBelow};
 ghost use Rattle.mps_reader.specs.Internal.Clamps.{clamped as clamped_of, clamped_parts};
-ghost use Rattle.mps_reader.specs.Internal.Drafted.{AnswersFaults, drafted_column_faults, drafted_model, is_end as is_end_of};
+ghost use Rattle.mps_reader.specs.Internal.Drafted.{AnswersFaults, drafted_column_faults, drafted_model};
 ghost use Rattle.mps_reader.specs.Internal.Drafted.{drafted_row_names};
-ghost use Rattle.mps_reader.specs.Internal.DraftModels.{HasCounts, IsDrafted, IsFinished, IsLimited, IsMade};
+ghost use Rattle.mps_reader.specs.Internal.DraftModels.{HasCounts, IsFinished, IsLimited, IsMade};
 ghost use Rattle.mps_defs.specs.TextModels.{IsHow};
 ghost use Rattle.mps_reader.specs.Internal.Progress.{Stands};
 ghost use Rattle.mps_reader.specs.declared.draft.RowDraft.{RowDraft};
@@ -21,7 +20,7 @@ use crate::column_list::column_list;
 use crate::column_rules::{Rule, check_columns};
 use crate::draft::{Draft, RowDraft};
 use crate::row_list::{NO_NUMBER, decimals_of, name_of, row_list};
-use crate::sections::Section;
+use crate::sections::{Section, has_section};
 use decimals::units;
 use ip_defs::{Limit, Listed, Parts, What};
 use ip_model::{IntModel, make};
@@ -30,23 +29,6 @@ use std::alloc::{AllocError, Global};
 
 /// The most columns of a model.
 const MOST_COLUMNS: usize = 4_096;
-
-/// Whether a section is ENDATA.
-fn is_end(section: Section) -> bool
-    ensures { result ≡ is_end_of section }
-{
-    match section {
-        Section::End => true,
-        _ => false,
-    }
-}
-
-/// Whether ENDATA is among the sections.
-fn has_end(sections: &[Section]) -> bool
-    ensures { result ≡ list_any is_end_of sections.now }
-{
-    sections.iter().any(|section| is_end(*section))
-}
 
 /// The first column that is not integer, else the first that lacks a bound, else the first with a negative upper bound.
 fn check_draft(alloc: Global, draft: &Draft, how: How) -> Result<(), MpsError>
@@ -148,39 +130,21 @@ fn model_within(
     }
 }
 
-/// The model of a draft with its objective, or the first fault of its columns and limits.
-fn model_with(
-    alloc: Global,
-    draft: &Draft,
-    objective: usize,
-    how: How,
-) -> Result<IntModel, MpsError>
-    requires how { IsHow how }
-    requires counts { HasCounts draft.now }
-    requires below { length draft.now.columns.columns.items ≤ 4096 → AreRowsBelow draft.now.rows.rows.items }
-    requires objective { objective < length draft.now.rows.rows.items }
-    requires shaped { (name : List ℕ) × (r : RowDraft) × (slice_get (drafted_row_names draft.now) objective ≡ Some name)
-        × (slice_get draft.now.rows.rows.items objective ≡ Some r) × IsWellShaped (clamped_parts (drafted_model draft.now how name r)) }
-    ensures { (name : List ℕ) (r : RowDraft) → slice_get (drafted_row_names draft.now) objective ≡ Some name
-        → slice_get draft.now.rows.rows.items objective ≡ Some r → IsDrafted draft.now how name r result }
-{
-    match check_draft(alloc, draft, how) {
-        Ok(()) => model_within(alloc, draft, objective, how),
-        Err(error) => Err(error),
-    }
-}
-
 /// The model of a draft of all lines, or the first fault of the whole: no ENDATA, no objective, then the columns, then the limits.
 pub fn model_of(alloc: Global, draft: &Draft, how: How) -> Result<IntModel, MpsError>
     requires how { IsHow how }
     requires stands { (ls : List Line) × Stands ls draft.now }
     ensures { (ls : List Line) → Stands ls draft.now → IsFinished ls how result }
 {
-    if !has_end(draft.sections.as_slice()) {
+    if !has_section(draft.sections.as_slice(), Section::End) {
         return Err(MpsError::NoEnd);
     }
-    match draft.rows.objective {
-        Some(objective) => model_with(alloc, draft, objective, how),
-        None => Err(MpsError::NoObjective),
+    let objective = match draft.rows.objective {
+        Some(objective) => objective,
+        None => return Err(MpsError::NoObjective),
+    };
+    match check_draft(alloc, draft, how) {
+        Ok(()) => model_within(alloc, draft, objective, how),
+        Err(error) => Err(error),
     }
 }

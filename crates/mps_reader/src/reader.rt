@@ -12,7 +12,7 @@ ghost use Rattle.mps_reader.specs.Internal.Reading.{IsDraftOf, IsLineTaken, last
 
 use crate::bounds::take_bound_line;
 use crate::columns::take_column_line;
-use crate::draft::Draft;
+use crate::draft::{Draft, Taken};
 use crate::fields::fields_of;
 use crate::lines::{cut_return, is_comment, is_indented, lines_in};
 use crate::models::model_of;
@@ -25,7 +25,7 @@ use std::alloc::Global;
 
 /// Takes a data line, which belongs to the last section. `SectionOrder` comes where ROWS is missing; the other faults are those of its
 /// section.
-fn take_item(alloc: Global, draft: &mut Draft, line: u32, fields: &[&str]) -> Result<(), MpsError>
+fn take_item(alloc: Global, draft: &mut Draft, line: u32, fields: &[&str]) -> Taken
     ensures { (before : List Line) → Stands before draft.old → is_among (codes "ENDATA") (words_of before) ≡ false
         → IsTaken before (item (last_word_of (words_of before)) line (map (λ f. f.now) fields.now)) draft.new result }
 {

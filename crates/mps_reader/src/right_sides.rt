@@ -7,7 +7,7 @@ ghost use Rattle.mps_defs.specs.Records.{Line, words_of, item};
 ghost use Rattle.mps_reader.specs.Internal.Progress.{IsTaken, Stands, section_word};
 ghost use Rattle.mps_reader.specs.Internal.Taking.{IsSetKept, IsSetLine, set_owner};
 
-use crate::draft::{Draft, Sets};
+use crate::draft::{Draft, Sets, Taken};
 use crate::entries::{Owner, take_entries};
 use crate::kept_sets::keep_set;
 use crate::sections::Section;
@@ -51,7 +51,7 @@ pub fn take_set_line(
     section: Section,
     line: u32,
     fields: &[&str],
-) -> Result<(), MpsError>
+) -> Taken
     ensures { (before : List Line) → Stands before draft.old
         → is_among (section_word section) (codes "RHS" ∷ codes "RANGES" ∷ []) ≡ true
         → is_among (section_word section) (words_of before) ≡ true → is_among (codes "ROWS") (words_of before) ≡ true

@@ -8,7 +8,7 @@ ghost use Rattle.mps_defs.specs.TextModels.{is_open as is_open_of, no_number, pl
 ghost use Rattle.mps_defs.specs.TextModels.{row_sides as row_sides_of};
 ghost use Rattle.mps_reader.specs.Internal.Below.{AreBelowLarge, AreRowsBelow, AreWithin, IsRowBelow};
 ghost use Rattle.mps_reader.specs.Internal.Clamps.{clamped_coefs, clamped_row, clamped_sides};
-ghost use Rattle.mps_reader.specs.Internal.Drafted.{drafted_coefs, drafted_decimals, drafted_row, drafted_rows, is_free_kind};
+ghost use Rattle.mps_reader.specs.Internal.Drafted.{drafted_coefs, drafted_decimals, drafted_row, drafted_rows};
 ghost use Rattle.mps_reader.specs.Internal.Progress.{kind_word};
 
 use crate::clamps::{clamped, clamped_above, clamped_below};
@@ -23,16 +23,6 @@ pub fn name_of(alloc: Global, text: &str) -> Result<Name, AllocError>
     ensures { IfOk result (λ name. name ≡ text.now) }
 {
     Ok(Name::new(String::from_str(alloc, text)?))
-}
-
-/// Whether a row has no sides: the objective or a row that is dropped.
-fn is_free(kind: RowKind) -> bool
-    ensures { result ≡ is_free_kind kind }
-{
-    match kind {
-        RowKind::Free => true,
-        RowKind::AtMost | RowKind::AtLeast | RowKind::Equal => false,
-    }
 }
 
 /// The decimals of a row.
@@ -201,7 +191,7 @@ pub fn row_list(
     let mut list = Vec::new(alloc);
     for (i, row) in rows.iter().enumerate() {
         let name = names[i].as_str();
-        if !is_free(row.kind) {
+        if !row.kind.is_free() {
             list.push(row_of(alloc, name, row, how)?)?;
         }
     }

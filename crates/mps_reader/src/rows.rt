@@ -8,7 +8,7 @@ ghost use Rattle.mps_defs.specs.Records.{Line, words_of, item};
 ghost use Rattle.mps_reader.specs.declared.draft.Draft.{Draft as DraftOf};
 ghost use Rattle.mps_reader.specs.Internal.Progress.{IsNewRow, IsTaken, IsWithRow, Stands, kind_word};
 
-use crate::draft::{Draft, RowDraft, RowKind, RowTable};
+use crate::draft::{Draft, RowDraft, RowKind, RowTable, Taken};
 use mps_defs::MpsError;
 use std::alloc::{AllocError, Global};
 
@@ -61,13 +61,7 @@ fn add_row(alloc: Global, table: &mut RowTable, kind: RowKind, name: &str) -> Re
 }
 
 /// Takes a row of a kind and a name. `RowKind` comes first, then `TwiceRow`, then `Marker` where the name is that of a marker.
-fn take_row(
-    alloc: Global,
-    table: &mut RowTable,
-    line: u32,
-    kind: &str,
-    name: &str,
-) -> Result<(), MpsError>
+fn take_row(alloc: Global, table: &mut RowTable, line: u32, kind: &str, name: &str) -> Taken
     ensures { (before : List Line) (d : DraftOf) → d.rows ≡ table.old → Stands before d
         → is_among (codes "ROWS") (words_of before) ≡ true → last_of (words_of before) ≡ Some (codes "ROWS")
         → IsTaken before (item (codes "ROWS") line (kind.now ∷ name.now ∷ [])) (record d { rows = table.new }) result }
@@ -87,12 +81,7 @@ fn take_row(
 }
 
 /// Takes a line of ROWS: a kind and a name. `FieldCount` comes before the faults of the row.
-pub fn take_row_line(
-    alloc: Global,
-    draft: &mut Draft,
-    line: u32,
-    fields: &[&str],
-) -> Result<(), MpsError>
+pub fn take_row_line(alloc: Global, draft: &mut Draft, line: u32, fields: &[&str]) -> Taken
     ensures { (before : List Line) → Stands before draft.old → is_among (codes "ROWS") (words_of before) ≡ true
         → last_of (words_of before) ≡ Some (codes "ROWS")
         → IsTaken before (item (codes "ROWS") line (map (λ f. f.now) fields.now)) draft.new result }

@@ -8,7 +8,7 @@ ghost use Rattle.mps_defs.specs.Records.{Line, opening};
 ghost use Rattle.mps_defs.specs.Faults.{is_before as is_before_of, may_come as may_come_of, section_place};
 ghost use Rattle.mps_reader.specs.Internal.Progress.{IsTaken, Stands, section_word};
 
-use crate::draft::Draft;
+use crate::draft::{Draft, Taken};
 use mps_defs::MpsError;
 
 /// The sections of a text, in their order.
@@ -69,7 +69,7 @@ fn is_same(section: Section, other: Section) -> bool
 }
 
 /// Whether a section is among those before.
-fn has_section(sections: &[Section], section: Section) -> bool
+pub fn has_section(sections: &[Section], section: Section) -> bool
     ensures { result ≡ is_among (section_word section) (map section_word sections.now) }
 {
     sections.iter().any(|other| is_same(section, *other))
@@ -107,7 +107,7 @@ pub fn last_section(sections: &[Section]) -> Option<Section>
 }
 
 /// Takes a section line. `UnknownSection` comes where its word is none of the seven, then `SectionOrder` where it may not come now.
-pub fn take_section(draft: &mut Draft, line: u32, word: &str) -> Result<(), MpsError>
+pub fn take_section(draft: &mut Draft, line: u32, word: &str) -> Taken
     ensures { (before : List Line) (others : List (List ℕ)) → Stands before draft.old
         → IsTaken before (opening line (word.now ∷ others) word.now) draft.new result }
 {

@@ -23,55 +23,47 @@ nodes_of_places {L} {S} d b (split col cut y left right) =
 
 -- ---- counts
 
+-- the length of two lists together
+lengths_joined : {A : Type 0} (xs ys : List A) (m n : ℕ) → length xs ≡ m → length ys ≡ n → length (xs ++ ys) ≡ m + n
+lengths_joined xs ys m n first second = omega (arith, length-append xs ys)
+
 -- each node stands once in the lists of nodes
 pub nodes_counted : {L S : Type 0} (t : LabelledTree L S) → length (nodes t) ≡ node_count t
 nodes_counted (leaf x) = refl
 nodes_counted (split col cut y left right) =
-    let first = nodes_counted left in
-    let second = nodes_counted right in
-    let sum = length-append (nodes left) (nodes right) in
-    omega arith
+    omega (arith, lengths_joined _ _ _ _ (nodes_counted left) (nodes_counted right))
 
 pub nodes_from_counted : {L S : Type 0} (d : ℕ) (t : LabelledTree L S) → length (nodes_from d t) ≡ node_count t
 nodes_from_counted d (leaf x) = refl
 nodes_from_counted d (split col cut y left right) =
-    let first = nodes_from_counted (d + 1) left in
-    let second = nodes_from_counted (d + 1) right in
-    let sum = length-append (nodes_from (d + 1) left) (nodes_from (d + 1) right) in
-    omega arith
+    omega (arith, lengths_joined _ _ _ _ (nodes_from_counted (d + 1) left) (nodes_from_counted (d + 1) right))
 
 pub places_counted : {L S : Type 0} (d : ℕ) (b : List (ℤ × ℤ)) (t : LabelledTree L S) → length (places_from d b t) ≡ node_count t
 places_counted d b (leaf x) = refl
 places_counted d b (split col cut y left right) =
-    let first = places_counted (d + 1) (below b col cut) left in
-    let second = places_counted (d + 1) (above b col cut) right in
-    let sum = length-append (places_from (d + 1) (below b col cut) left) (places_from (d + 1) (above b col cut) right) in
-    omega arith
+    omega (arith, lengths_joined _ _ _ _ (places_counted (d + 1) (below b col cut) left) (places_counted (d + 1) (above b col cut) right))
 
 -- a tree has one more leaf than splits
 pub leaves_counted : {L S : Type 0} (b : List (ℤ × ℤ)) (t : LabelledTree L S) → 2 * length (leaves t b) ≡ node_count t + 1
 leaves_counted b (leaf x) = refl
 leaves_counted b (split col cut y left right) =
-    let first = leaves_counted (below b col cut) left in
-    let second = leaves_counted (above b col cut) right in
-    let sum = length-append (leaves left (below b col cut)) (leaves right (above b col cut)) in
-    omega arith
+    let all = length-append (leaves left (below b col cut)) (leaves right (above b col cut)) in
+    omega (arith, all, leaves_counted (below b col cut) left, leaves_counted (above b col cut) right)
 
 pub labels_counted : {L S : Type 0} (t : LabelledTree L S) → 2 * length (split_labels t) + 1 ≡ node_count t
 labels_counted (leaf x) = refl
 labels_counted (split col cut y left right) =
-    let first = labels_counted left in
-    let second = labels_counted right in
-    let sum = length-append (split_labels left) (split_labels right) in
-    omega arith
+    omega (arith, labels_counted left, labels_counted right, length-append (split_labels left) (split_labels right))
 
 pub splits_counted : {L S : Type 0} (b : List (ℤ × ℤ)) (t : LabelledTree L S) → 2 * length (splits_over b t) + 1 ≡ node_count t
 splits_counted b (leaf x) = refl
 splits_counted b (split col cut y left right) =
-    let first = splits_counted (below b col cut) left in
-    let second = splits_counted (above b col cut) right in
-    let sum = length-append (splits_over (below b col cut) left) (splits_over (above b col cut) right) in
-    omega arith
+    omega (
+      arith,
+      splits_counted (below b col cut) left,
+      splits_counted (above b col cut) right,
+      length-append (splits_over (below b col cut) left) (splits_over (above b col cut) right),
+    )
 
 -- ---- depths
 
@@ -108,16 +100,12 @@ module _ {L L' S S' : Type 0} (f : L → L') (g : S → S') where
   pub relabelled_count : (t : LabelledTree L S) → node_count (relabelled f g t) ≡ node_count t
   relabelled_count (leaf x) = refl
   relabelled_count (split col cut y left right) =
-      let first = relabelled_count left in
-      let second = relabelled_count right in
-      omega arith
+      omega (arith, relabelled_count left, relabelled_count right)
 
   pub relabelled_depth : (t : LabelledTree L S) → depth (relabelled f g t) ≡ depth t
   relabelled_depth (leaf x) = refl
   relabelled_depth (split col cut y left right) =
-      let first = relabelled_depth left in
-      let second = relabelled_depth right in
-      omega arith
+      omega (arith, relabelled_depth left, relabelled_depth right)
 
   pub relabelled_splits : (b : List (ℤ × ℤ)) (t : LabelledTree L S) → splits_over b (relabelled f g t) ≡ splits_over b t
   relabelled_splits b (leaf x) = refl

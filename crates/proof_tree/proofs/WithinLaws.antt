@@ -3,9 +3,11 @@ use Rattle.std.specs.Prelude.{◌≡◌, ℕ, ℤ, zero, suc, ◌+◌, ◌^◌, 
 use Rattle.std.specs.Prelude.{Bool, true, false, Option, Some, None}
 use Rattle.std.specs.Int.RustNames.{unsigned_abs}
 use Rattle.std.specs.List.{list_all}
+use Rattle.std.specs.Option.{option_or}
 use Rattle.std.proofs.Common.{refl, arith}
 use Rattle.std.proofs.lemmas.Bool.{eqb-true}
 use Rattle.ip_defs.specs.declared.certificates.Cert.{Cert}
+use Rattle.ip_defs.specs.declared.programs.Parts.{Parts}
 use Rattle.ip_defs.specs.Limits.{index_at}
 use Rattle.ip_defs.specs.Lists.{Each}
 use Rattle.ip_defs.proofs.FirstLaws.{either_none}
@@ -17,8 +19,8 @@ use Rattle.proof_tree.specs.declared.faults.ShapeWhat.{ShapeWhat}
 use Rattle.proof_tree.specs.declared.faults.ShapeWhat.TheVariants.{ColumnNumber, RowNumber}
 use Rattle.proof_tree.specs.declared.faults.TreeLimit.TheVariants as Exceeded
 use Rattle.proof_tree.specs.LabelledTrees.{leaf, split, leaf_node, split_node, nodes, nodes_from}
-use Rattle.proof_tree.specs.Trees.{plain, PlainTree, Node, FitsColumns, FitsRows, is_cert, own_limit, limit_at, first_from, tree_limit}
-use Rattle.proof_tree.specs.Trees.{own_misfit, with_number, misfit_at, tree_misfit}
+use Rattle.proof_tree.specs.Trees.{plain, PlainTree, Node, FitsColumns, FitsModel, FitsRows, is_cert, own_limit, limit_at, first_from}
+use Rattle.proof_tree.specs.Trees.{tree_limit, own_misfit, with_number, misfit_at, tree_misfit}
 use Rattle.proof_tree.specs.Verdicts.{HasLength, claim_misfit, length_misfit}
 use Rattle.proof_tree.specs.Within.{AreNumbersWithin, IsTreeWithin, LimitsAreExact, MisfitsAreTrue}
 use Rattle.proof_tree.proofs.CertLaws.{cert_exact}
@@ -83,14 +85,17 @@ length_fits n (Best x) e = by (length x == n) refl e
     by true f e = eqb-true (length x) n f
     by false f e = absurd cc
 
-pub misfits_are_true : MisfitsAreTrue
-misfits_are_true m p e =
+pub fits_of : (m : Parts) (c : Claim) (t : PlainTree) → option_or (claim_misfit (length m.columns) c)
+    (tree_misfit (length m.columns) (length m.rows) t) ≡ None → HasLength (length m.columns) c × FitsModel m t
+fits_of m c t e =
     let columns : ℕ = length m.columns in
     let rows : ℕ = length m.rows in
-    let t = plain p.tree in
-    let both = either_none (claim_misfit columns p.claim) (tree_misfit columns rows t) e in
+    let both = either_none (claim_misfit columns c) (tree_misfit columns rows t) e in
     let none = none_misfits columns rows 0 (nodes t) both.1 in
-    (length_fits columns p.claim both.0, record { columns = fits_by columns rows t none; rows = rows_by columns rows t none })
+    (length_fits columns c both.0, record { columns = fits_by columns rows t none; rows = rows_by columns rows t none })
+
+pub misfits_are_true : MisfitsAreTrue
+misfits_are_true m p e = fits_of m p.claim (plain p.tree) e
 
 -- ---- limits
 

@@ -1,5 +1,5 @@
 pub mod LabelledTrees
-pub mod Room
+pub mod Scratches
 pub mod Trees
 pub mod Verdicts
 pub mod Within

@@ -6,8 +6,6 @@ mod faults;
 mod fits;
 mod laws;
 mod limits;
-#[cfg(test)]
-mod tests;
 mod trees;
 mod verdicts;
 mod walks;
@@ -22,4 +20,4 @@ pub use laws::{
 pub use limits::tree_limits;
 pub use trees::Tree;
 pub use verdicts::Verdict;
-pub use walks::tree_bound;
+pub use walks::{lesser, tree_bound};

@@ -3,8 +3,8 @@ ghost use Rattle.std.specs.Prelude.{List, ℤ, ◌≡◌, length};
 ghost use Rattle.ip_defs.specs.Limits.{IsArea};
 ghost use Rattle.ip_defs.specs.Certificates.{IsAtMost};
 ghost use Rattle.ip_defs.specs.Program.{box_of, cost, IsFeasible};
-ghost use Rattle.leaf_cert.specs.Room.{FitsScratch, room_of};
-ghost use Rattle.proof_tree.specs.Room.{HasRoom};
+ghost use Rattle.leaf_cert.specs.Scratches.{FitsScratch, column_count_of};
+ghost use Rattle.proof_tree.specs.Scratches.{FitsWalk};
 ghost use Rattle.proof_tree.specs.Trees.{plain, bound_min, bound_over, tree_bound as tree_bound_of, FitsColumns, FitsModel, FitsRows};
 ghost use Rattle.proof_tree.specs.Within.{AreNumbersWithin, IsTreeWithin};
 
@@ -15,8 +15,8 @@ use leaf_cert::{Scratch, leaf_bound};
 use std::alloc::Global;
 use std::mem;
 
-/// The lesser of two bounds.
-fn lesser(first: Bound, second: Bound) -> Bound
+/// The lesser of two bounds: an infinite one is greater than each other.
+pub fn lesser(first: Bound, second: Bound) -> Bound
     ensures { result ≡ bound_min first second }
 {
     match (first, second) {
@@ -33,10 +33,10 @@ fn walk(model: &IntModel, tree: &Tree, area: &mut Area, scratch: &mut Scratch) -
     requires columns { FitsColumns (length model.now.columns) (plain tree.now) }
     requires rows { FitsRows (length model.now.rows) (plain tree.now) }
     requires area { IsArea (length model.now.columns) area.old }
-    requires room { FitsScratch model.now scratch.old }
+    requires scratch { FitsScratch model.now scratch.old }
     ensures bound { result ≡ bound_over model.now (plain tree.now) area.old }
     ensures restored { area.new ≡ area.old }
-    ensures room { room_of scratch.new ≡ room_of scratch.old }
+    ensures scratch { column_count_of scratch.new ≡ column_count_of scratch.old }
 {
     match tree {
         Tree::Leaf(cert) => leaf_bound(model, cert, area, scratch),
@@ -70,10 +70,10 @@ fn bound_in(model: &IntModel, tree: &Tree, area: &mut Area, scratch: &mut Scratc
     requires limits { IsTreeWithin (plain tree.now) }
     requires fits { FitsModel model.now (plain tree.now) }
     requires area { length area.old ≡ length model.now.columns }
-    requires room { FitsScratch model.now scratch.old }
+    requires scratch { FitsScratch model.now scratch.old }
     ensures bound { result ≡ tree_bound_of model.now (plain tree.now) }
     ensures area { area.new ≡ box_of model.now }
-    ensures room { room_of scratch.new ≡ room_of scratch.old }
+    ensures scratch { column_count_of scratch.new ≡ column_count_of scratch.old }
 {
     set_box(model, area);
     walk(model, tree, area, scratch)
@@ -88,11 +88,11 @@ fn bound_in(model: &IntModel, tree: &Tree, area: &mut Area, scratch: &mut Scratc
 pub fn tree_bound(alloc: Global, model: &IntModel, tree: &Tree, scratch: &mut Scratch) -> Bound
     requires limits { IsTreeWithin (plain tree.now) }
     requires fits { FitsModel model.now (plain tree.now) }
-    requires room { HasRoom (length model.now.columns) scratch.old }
+    requires scratch { FitsWalk (length model.now.columns) scratch.old }
     ensures bound { result ≡ tree_bound_of model.now (plain tree.now) }
     ensures holds { (x : List ℤ) → IsFeasible model.now x → IsAtMost result (cost model.now x) }
     ensures area { scratch.new.area ≡ box_of model.now }
-    ensures room { HasRoom (length model.now.columns) scratch.new }
+    ensures scratch { FitsWalk (length model.now.columns) scratch.new }
 {
     let mut area = mem::replace(&mut scratch.area, Area::from_vec(Vec::new(alloc)));
     let bound = bound_in(model, tree, &mut area, scratch);

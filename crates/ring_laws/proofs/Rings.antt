@@ -47,25 +47,8 @@ whole = record {
 }
 
 module _ (R : Ring) where
-  open R use {
-    carrier,
-    of,
-    add as ◌+r◌,
-    sub as ◌-r◌,
-    mul as ◌*r◌,
-    neg,
-    add_assoc,
-    add_comm,
-    add_zero,
-    add_neg,
-    sub_is,
-    mul_assoc,
-    mul_comm,
-    mul_one,
-    mul_add,
-    of_add,
-    of_mul,
-  }
+  open R use {carrier, of, add as ◌+r◌, sub as ◌-r◌, mul as ◌*r◌, neg}
+  open R use {add_assoc, add_comm, add_zero, add_neg, sub_is, mul_assoc, mul_comm, mul_one, mul_add, of_add}
 
   infixl 60 ◌+r◌
   infixl 60 ◌-r◌

@@ -29,31 +29,13 @@ module _ (m : Parts) (b : List (ℤ × ℤ)) (n : ℕ) (T : Table) (limits : IsW
       AreNumbers (length m.rows) (slack_prices m T) y → IsBest m b n x y
   best_is x y final point prices =
       let right = best_as_read m b T of_node uncrossed final (numbers_of x) (numbers_of y) point.numbers prices.numbers in
-      record {
-        tableau = T;
-        reached = reached;
-        final = final;
-        point = point;
-        prices = prices;
-        relaxed = right.0;
-        dual = right.1;
-      }
+      record { tableau = T; reached = reached; final = final; point = point; prices = prices; relaxed = right.0; dual = right.1 }
 
   empty_is : (i : ℕ) (up : Bool) (y : List Fraction) → next T ≡ FinalRow i up → AreNumbers (length m.rows) (slack_ray m T i up) y →
       IsInfeasible m b n y
   empty_is i up y final ray =
-      let right = empty_as_read m b T of_node uncrossed i up final (numbers_of y) ray.numbers in
-      record {
-        tableau = T;
-        row = i;
-        up = up;
-        reached = reached;
-        final = final;
-        ray = ray;
-        gain = right.0;
-        dual = right.1;
-        positive = right.2;
-      }
+      let is = empty_as_read m b T of_node uncrossed i up final (numbers_of y) ray.numbers in
+      record { tableau = T; row = i; up = up; reached = reached; final = final; ray = ray; gain = is.0; dual = is.1; positive = is.2 }
 
   -- what is read off a final tableau is an answer
   pub read_is : (s : Next) (answer : LpAnswer) → s ≡ next T → IsRead T (length m.columns) (length m.rows) s answer

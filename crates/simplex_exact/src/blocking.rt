@@ -106,33 +106,14 @@ fn own_block(variable: Variable, var: u32) -> Option<(Frac, Next)>
     }
 }
 
-/// How a row's basic variable blocks the entering variable, which moves up or down.
-fn row_block(
-    tableau: &Tableau,
-    value: Frac,
-    row: u32,
-    var: u32,
-    up: bool,
-) -> Result<Option<(Frac, Next)>, Wide>
-    requires row { MayBlock tableau.now row var value }
-    ensures block { IfOk result (λ s. block_value s ≡ option_and_then (block_in tableau.now var row)
-        (side_met_by up (number tableau.now row var))) }
-    ensures wide { OnErr result (HasWideNumber tableau.now) }
-{
-    match side_met(up, tableau.entry(row, var).num()) {
-        Some(side) => block_at(tableau, value, row, var, side),
-        None => Ok(None),
-    }
-}
-
 /// How a variable blocks the entering variable, which moves up or down.
 fn block(
     tableau: &Tableau,
-    own_row: Option<u32>,
-    value: Frac,
     var: u32,
     up: bool,
     other: u32,
+    own_row: Option<u32>,
+    value: Frac,
 ) -> Result<Option<(Frac, Next)>, Wide>
     requires table { IsTable tableau.now }
     requires variable { var < length tableau.now.variables }
@@ -145,8 +126,11 @@ fn block(
     if other == var {
         return Ok(own_block(tableau.variable(var), var));
     }
-    match own_row {
-        Some(row) => row_block(tableau, value, row, var, up),
+    let Some(row) = own_row else {
+        return Ok(None);
+    };
+    match side_met(up, tableau.entry(row, var).num()) {
+        Some(side) => block_at(tableau, value, row, var, side),
         None => Ok(None),
     }
 }
@@ -179,7 +163,7 @@ pub fn nearest(
 {
     let mut best = None;
     for w in 0..basic_rows.len() {
-        match block(tableau, basic_rows[w], values[w], var, up, w as u32) {
+        match block(tableau, var, up, w as u32, basic_rows[w], values[w]) {
             Ok(found) => best = nearer(best, found),
             Err(Wide) => return Err(Wide),
         }

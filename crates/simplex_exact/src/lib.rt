@@ -10,8 +10,6 @@ mod numbers;
 mod sides;
 mod signs;
 mod solving;
-#[cfg(test)]
-mod tests;
 
 pub use answers::LpAnswer;
 pub use lp_duality::Fracs;

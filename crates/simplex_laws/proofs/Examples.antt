@@ -2,7 +2,7 @@
 use Rattle.std.specs.Prelude.{◌≡◌, ℕ, ◌^◌, [], ◌∷◌, List, false, Some, None, Ok, ℤ, pos, negsuc, refl}
 use Rattle.std.proofs.Common.{arith}
 use Rattle.frac128.specs.Gcd.{gcd}
-use Rattle.frac128.specs.Fractions.{Fraction, lowest_of, sum_of, product_of, whole}
+use Rattle.frac128.specs.Fractions.{lowest_of, sum_of, product_of, whole}
 use Rattle.frac128.specs.Rationals.{S, over, both, of, add, sub, mul, neg, inverse, rational}
 use Rattle.ip_defs.specs.declared.programs.Parts.{Parts}
 use Rattle.lp_duality.specs.Duals.{dual}
@@ -12,38 +12,26 @@ use Rattle.tableau.specs.declared.positions.Rest.TheVariants.{Basic, Low, High}
 use Rattle.tableau.specs.Tables.{Table}
 use Rattle.tableau.specs.Nodes.{start_of}
 use Rattle.tableau.specs.Pivots.{after_flip}
+use Rattle.tableau.proofs.Examples.{program, column, row, variable, fraction}
 use Rattle.simplex_laws.specs.declared.next.Next.TheVariants.{Pivot, Flip, FinalRow, FinalPoint}
 use Rattle.simplex_laws.specs.Steps.{next}
 use Rattle.simplex_laws.specs.Runs.{after, IsNotFinal}
 use Rattle.simplex_laws.specs.Wides.{HasWideNumber, wide_value}
 use Rattle.simplex_laws.specs.Finals.{point_of, slack_prices, slack_ray}
 
-abbrev ratio : ℤ → ℤ → Fraction
-ratio n d = record { num = n; den = d }
-
 -- ---- least -x with 2x <= 3 and x from 0 to 2
 abbrev pub half : Parts
-half = record {
-  objective = [];
-  cost_decimals = 0;
-  constant = pos 0;
-  columns = record { name = []; cost = negsuc 0; lo = pos 0; hi = pos 2 } ∷ [];
-  rows = record { name = []; decimals = 0; coefs = (0, pos 2) ∷ []; low = None; high = Some (pos 3) } ∷ [];
-}
+half = program (pos 0) (column (negsuc 0) (pos 0) (pos 2) ∷ []) (row ((0, pos 2) ∷ []) None (Some (pos 3)) ∷ [])
 
 abbrev half_box : List (ℤ × ℤ)
 half_box = (pos 0, pos 2) ∷ []
 
 abbrev half_last : Table
 half_last = record {
-  rows = (whole (pos 1) ∷ ratio (negsuc 0) (pos 2) ∷ []) ∷ [];
+  rows = (whole (pos 1) ∷ fraction (negsuc 0) (pos 2) ∷ []) ∷ [];
   basics = 0 ∷ [];
   positions = Basic ∷ High ∷ [];
-  variables = record { low = Some (pos 0); high = Some (pos 2); cost = negsuc 0 } ∷ record {
-    low = None;
-    high = Some (pos 3);
-    cost = pos 0;
-  } ∷ [];
+  variables = variable (Some (pos 0)) (Some (pos 2)) (negsuc 0) ∷ variable None (Some (pos 3)) (pos 0) ∷ [];
 }
 
 pub half_pivots : next (start_of half half_box) ≡ Pivot 0 0 High
@@ -84,13 +72,8 @@ half_stays = refl
 
 -- ---- x + y >= 3 with x and y from 0 to 1: x enters in the row and is then too great, then y enters, and nothing can enter for y
 abbrev pub far : Parts
-far = record {
-  objective = [];
-  cost_decimals = 0;
-  constant = pos 7;
-  columns = record { name = []; cost = pos 0; lo = pos 0; hi = pos 1 } ∷ record { name = []; cost = pos 0; lo = pos 0; hi = pos 1 } ∷ [];
-  rows = record { name = []; decimals = 0; coefs = (0, pos 1) ∷ (1, pos 1) ∷ []; low = Some (pos 3); high = None } ∷ [];
-}
+far = program (pos 7) (column (pos 0) (pos 0) (pos 1) ∷ column (pos 0) (pos 0) (pos 1) ∷ [])
+    (row ((0, pos 1) ∷ (1, pos 1) ∷ []) (Some (pos 3)) None ∷ [])
 
 abbrev far_box : List (ℤ × ℤ)
 far_box = (pos 0, pos 1) ∷ (pos 0, pos 1) ∷ []
@@ -101,11 +84,8 @@ far_at x y slack basic = record {
   rows = (whole (pos 1) ∷ whole (pos 1) ∷ whole (negsuc 0) ∷ []) ∷ [];
   basics = basic ∷ [];
   positions = x ∷ y ∷ slack ∷ [];
-  variables = record { low = Some (pos 0); high = Some (pos 1); cost = pos 0 } ∷ record {
-    low = Some (pos 0);
-    high = Some (pos 1);
-    cost = pos 0;
-  } ∷ record { low = Some (pos 3); high = None; cost = pos 0 } ∷ [];
+  variables = variable (Some (pos 0)) (Some (pos 1)) (pos 0) ∷ variable (Some (pos 0)) (Some (pos 1)) (pos 0)
+      ∷ variable (Some (pos 3)) None (pos 0) ∷ [];
 }
 
 pub far_first : next (start_of far far_box) ≡ Pivot 0 0 Low
@@ -131,13 +111,7 @@ far_gains = refl
 
 -- ---- least -x with x from 0 to 1 and x <= n: x moves to its other side, also where the row blocks it there as well
 abbrev pub one_step : ℤ → Parts
-one_step n = record {
-  objective = [];
-  cost_decimals = 0;
-  constant = pos 0;
-  columns = record { name = []; cost = negsuc 0; lo = pos 0; hi = pos 1 } ∷ [];
-  rows = record { name = []; decimals = 0; coefs = (0, pos 1) ∷ []; low = None; high = Some n } ∷ [];
-}
+one_step n = program (pos 0) (column (negsuc 0) (pos 0) (pos 1) ∷ []) (row ((0, pos 1) ∷ []) None (Some n) ∷ [])
 
 pub flips : next (start_of (one_step (pos 5)) ((pos 0, pos 1) ∷ [])) ≡ Flip 0
 unfolding next over of add sub mul neg S both inverse rational gcd
@@ -162,18 +136,8 @@ fixed_is_final = refl
 
 -- ---- the first variable with a fitting price enters, and not the one with the least price
 abbrev pub two_costs : Parts
-two_costs = record {
-  objective = [];
-  cost_decimals = 0;
-  constant = pos 0;
-  columns = record { name = []; cost = negsuc 0; lo = pos 0; hi = pos 9 } ∷ record {
-    name = [];
-    cost = negsuc 4;
-    lo = pos 0;
-    hi = pos 9;
-  } ∷ [];
-  rows = record { name = []; decimals = 0; coefs = (0, pos 1) ∷ (1, pos 1) ∷ []; low = None; high = Some (pos 4) } ∷ [];
-}
+two_costs = program (pos 0) (column (negsuc 0) (pos 0) (pos 9) ∷ column (negsuc 4) (pos 0) (pos 9) ∷ [])
+    (row ((0, pos 1) ∷ (1, pos 1) ∷ []) None (Some (pos 4)) ∷ [])
 
 pub first_enters : next (start_of two_costs ((pos 0, pos 9) ∷ (pos 0, pos 9) ∷ [])) ≡ Pivot 0 0 High
 unfolding next over of add sub mul neg S both inverse rational gcd
@@ -185,7 +149,7 @@ great = record {
   rows = (whole (pos (2 ^ 100)) ∷ whole (pos 1) ∷ []) ∷ [];
   basics = 1 ∷ [];
   positions = Low ∷ Basic ∷ [];
-  variables = record { low = Some (pos (2 ^ 100)); high = None; cost = pos 0 } ∷ record { low = None; high = None; cost = pos 0 } ∷ [];
+  variables = variable (Some (pos (2 ^ 100))) None (pos 0) ∷ variable None None (pos 0) ∷ [];
 }
 
 pub great_is_wide : HasWideNumber great

@@ -1,22 +1,6 @@
 -- Complementary slackness: a point that stands at the sides that a certificate pays is optimal.
-use Rattle.std.specs.Prelude.{
-  ◌≡◌,
-  ℕ,
-  List,
-  length,
-  Option,
-  Some,
-  None,
-  IfSome,
-  slice_get,
-  option_map,
-  option_and_then,
-  ℤ,
-  pos,
-  ◌*ℤ◌,
-  ◌≤ℤ◌,
-  ◌<ℤ◌,
-}
+use Rattle.std.specs.Prelude.{◌≡◌, ℕ, List, length, Option, Some, None, IfSome, slice_get, option_map, option_and_then, ℤ, pos, ◌*ℤ◌}
+use Rattle.std.specs.Prelude.{◌≤ℤ◌, ◌<ℤ◌}
 use Rattle.std.proofs.Common.{arith, refl, ap, sym, ◌∙◌, subst}
 use Rattle.ip_defs.specs.Sums.{sum_below}
 use Rattle.ip_defs.specs.Program.{at, costs_of, low_at, high_at, row_sum}

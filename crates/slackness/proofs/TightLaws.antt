@@ -7,7 +7,7 @@ use Rattle.ip_defs.specs.Program.{at, low_at, high_at, costs_of}
 use Rattle.ip_defs.specs.Limits.{IsArea}
 use Rattle.ip_defs.specs.declared.certificates.Cert.{Cert}
 use Rattle.ip_defs.specs.declared.programs.Parts.{Parts}
-use Rattle.leaf_cert.specs.Internal.Columns.{AllSmall, taken_of}
+use Rattle.leaf_cert.specs.Columns.{AllSmall, taken_of}
 use Rattle.leaf_cert.proofs.Steps.{size_of_product}
 use Rattle.slackness.specs.Internal.Columns.{AreTightBy}
 use Rattle.slackness.specs.Proposals.{HasSmallDenominator}

@@ -1,41 +1,18 @@
 -- Complementary slackness in whole numbers: d times the dual value is q times d times the cost.
-use Rattle.std.specs.Prelude.{
-  ◌≡◌,
-  ℕ,
-  zero,
-  suc,
-  ◌<◌,
-  List,
-  [],
-  ◌∷◌,
-  length,
-  Option,
-  Some,
-  None,
-  slice_get,
-  option_map,
-  option_and_then,
-  ℤ,
-  pos,
-  negsuc,
-  ◌+ℤ◌,
-  ◌-ℤ◌,
-  ◌*ℤ◌,
-  ◌≤ℤ◌,
-  ◌<ℤ◌,
-}
+use Rattle.std.specs.Prelude.{◌≡◌, ℕ, zero, suc, ◌<◌, List, [], ◌∷◌, length, Option, Some, None, slice_get, option_map, option_and_then}
+use Rattle.std.specs.Prelude.{ℤ, pos, negsuc, ◌+ℤ◌, ◌-ℤ◌, ◌*ℤ◌, ◌≤ℤ◌, ◌<ℤ◌}
 use Rattle.std.specs.Int.{int_min}
 use Rattle.std.proofs.Common.{arith, refl, ap, sym, ◌∙◌}
 use Rattle.std.proofs.lemmas.Int.{ints, clamps}
 use Rattle.ip_defs.specs.Sums.{sum_below, sum_over}
 use Rattle.ip_defs.specs.Program.{at, costs_of, low_at, high_at}
-use Rattle.ip_defs.specs.Certificates.{side_for, pay, coefficient_of, reduced, column_part, dual_value}
+use Rattle.ip_defs.specs.Certificates.{side_for, pay, reduced, column_part, dual_value}
 use Rattle.ip_defs.specs.Limits.{index_at, value_at}
 use Rattle.ip_defs.specs.declared.programs.Parts.{Parts}
 use Rattle.ip_defs.specs.declared.programs.Row.{Row}
-use Rattle.ip_defs.proofs.SumLaws.{sum_same, sum_sub, sum_scale, exchange}
-use Rattle.ip_defs.proofs.DualityLaws.{sum_over_mul, sum_over_same}
-use Rattle.ring_laws.proofs.Products.{mul_add, sub_mul, mul_assoc, mul_up, mul_down}
+use Rattle.ip_defs.proofs.SumLaws.{sum_same, sum_scale}
+use Rattle.ip_defs.proofs.DualityLaws.{reduced_sum}
+use Rattle.ring_laws.proofs.Products.{mul_add, mul_up, mul_down}
 use Rattle.ring_laws.proofs.Rings.{whole}
 use Rattle.ring_laws.proofs.Normal.{◌⊗◌}
 use Rattle.ring_laws.proofs.Named.{ring3}
@@ -110,29 +87,6 @@ all_pay d rows n (p ∷ ps) h =
     let others = rest.2 in
     (one.0 +ℤ rest.0, is, omega (arith, ints))
 
--- what the multipliers take from the costs is the multipliers times the rows' values
-pub taken : (m : Parts) (x : List ℤ) (q : ℤ) (y : List (ℕ × ℤ)) →
-    sum_below (λ j. reduced m q y j *ℤ at x j) (length x)
-    ≡ q *ℤ sum_below (λ j. at (costs_of m) j *ℤ at x j) (length x) -ℤ sum_over (λ p. p.1 *ℤ activity m.rows x p.0) y
-taken m x q y =
-    let n = length x in
-    let F : ℕ × ℤ → ℕ → ℤ = λ p j. p.1 *ℤ (coefficient_of m.rows p.0 j *ℤ at x j) in
-    let each : (j : ℕ) → reduced m q y j *ℤ at x j ≡ q *ℤ (at (costs_of m) j *ℤ at x j) -ℤ sum_over (λ p. F p j) y = λ j.
-    let apart = sub_mul (q *ℤ at (costs_of m) j) (sum_over (λ p. p.1 *ℤ coefficient_of m.rows p.0 j) y) (at x j) in
-    let left = mul_assoc q (at (costs_of m) j) (at x j) in
-    let right = sum_over_mul (λ p. p.1 *ℤ coefficient_of m.rows p.0 j) y (at x j) in
-    let inner = sum_over_same (λ p. (p.1 *ℤ coefficient_of m.rows p.0 j) *ℤ at x j) (λ p. F p j) y
-    (λ p. mul_assoc p.1 (coefficient_of m.rows p.0 j) (at x j)) in
-    omega (arith, ints) in
-    let same = sum_same (λ j. reduced m q y j *ℤ at x j) (λ j. q *ℤ (at (costs_of m) j *ℤ at x j) -ℤ sum_over (λ p. F p j) y) n
-    (λ j l. each j) in
-    let split = sum_sub (λ j. q *ℤ (at (costs_of m) j *ℤ at x j)) (λ j. sum_over (λ p. F p j) y) n in
-    let scaled = sum_scale q (λ j. at (costs_of m) j *ℤ at x j) n in
-    let swapped = exchange F y n in
-    let rowwise = sum_over_same (λ p. sum_below (F p) n) (λ p. p.1 *ℤ activity m.rows x p.0) y
-    (λ p. sum_scale p.1 (λ j. coefficient_of m.rows p.0 j *ℤ at x j) n) in
-    omega (arith, ints)
-
 -- the columns, d times, add the reduced costs times the numbers
 pub columns_add : (m : Parts) (b : List (ℤ × ℤ)) (d : ℤ) (n : List ℤ) (q : ℤ) (y : List (ℕ × ℤ)) → pos 0 <ℤ d →
     ((j : ℕ) → j < length b → IsTightColumn d (low_at b j) (high_at b j) (at n j) (reduced m q y j))
@@ -160,7 +114,7 @@ whole_dual m b d n q y p size columns rows =
     let added = columns_add m b d n q y p columns in
     let sized : sum_below (λ j. reduced m q y j *ℤ at n j) (length n) ≡ sum_below (λ j. reduced m q y j *ℤ at n j) (length b) =
     ap (sum_below (λ j. reduced m q y j *ℤ at n j)) size in
-    let all_taken = taken m n q y in
+    let all_reduced = reduced_sum m n q y in
     let out = mul_add d (paid.0 +ℤ (q *ℤ m.constant)) part in
     let out' = mul_add d paid.0 (q *ℤ m.constant) in
     let swap = ring3 whole (λ d q k. d ⊗ (q ⊗ k)) (λ d q k. q ⊗ (d ⊗ k)) refl d q m.constant in

@@ -1,23 +1,7 @@
 -- Complementary slackness in whole numbers, for a point whose numbers stand over one positive denominator d: a column or a row lies
 -- within its sides, and stands at one of them where the certificate pays it.
-use Rattle.std.specs.Prelude.{
-  ◌≡◌,
-  ℕ,
-  ◌<◌,
-  List,
-  length,
-  Option,
-  Some,
-  IfSome,
-  slice_get,
-  option_map,
-  option_and_then,
-  ℤ,
-  pos,
-  ◌*ℤ◌,
-  ◌≤ℤ◌,
-  ◌<ℤ◌,
-}
+use Rattle.std.specs.Prelude.{◌≡◌, ℕ, ◌<◌, List, length, Option, Some, IfSome, slice_get, option_map, option_and_then, ℤ, pos, ◌*ℤ◌, ◌≤ℤ◌}
+use Rattle.std.specs.Prelude.{◌<ℤ◌}
 use Rattle.ip_defs.specs.Program.{at, low_at, high_at, row_sum}
 use Rattle.ip_defs.specs.Certificates.{side_for, coefs_of, reduced}
 use Rattle.ip_defs.specs.Limits.{index_at, value_at}

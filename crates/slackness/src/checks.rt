@@ -6,12 +6,11 @@ ghost use Rattle.slackness.specs.Proposals.{point_of_proposal, IsRight, HasSmall
 ghost use Rattle.slackness.specs.Tight.{IsTight};
 
 use crate::columns::are_tight;
-use crate::multiples::take_rows;
 use crate::proposals::Proposal;
-use crate::rows::{are_paid, are_within};
+use crate::rows::are_within_and_paid;
 use ip_defs::{Area, Cert, Parts};
 use ip_model::IntModel;
-use leaf_cert::cert_ok;
+use leaf_cert::{cert_ok, take_rows};
 
 /// The greatest denominator of a proposal: a numerator within its box has 74 bits then, and the value of a row 126.
 const LARGEST_DENOMINATOR: i128 = 1 << 50;
@@ -58,10 +57,7 @@ fn is_tight(
     if !are_tight(parts, cert.q, taken, area, denominator, point) {
         return false;
     }
-    if !are_within(parts, denominator, point) {
-        return false;
-    }
-    are_paid(parts, y, denominator, point)
+    are_within_and_paid(parts, y, denominator, point)
 }
 
 /// Whether a proposal is right at a box.

@@ -3,23 +3,13 @@ ghost use Rattle.std.specs.Prelude.{◌≡◌, ◌^◌, ◌<◌, ◌≤◌, ◌�
 ghost use Rattle.std.specs.Int.RustNames.{unsigned_abs};
 ghost use Rattle.ip_defs.specs.Program.{at, low_at, high_at, costs_of};
 ghost use Rattle.ip_defs.specs.Limits.{IsWithinLimits};
-ghost use Rattle.leaf_cert.specs.Internal.Columns.{AllSmall};
+ghost use Rattle.leaf_cert.specs.Columns.{AllSmall};
 ghost use Rattle.slackness.specs.Internal.Columns.{AreTightBy};
 ghost use Rattle.slackness.specs.Tight.{IsBetween, IsPaid, IsTightColumn};
 
-use crate::wide::{difference, product, scaled};
+use crate::products::scaled;
 use ip_defs::Parts;
-
-/// What is left of a column's cost.
-#[inline]
-fn reduced_cost(q: i64, cost: i64, taken: i128) -> i128
-    requires q_small { unsigned_abs q ≤ 2 ^ 36 }
-    requires cost_small { unsigned_abs cost ≤ 2 ^ 40 }
-    requires taken_small { unsigned_abs taken ≤ 2 ^ 86 }
-    ensures { result ≡ q *ℤ cost -ℤ taken }
-{
-    difference(product(i128::from(q), i128::from(cost)), taken)
-}
+use leaf_cert::reduced_at;
 
 /// Whether a number lies between two others.
 #[inline]
@@ -43,6 +33,14 @@ fn is_paid(least: i128, number: i128, greatest: i128, reduced_cost: i128) -> boo
     }
 }
 
+/// Whether a number lies between two others, and is the one of them that a reduced cost pays.
+#[inline]
+fn is_paid_between(least: i128, number: i128, greatest: i128, reduced_cost: i128) -> bool
+    ensures { IsTrue result ↔ IsBetween least number greatest × IsPaid least number greatest reduced_cost }
+{
+    is_between(least, number, greatest) && is_paid(least, number, greatest, reduced_cost)
+}
+
 /// Whether a number over a denominator lies between two sides, and is the one that a reduced cost pays.
 fn is_tight(denominator: i128, low: i64, high: i64, number: i128, reduced_cost: i128) -> bool
     requires { unsigned_abs denominator ≤ 2 ^ 50 }
@@ -50,7 +48,7 @@ fn is_tight(denominator: i128, low: i64, high: i64, number: i128, reduced_cost: 
 {
     let least = scaled(denominator, low);
     let greatest = scaled(denominator, high);
-    is_between(least, number, greatest) && is_paid(least, number, greatest, reduced_cost)
+    is_paid_between(least, number, greatest, reduced_cost)
 }
 
 /// Whether each column lies between its sides, and is at the one that its reduced cost pays.
@@ -71,9 +69,8 @@ pub fn are_tight(
     requires point_size { length point.now ≡ length parts.now.columns }
     ensures { IsTrue result ↔ AreTightBy parts.now area.now denominator point.now q taken.now }
 {
-    let columns = parts.columns.as_slice();
     for (j, side) in area.iter().enumerate() {
-        let reduced = reduced_cost(q, columns[j].cost, taken[j]);
+        let reduced = reduced_at(parts, q, taken, j);
         if !is_tight(denominator, side.0, side.1, point[j], reduced) {
             return false;
         }

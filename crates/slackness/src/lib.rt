@@ -4,13 +4,10 @@
 mod checks;
 mod columns;
 mod laws;
-mod multiples;
 mod points;
+mod products;
 mod proposals;
 mod rows;
-#[cfg(test)]
-mod tests;
-mod wide;
 
 pub use checks::is_optimal;
 pub use laws::complementary_slackness;

@@ -4,7 +4,7 @@ ghost use Rattle.std.specs.Int.RustNames.{unsigned_abs};
 ghost use Rattle.frac128.specs.Rationals.{rational};
 ghost use Rattle.frac128.specs.Values.{value_of};
 ghost use Rattle.ip_defs.specs.Limits.{IsArea};
-ghost use Rattle.leaf_cert.specs.Internal.Columns.{AllSmall};
+ghost use Rattle.leaf_cert.specs.Columns.{AllSmall};
 ghost use Rattle.lp_duality.specs.Relaxations.{numbers_of};
 ghost use Rattle.slackness.specs.Points.{point_of, IsOptimal};
 ghost use Rattle.slackness.specs.Proposals.{HasSmallDenominator, IsRight};

@@ -4,12 +4,13 @@ ghost use Rattle.std.specs.Int.RustNames.{unsigned_abs};
 ghost use Rattle.ip_defs.specs.Program.{row_sum};
 ghost use Rattle.ip_defs.specs.Certificates.{side_for};
 ghost use Rattle.ip_defs.specs.Limits.{AreOrdered, AreSmall, IsRowShaped, IsWithinLimits};
-ghost use Rattle.leaf_cert.specs.Internal.Columns.{AllSmall};
-ghost use Rattle.slackness.specs.Tight.{IsWithinSides, StandsAt, AreWithinSides, ArePaidRows};
+ghost use Rattle.leaf_cert.specs.Columns.{AllSmall};
+ghost use Rattle.slackness.specs.Tight.{IsWithinSides, StandsAt, AreWithinSides, ArePaidRows, activity};
 
-use crate::wide::{scaled, term};
+use crate::products::{scaled, term};
 use ip_defs::{Parts, Row};
 use ip_model::total_of;
+use leaf_cert::side_of;
 
 /// The value of a row at a point, from its coefficients alone. With at most 4,096 columns its absolute value is at most 2^126.
 fn row_value(coefs: &[(u32, i64)], point: &[i128]) -> i128
@@ -57,7 +58,7 @@ fn is_within(denominator: i128, low: Option<i64>, high: Option<i64>, value: i128
 }
 
 /// Whether each row's value lies between its sides.
-pub fn are_within(parts: &Parts, denominator: i128, point: &[i128]) -> bool
+fn are_within(parts: &Parts, denominator: i128, point: &[i128]) -> bool
     requires limits { IsWithinLimits parts.now }
     requires denominator_small { unsigned_abs denominator ≤ 2 ^ 50 }
     requires point_small { AllSmall (2 ^ 74) point.now }
@@ -73,19 +74,6 @@ pub fn are_within(parts: &Parts, denominator: i128, point: &[i128]) -> bool
     true
 }
 
-/// The side that a multiplier pays.
-fn side_of(multiplier: i64, row: &Row) -> Option<i64>
-    ensures { result ≡ side_for multiplier row.now }
-{
-    if multiplier > 0 {
-        row.low
-    } else if multiplier < 0 {
-        row.high
-    } else {
-        Some(0)
-    }
-}
-
 /// Whether a row has the side that a multiplier pays, and a value is that side times the denominator.
 fn stands(row: &Row, multiplier: i64, denominator: i128, value: i128) -> bool
     requires { unsigned_abs denominator ≤ 2 ^ 50 }
@@ -97,8 +85,23 @@ fn stands(row: &Row, multiplier: i64, denominator: i128, value: i128) -> bool
     }
 }
 
+/// Whether a row has the side that a multiplier pays, and its value at a point is that side times the denominator.
+fn stands_at(parts: &Parts, row: u32, multiplier: i64, denominator: i128, point: &[i128]) -> bool
+    requires limits { IsWithinLimits parts.now }
+    requires within { row < length parts.now.rows }
+    requires denominator_small { unsigned_abs denominator ≤ 2 ^ 50 }
+    requires point_small { AllSmall (2 ^ 74) point.now }
+    requires size { length point.now ≡ length parts.now.columns }
+    ensures { IsTrue result ↔ StandsAt denominator multiplier (slice_get parts.now.rows row) (activity parts.now.rows point.now row) }
+{
+    let rows = parts.rows.as_slice();
+    let row = &rows[row as usize];
+    let value = row_value(row.coefs.as_slice(), point);
+    stands(row, multiplier, denominator, value)
+}
+
 /// Whether each row with a multiplier stands at the side that it pays.
-pub fn are_paid(parts: &Parts, y: &[(u32, i64)], denominator: i128, point: &[i128]) -> bool
+fn are_paid(parts: &Parts, y: &[(u32, i64)], denominator: i128, point: &[i128]) -> bool
     requires limits { IsWithinLimits parts.now }
     requires ordered { AreOrdered (length parts.now.rows) y.now }
     requires denominator_small { unsigned_abs denominator ≤ 2 ^ 50 }
@@ -106,13 +109,27 @@ pub fn are_paid(parts: &Parts, y: &[(u32, i64)], denominator: i128, point: &[i12
     requires size { length point.now ≡ length parts.now.columns }
     ensures { IsTrue result ↔ ArePaidRows parts.now denominator point.now y.now }
 {
-    let rows = parts.rows.as_slice();
-    for (index, multiplier) in y {
-        let row = &rows[*index as usize];
-        let value = row_value(row.coefs.as_slice(), point);
-        if !stands(row, *multiplier, denominator, value) {
+    for (row, multiplier) in y {
+        if !stands_at(parts, *row, *multiplier, denominator, point) {
             return false;
         }
     }
     true
+}
+
+/// Whether each row's value lies between its sides, and each row with a multiplier stands at the side that it pays.
+pub fn are_within_and_paid(
+    parts: &Parts,
+    y: &[(u32, i64)],
+    denominator: i128,
+    point: &[i128],
+) -> bool
+    requires limits { IsWithinLimits parts.now }
+    requires ordered { AreOrdered (length parts.now.rows) y.now }
+    requires denominator_small { unsigned_abs denominator ≤ 2 ^ 50 }
+    requires point_small { AllSmall (2 ^ 74) point.now }
+    requires size { length point.now ≡ length parts.now.columns }
+    ensures { IsTrue result ↔ AreWithinSides parts.now denominator point.now × ArePaidRows parts.now denominator point.now y.now }
+{
+    are_within(parts, denominator, point) && are_paid(parts, y, denominator, point)
 }

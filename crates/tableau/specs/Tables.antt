@@ -13,6 +13,10 @@ pub record Table : Type 0 where
   pub positions : List Rest
   pub variables : List Variable
 
+-- the tableau of its four lists
+abbrev pub table_of : List (List Fraction) → List ℕ → List Rest → List Variable → Table
+table_of rows basics positions variables = record { rows = rows; basics = basics; positions = positions; variables = variables }
+
 -- a number of a row by its variable, 0 past its end
 abbrev pub at : List Fraction → ℕ → Fraction
 at line v = slice_index_or line v (whole (pos 0))

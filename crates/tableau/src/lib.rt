@@ -13,8 +13,6 @@ mod positions;
 mod starts;
 mod steps;
 mod tables;
-#[cfg(test)]
-mod tests;
 mod variables;
 
 pub use frac128::{Frac, Wide};

@@ -2,7 +2,8 @@
 ghost use Rattle.std.specs.Prelude.{◌≡◌, ◌≢◌, ◌<◌, ◌+◌, ◌↔◌, IsTrue, IfOk, List, length, OnOk, OnErr, Ok, Err, None, pos, ℤ};
 ghost use Rattle.ip_defs.specs.declared.programs.Parts.{Parts};
 ghost use Rattle.tableau.specs.declared.positions.Rest.TheVariants.{Basic};
-ghost use Rattle.tableau.specs.Tables.{entry as entry_at, basic_at, position_at, variable_at, CanRest, IsTable, AreSpareLines};
+ghost use Rattle.tableau.specs.Tables.{entry as entry_at, basic_at, position_at, variable_at, table_of};
+ghost use Rattle.tableau.specs.Tables.{CanRest, IsTable, AreSpareLines};
 ghost use Rattle.tableau.specs.Numbers.{value as value_of_row, price as price_of, ratio as ratio_of, side_at};
 ghost use Rattle.tableau.specs.Pivots.{after_pivot, after_flip};
 ghost use Rattle.tableau.specs.Nodes.{StandsFor, HasItsPoints};
@@ -22,34 +23,23 @@ use std::sync::ledger::Ledger;
 #[derive(Debug, Drop)]
 pub struct Tableau {
     rows: Vec<Line>,
-    spare: Vec<Line>,
-    quotients: Line,
     basics: Vec<u32>,
     positions: Vec<Rest>,
     variables: Vec<Variable>,
+    spare: Vec<Line>,
+    quotients: Line,
 }
 
 impl Model for Tableau {
     ghost use Rattle.std.specs.Prelude.{length};
-    ghost use Rattle.tableau.specs.Tables.{Table, IsTable, AreSpareLines};
+    ghost use Rattle.tableau.specs.Tables.{Table, table_of, IsTable, AreSpareLines};
 
     ghost Value = { Table };
 
-    ghost view = { λ t. record {
-      rows = t.rows.items;
-      basics = t.basics.items;
-      positions = t.positions.items;
-      variables =
-          t.variables.items;
-    } };
+    ghost view = { λ t. table_of t.rows.items t.basics.items t.positions.items t.variables.items };
 
-    ghost invariant = { λ t. IsTable (record {
-      rows = t.rows.items;
-      basics = t.basics.items;
-      positions = t.positions.items;
-      variables =
-          t.variables.items;
-    }) × AreSpareLines (length t.rows.items) (length t.variables.items) t.spare.items t.quotients };
+    ghost invariant = { λ t. IsTable (table_of t.rows.items t.basics.items t.positions.items t.variables.items)
+        × AreSpareLines (length t.rows.items) (length t.variables.items) t.spare.items t.quotients };
 }
 
 impl Tableau {
@@ -62,14 +52,9 @@ impl Tableau {
         positions: Vec<Rest>,
         variables: Vec<Variable>,
     ) -> Tableau
-        requires table { IsTable (record {
-          rows = rows.items;
-          basics = basics.items;
-          positions = positions.items;
-          variables = variables.items;
-        }) }
+        requires table { IsTable (table_of rows.items basics.items positions.items variables.items) }
         requires spare { AreSpareLines (length rows.items) (length variables.items) spare.items quotients }
-        ensures { result ≡ record { rows = rows.items; basics = basics.items; positions = positions.items; variables = variables.items } }
+        ensures { result ≡ table_of rows.items basics.items positions.items variables.items }
     {
         Tableau {
             rows,

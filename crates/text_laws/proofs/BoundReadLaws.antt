@@ -19,7 +19,7 @@ use Rattle.ip_defs.specs.declared.programs.Column.{Column}
 use Rattle.ip_defs.specs.declared.programs.Parts.{Parts}
 use Rattle.text_laws.proofs.WrittenLaws.{lines_from}
 use Rattle.text_laws.proofs.NumberTextLaws.{signed_decimal_read}
-use Rattle.text_laws.proofs.SectionLaws.{lines_in, bounds_are, bounds_at}
+use Rattle.text_laws.proofs.SectionLaws.{lines_in, bounds_at, data_lines}
 use Rattle.text_laws.proofs.CanonicalLaws.{sections_of, are_sections}
 use Rattle.ip_defs.proofs.BoolLaws.{left_false, right_false}
 use Rattle.ip_defs.proofs.TextLaws.{text_self}
@@ -98,7 +98,7 @@ pub bounds_read : (m : Parts) (i : ℕ) (c : Column) → AreDistinct (map (λ k.
     (bounds_on (lines_in (sections_of m)) c.name ≡ bound_at k (codes "LO") c.name c.lo ∷ bound_at (suc k) (codes "UP") c.name c.hi ∷ [])
 bounds_read m i c d at =
     let first = bounds_at (sections_of m) in
-    let items = bounds_are (sections_of m) (are_sections m) in
+    let items = (data_lines (sections_of m) (are_sections m)).bounds in
     let kept : (l : Line) → bound_set l ≡ codes "BND" → is_kept_bound (lines_in (sections_of m)) l ≡ true =
     λ l e. ap (λ ls. option_map_or (λ f. bytes_eq (bound_set f) (bound_set l)) (first_of ls) false) items
     ∙ kept_bound first m.columns i c l at e in

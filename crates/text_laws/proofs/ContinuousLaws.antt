@@ -1,5 +1,5 @@
 -- No column of a canonical text is continuous.
-use Rattle.std.specs.Prelude.{◌≡◌, ℕ, suc, ◌==◌, true, false, ◌&&◌, ◌||◌, not, if◌then◌else◌, List, [], ◌∷◌, ◌++◌, length, map, filter}
+use Rattle.std.specs.Prelude.{◌≡◌, ℕ, suc, ◌==◌, false, ◌&&◌, ◌||◌, not, if◌then◌else◌, List, [], ◌∷◌, ◌++◌, length, map, filter}
 use Rattle.std.specs.Prelude.{Some, slice_get, bytes_eq, codes}
 use Rattle.std.specs.List.{list_any, enumerate_from}
 use Rattle.std.specs.Option.{option_map_or}
@@ -16,32 +16,28 @@ use Rattle.mps_defs.specs.declared.reading.MpsError.TheVariants.{Continuous}
 use Rattle.ip_defs.specs.declared.programs.Column.{Column}
 use Rattle.ip_defs.specs.declared.programs.Parts.{Parts}
 use Rattle.text_laws.proofs.WrittenLaws.{lines_from}
-use Rattle.text_laws.proofs.SectionLaws.{AreItems, lines_in, number_after, items_first, items_none, other_section, after_rows}
+use Rattle.text_laws.proofs.SectionLaws.{IsItem, AreItems, lines_in, number_after, items_first, items_none, section_part, after_rows}
 use Rattle.text_laws.proofs.SectionLaws.{after_columns, after_right_sides, after_ranges, after_bounds}
 use Rattle.text_laws.proofs.CanonicalLaws.{sections_of, are_sections}
 use Rattle.text_laws.proofs.ReadableLaws.{IsProgramText}
-use Rattle.text_laws.proofs.EntryReadLaws.{AreTriples}
-use Rattle.text_laws.proofs.RecordReadLaws.{blocks_of, blocks_triples, first_mark, last_mark}
+use Rattle.text_laws.proofs.EntryReadLaws.{IsTriple, AreTriples, of_triple}
+use Rattle.text_laws.proofs.RecordReadLaws.{blocks_of, blocks_triples}
+use Rattle.text_laws.proofs.EachLineLaws.{first_mark, last_mark}
 use Rattle.text_laws.proofs.NameReadLaws.{names_read}
 use Rattle.text_laws.proofs.IntegerReadLaws.{begins_whole}
 use Rattle.ip_defs.proofs.TextLaws.{text_turned}
-use Rattle.ip_defs.proofs.ListLaws.{filter-append}
+use Rattle.ip_defs.proofs.ListLaws.{each_weaker, filter-append}
 use Rattle.std.proofs.lemmas.List.{append_assoc}
 use Rattle.text_laws.proofs.CoefReadLaws.{named_among}
 
 pub triples_items : (ds : List Written) → AreTriples ds → AreItems ds
-triples_items [] h = tt
-triples_items ((true, fs) ∷ ds) h = (refl, triples_items ds h.1)
-triples_items ((false, fs) ∷ ds) h = absurd h.0
+triples_items ds h = each_weaker IsTriple IsItem ds (λ d k. of_triple IsItem d k (λ a b c e. refl)) h
 
 pub plain_lines : (n : ℕ) (ds : List Written) → AreTriples ds → Each (λ l. is_marker l ≡ false) (lines_from n (codes "COLUMNS") ds)
 plain_lines n [] h = tt
-plain_lines n ((true, a ∷ b ∷ c ∷ []) ∷ ds) h = (h.0, plain_lines (suc n) ds h.1)
-plain_lines n ((true, a ∷ b ∷ c ∷ d ∷ fs) ∷ ds) h = absurd h.0
-plain_lines n ((true, a ∷ b ∷ []) ∷ ds) h = absurd h.0
-plain_lines n ((true, a ∷ []) ∷ ds) h = absurd h.0
-plain_lines n ((true, []) ∷ ds) h = absurd h.0
-plain_lines n ((false, fs) ∷ ds) h = absurd h.0
+plain_lines n (d ∷ ds) h =
+    of_triple (λ w. Each (λ l. is_marker l ≡ false) (lines_from n (codes "COLUMNS") (w ∷ ds))) d h.0
+    (λ a b c e. (e, plain_lines (suc n) ds h.1))
 
 some_columns : (cs : List Column) (j : ℕ) (c : Column) → slice_get cs j ≡ Some c → (length cs == 0) ≡ false
 some_columns [] j c e = absurd cc
@@ -102,9 +98,9 @@ rest_items m =
     let b = suc (number_after a s.right_sides) in
     let c = suc (number_after b s.ranges) in
     ap (λ k. mark (column_end m) (codes "'INTEND'") ∷ k)
-    (other_section a (codes "RHS") (codes "COLUMNS") s.right_sides (after_right_sides s) h.right_sides refl
-    ∙ other_section b (codes "RANGES") (codes "COLUMNS") s.ranges (after_ranges s) h.ranges refl
-    ∙ other_section c (codes "BOUNDS") (codes "COLUMNS") s.bounds (after_bounds s) h.bounds refl)
+    (section_part a (codes "RHS") (codes "COLUMNS") s.right_sides (after_right_sides s) h.right_sides
+    ∙ section_part b (codes "RANGES") (codes "COLUMNS") s.ranges (after_ranges s) h.ranges
+    ∙ section_part c (codes "BOUNDS") (codes "COLUMNS") s.bounds (after_bounds s) h.bounds)
 
 pub none_continuous : (m : Parts) (j : ℕ) (c : Column) → IsProgramText m → AreDistinct (map (λ k. k.name) m.columns)
     → slice_get m.columns j ≡ Some c → continuous_faults (lines_in (sections_of m)) c.name ≡ []

@@ -1,7 +1,8 @@
 -- The entries of the lines of a section, without their line numbers, and what is looked up in them.
 use Rattle.std.specs.Prelude.{◌≡◌, ℕ, suc, Bool, true, false, ◌&&◌, cond, if◌then◌else◌, List, [], ◌∷◌, ◌++◌, map, filter, flat_map, find}
-use Rattle.std.specs.Prelude.{Option, Some, option_map, bytes_eq, codes, ⊤}
+use Rattle.std.specs.Prelude.{Option, Some, option_map, bytes_eq, codes}
 use Rattle.std.specs.Option.{option_or}
+use Rattle.ip_defs.specs.Lists.{Each}
 use Rattle.std.proofs.Common.{refl, ap, ◌∙◌}
 use Rattle.mps_defs.specs.CanonicalText.{Written}
 use Rattle.mps_defs.specs.Records.{Line, Entry, is_marker, column_name, entries_of, entries_from}
@@ -42,37 +43,40 @@ IsTriple (true, []) = ⊥
 IsTriple (false, fs) = ⊥
 
 abbrev pub AreTriples : List Written → Type 0
-AreTriples [] = ⊤
-AreTriples (w ∷ ws) = IsTriple w × AreTriples ws
+AreTriples ws = Each IsTriple ws
+
+-- so what holds of each line of three fields whose second is no marker holds of it
+pub of_triple : (P : Written → Type 0) (w : Written) → IsTriple w
+    → ((a b c : List ℕ) → bytes_eq b (codes "'MARKER'") ≡ false → P (true, a ∷ b ∷ c ∷ [])) → P w
+of_triple P (true, a ∷ b ∷ c ∷ []) h k = k a b c h
+of_triple P (true, a ∷ b ∷ c ∷ d ∷ fs) h k = absurd h
+of_triple P (true, a ∷ b ∷ []) h k = absurd h
+of_triple P (true, a ∷ []) h k = absurd h
+of_triple P (true, []) h k = absurd h
+of_triple P (false, fs) h k = absurd h
 
 -- the entries of such lines of COLUMNS
 pub column_entries : (n : ℕ) (ds : List Written) → AreTriples ds
     → map bare (flat_map entries_of (lines_from n (codes "COLUMNS") ds)) ≡ flat_map listed ds
 column_entries n [] h = refl
-column_entries n ((true, a ∷ b ∷ c ∷ []) ∷ ds) h =
+column_entries n (d ∷ ds) h =
+    of_triple (λ w. map bare (flat_map entries_of (lines_from n (codes "COLUMNS") (w ∷ ds))) ≡ flat_map listed (w ∷ ds)) d h.0
+    (λ a b c e.
     ap (λ t. map bare ((if t then [] else record { line = n; owner = a; row = b; text = c } ∷ [])
-    ++ flat_map entries_of (lines_from (suc n) (codes "COLUMNS") ds))) h.0
-    ∙ ap (λ k. record { owner = a; row = b; text = c } ∷ k) (column_entries (suc n) ds h.1)
-column_entries n ((true, a ∷ b ∷ c ∷ d ∷ fs) ∷ ds) h = absurd h.0
-column_entries n ((true, a ∷ b ∷ []) ∷ ds) h = absurd h.0
-column_entries n ((true, a ∷ []) ∷ ds) h = absurd h.0
-column_entries n ((true, []) ∷ ds) h = absurd h.0
-column_entries n ((false, fs) ∷ ds) h = absurd h.0
+    ++ flat_map entries_of (lines_from (suc n) (codes "COLUMNS") ds))) e
+    ∙ ap (λ k. record { owner = a; row = b; text = c } ∷ k) (column_entries (suc n) ds h.1))
 
 -- the entries of such lines of RHS or RANGES
 pub set_entries : (word : List ℕ) (n : ℕ) (ds : List Written) → bytes_eq word (codes "COLUMNS") ≡ false → AreTriples ds
     → map bare (flat_map entries_of (lines_from n word ds)) ≡ flat_map listed ds
 set_entries word n [] e h = refl
-set_entries word n ((true, a ∷ b ∷ c ∷ []) ∷ ds) e h =
+set_entries word n (d ∷ ds) e h =
+    of_triple (λ w. map bare (flat_map entries_of (lines_from n word (w ∷ ds))) ≡ flat_map listed (w ∷ ds)) d h.0
+    (λ a b c k.
     let l : Line = record { number = n; is_item = true; section = word; fields = a ∷ b ∷ c ∷ [] } in
     ap (λ t. map bare ((if t then (if is_marker l then [] else entries_from n (column_name l) (b ∷ c ∷ []))
     else record { line = n; owner = a; row = b; text = c } ∷ []) ++ flat_map entries_of (lines_from (suc n) word ds))) e
-    ∙ ap (λ k. record { owner = a; row = b; text = c } ∷ k) (set_entries word (suc n) ds e h.1)
-set_entries word n ((true, a ∷ b ∷ c ∷ d ∷ fs) ∷ ds) e h = absurd h.0
-set_entries word n ((true, a ∷ b ∷ []) ∷ ds) e h = absurd h.0
-set_entries word n ((true, a ∷ []) ∷ ds) e h = absurd h.0
-set_entries word n ((true, []) ∷ ds) e h = absurd h.0
-set_entries word n ((false, fs) ∷ ds) e h = absurd h.0
+    ∙ ap (λ y. record { owner = a; row = b; text = c } ∷ y) (set_entries word (suc n) ds e h.1))
 
 -- ---- what is looked up
 
@@ -85,26 +89,26 @@ bare_for ts row = option_map (λ t. number_or_zero t.text) (find (λ t. bytes_eq
 abbrev pub bare_decimals : List BareEntry → List ℕ → List ℕ
 bare_decimals ts row = map (λ t. decimals_of (number_or_zero t.text)) (filter (λ t. bytes_eq t.row row) ts)
 
-pub written_at_bare : (es : List Entry) (row column : List ℕ) → written_at es row column ≡ bare_at (map bare es) row column
-written_at_bare [] row column = refl
-written_at_bare (e ∷ es) row column = by (bytes_eq e.row row && bytes_eq e.owner column) (written_at_bare es row column)
+-- the number of the first entry that meets a test
+number_bare : (test : BareEntry → Bool) (es : List Entry)
+    → option_map (λ e. number_or_zero e.text) (find (λ e. test (bare e)) es)
+    ≡ option_map (λ t. number_or_zero t.text) (find test (map bare es))
+number_bare test [] = refl
+number_bare test (e ∷ es) = by (test (bare e)) (number_bare test es)
   where
-    by : (t : Bool) → written_at es row column ≡ bare_at (map bare es) row column
-        → option_map (λ k. number_or_zero k.text)
-        (cond t (Some e) (find (λ k. bytes_eq k.row row && bytes_eq k.owner column) es)) ≡ option_map (λ k. number_or_zero k.text)
-        (cond t (Some (bare e)) (find (λ k. bytes_eq k.row row && bytes_eq k.owner column) (map bare es)))
+    by : (t : Bool)
+        → option_map (λ k. number_or_zero k.text) (find (λ k. test (bare k)) es)
+        ≡ option_map (λ k. number_or_zero k.text) (find test (map bare es))
+        → option_map (λ k. number_or_zero k.text) (cond t (Some e) (find (λ k. test (bare k)) es))
+        ≡ option_map (λ k. number_or_zero k.text) (cond t (Some (bare e)) (find test (map bare es)))
     by true h = refl
     by false h = h
 
+pub written_at_bare : (es : List Entry) (row column : List ℕ) → written_at es row column ≡ bare_at (map bare es) row column
+written_at_bare es row column = number_bare (λ t. bytes_eq t.row row && bytes_eq t.owner column) es
+
 pub written_for_bare : (es : List Entry) (row : List ℕ) → written_for es row ≡ bare_for (map bare es) row
-written_for_bare [] row = refl
-written_for_bare (e ∷ es) row = by (bytes_eq e.row row) (written_for_bare es row)
-  where
-    by : (t : Bool) → written_for es row ≡ bare_for (map bare es) row
-        → option_map (λ k. number_or_zero k.text) (cond t (Some e) (find (λ k. bytes_eq k.row row) es))
-        ≡ option_map (λ k. number_or_zero k.text) (cond t (Some (bare e)) (find (λ k. bytes_eq k.row row) (map bare es)))
-    by true h = refl
-    by false h = h
+written_for_bare es row = number_bare (λ t. bytes_eq t.row row) es
 
 pub decimals_bare : (es : List Entry) (row : List ℕ) → decimals_in es row ≡ bare_decimals (map bare es) row
 decimals_bare [] row = refl

@@ -9,6 +9,7 @@ use Rattle.ip_defs.specs.Limits.{IsWithinLimits, IsRowShaped, IsColumn, IsRow}
 use Rattle.mps_defs.specs.CanonicalText.{canonical_text, is_printable}
 use Rattle.mps_defs.specs.TextModels.{largest}
 use Rattle.mps_defs.specs.Faults.{mps_fault, model_of}
+use Rattle.mps_defs.specs.declared.reading.MpsError.{MpsError}
 use Rattle.mps_defs.specs.declared.reading.MpsError.TheVariants.{NotUtf8, TwiceEntry, TwiceRow}
 use Rattle.mps_defs.specs.declared.reading.How.{How}
 use Rattle.ip_defs.specs.declared.programs.Column.{Column}
@@ -133,30 +134,18 @@ pub more_digits : model_of (canonical_text example) (reading 2) ≡ record {
 unfolding digits
 more_digits = refl
 
--- two columns of one name, two rows of one name, a row of the objective's name
-pub columns_named_alike : mps_fault (canonical_text (program_of (first_column ∷ first_column ∷ []) (row_named (codes "r") ∷ [])))
-    (reading 1)
-    ≡ Some (TwiceEntry 9)
-unfolding is_utf8 chars lib.Utf8.encode digits
-columns_named_alike = refl
+-- two columns of one name, two rows of one name, a row of the objective's name, a name that is no UTF-8
+abbrev HaveFaults : List (Parts × MpsError) → Type 0
+HaveFaults cases = map (λ c. mps_fault (canonical_text c.0) (reading 1)) cases ≡ map (λ c. Some c.1) cases
 
-pub rows_named_alike : mps_fault
-    (canonical_text (program_of (first_column ∷ second_column ∷ []) (row_named (codes "r") ∷ row_named (codes "r") ∷ []))) (reading 1)
-    ≡ Some (TwiceRow 5)
+pub misnamed : HaveFaults (
+    (program_of (first_column ∷ first_column ∷ []) (row_named (codes "r") ∷ []), TwiceEntry 9)
+    ∷ (program_of (first_column ∷ second_column ∷ []) (row_named (codes "r") ∷ row_named (codes "r") ∷ []), TwiceRow 5)
+    ∷ (program_of (first_column ∷ second_column ∷ []) (row_named (codes "cost") ∷ []), TwiceRow 4)
+    ∷ (program_of (first_column ∷ second_column ∷ []) (row_named (255 ∷ []) ∷ []), NotUtf8)
+    ∷ [])
 unfolding is_utf8 chars lib.Utf8.encode digits
-rows_named_alike = refl
-
-pub row_named_as_objective : mps_fault (canonical_text (program_of (first_column ∷ second_column ∷ []) (row_named (codes "cost") ∷ [])))
-    (reading 1)
-    ≡ Some (TwiceRow 4)
-unfolding is_utf8 chars lib.Utf8.encode digits
-row_named_as_objective = refl
-
--- a name that is no UTF-8
-pub name_not_utf8 : mps_fault (canonical_text (program_of (first_column ∷ second_column ∷ []) (row_named (255 ∷ []) ∷ []))) (reading 1)
-    ≡ Some NotUtf8
-unfolding is_utf8 chars lib.Utf8.encode digits
-name_not_utf8 = refl
+misnamed = refl
 
 -- a text of an objective whose name ends with a carriage return: it is read, and is not printable, for its canonical text is read as a
 -- program with another name

@@ -21,7 +21,8 @@ use Rattle.text_laws.proofs.RecordReadLaws.{objective_read}
 use Rattle.text_laws.proofs.NameReadLaws.{names_read}
 use Rattle.text_laws.proofs.ModelReadLaws.{model_read}
 use Rattle.text_laws.proofs.ContinuousLaws.{none_continuous}
-use Rattle.text_laws.proofs.FaultFreeLaws.{ended, flat_none, bounds_there, no_upper_faults, no_limits}
+use Rattle.ip_model.proofs.NoLimitLaws.{no_limits}
+use Rattle.text_laws.proofs.FaultFreeLaws.{ended, flat_none, bounds_there, no_upper_faults}
 use Rattle.std.proofs.lemmas.List.{append-nil}
 
 -- what may be wrong is in the lines, or that a column is continuous

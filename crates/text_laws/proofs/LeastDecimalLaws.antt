@@ -42,8 +42,17 @@ entries_read ls sound = record {
 }
 
 -- the entries of the three sections
+abbrev pub coef_entries : List Line → List Entry
+coef_entries ls = kept_entries (codes "COLUMNS") ls
+
+abbrev pub side_entries : List Line → List Entry
+side_entries ls = kept_entries (codes "RHS") ls
+
+abbrev pub range_entries : List Line → List Entry
+range_entries ls = kept_entries (codes "RANGES") ls
+
 abbrev pub all_kept : List Line → List Entry
-all_kept ls = kept_entries (codes "COLUMNS") ls ++ kept_entries (codes "RHS") ls ++ kept_entries (codes "RANGES") ls
+all_kept ls = coef_entries ls ++ side_entries ls ++ range_entries ls
 
 -- decimals are the largest of some needs, where each entry has no more and each need no more than they
 least_is : (ls : List Line) (how : How) (row : List ℕ) (amounts : List ℤ)
@@ -67,6 +76,22 @@ least_is ls how row amounts few =
 -- the entries of a row have no more decimals than the row
 own_decimals : (ls : List Line) (how : How) (row : List ℕ) → Each (IsFewFor (row_decimals ls how row) row) (all_kept ls)
 own_decimals ls how row = few_decimals (row_decimals ls how row) row (all_kept ls) (largest_each how.digits (decimals_in (all_kept ls) row))
+
+own_first : (ls : List Line) (how : How) (row : List ℕ)
+    → Each (IsFewFor (row_decimals ls how row) row) (coef_entries ls ++ side_entries ls)
+own_first ls how row =
+    each_left (IsFewFor (row_decimals ls how row) row) (coef_entries ls ++ side_entries ls) (range_entries ls) (own_decimals ls how row)
+
+own_sides : (ls : List Line) (how : How) (row : List ℕ) → Each (IsFewFor (row_decimals ls how row) row) (side_entries ls)
+own_sides ls how row =
+    each_right (IsFewFor (row_decimals ls how row) row) (coef_entries ls) (side_entries ls) (own_first ls how row)
+
+-- no amount needs more decimals than the largest of their needs
+largest_needs : (how : How) (k : ℕ) (amounts : List ℤ)
+    → Each (λ z. needed_decimals k z ≤ largest how.digits (map (needed_decimals k) amounts)) amounts
+largest_needs how k amounts =
+    let most = largest how.digits (map (needed_decimals k) amounts) in
+    each_before_map (λ d. d ≤ most) (needed_decimals k) amounts (largest_each how.digits (map (needed_decimals k) amounts))
 
 -- what is written for a row needs its own decimals in units that are fine enough
 written_own : (k : ℕ) (row : List ℕ) (es : List Entry) → Each (IsFewFor k row) es → ForSome (written_for es row) (NeedsOwn k)
@@ -122,17 +147,9 @@ pub row_least : (ls : List Line) (how : How) (kind name : List ℕ) → AreRead 
     → row_decimals ls how name
     ≡ largest how.digits (map (needed_decimals (row_decimals ls how name)) (row_amounts (row_from ls how kind name)))
 row_least ls how kind name read limits =
-    least_is ls how name amounts (three_parts (IsFewFor most name) es rs gs coefs_few rights_few ranges_few)
+    least_is ls how name amounts
+    (three_parts (IsFewFor most name) (coef_entries ls) (side_entries ls) (range_entries ls) coefs_few rights_few ranges_few)
   where
-    es : List Entry
-    es = kept_entries (codes "COLUMNS") ls
-
-    rs : List Entry
-    rs = kept_entries (codes "RHS") ls
-
-    gs : List Entry
-    gs = kept_entries (codes "RANGES") ls
-
     k : ℕ
     k = row_decimals ls how name
 
@@ -143,16 +160,16 @@ row_least ls how kind name read limits =
     most = largest how.digits (map (needed_decimals k) amounts)
 
     b : Number
-    b = unwrap_or (written_for rs name) no_number
+    b = unwrap_or (written_for (side_entries ls) name) no_number
 
     sides : Option ℤ × Option ℤ
-    sides = row_sides kind k b (written_for gs name)
+    sides = row_sides kind k b (written_for (range_entries ls) name)
 
     coefs : List ℤ
-    coefs = map (λ (p : ℕ × ℤ). p.1) (coefs_in es (column_names ls) name k)
+    coefs = map (λ (p : ℕ × ℤ). p.1) (coefs_in (coef_entries ls) (column_names ls) name k)
 
     needs : Each (λ z. needed_decimals k z ≤ most) amounts
-    needs = each_before_map (λ d. d ≤ most) (needed_decimals k) amounts (largest_each how.digits (map (needed_decimals k) amounts))
+    needs = largest_needs how k amounts
 
     front : Each (λ z. needed_decimals k z ≤ most) (coefs ++ right_amount sides.0 sides.1)
     front = each_left (λ z. needed_decimals k z ≤ most) (coefs ++ right_amount sides.0 sides.1) (range_amount sides.0 sides.1) needs
@@ -162,30 +179,25 @@ row_least ls how kind name read limits =
         (each_right (λ z. needed_decimals k z ≤ most) coefs (right_amount sides.0 sides.1) front)
         (each_right (λ z. needed_decimals k z ≤ most) (coefs ++ right_amount sides.0 sides.1) (range_amount sides.0 sides.1) needs)
 
-    own : Each (IsFewFor k name) (es ++ rs ++ gs)
-    own = own_decimals ls how name
-
-    own_front : Each (IsFewFor k name) (es ++ rs)
-    own_front = each_left (IsFewFor k name) (es ++ rs) gs own
-
-    known : (decimals_of b ≤ most) × ForSome (written_for gs name) (λ x. decimals_of x ≤ most)
-    known = sides_known kind k most b (written_for gs name)
-        (or_nothing k (written_for rs name) (written_own k name rs (each_right (IsFewFor k name) es rs own_front)))
-        (written_own k name gs (each_right (IsFewFor k name) (es ++ rs) gs own))
+    known : (decimals_of b ≤ most) × ForSome (written_for (range_entries ls) name) (λ x. decimals_of x ≤ most)
+    known = sides_known kind k most b (written_for (range_entries ls) name)
+        (or_nothing k (written_for (side_entries ls) name) (written_own k name (side_entries ls) (own_sides ls how name)))
+        (written_own k name (range_entries ls)
+        (each_right (IsFewFor k name) (coef_entries ls ++ side_entries ls) (range_entries ls) (own_decimals ls how name)))
         limits.high within
 
-    coefs_few : Each (IsFewFor most name) es
-    coefs_few = few_from ls name k most read (each_left (IsFewFor k name) es rs own_front)
-        (coef_needs es (column_names ls) name k most
+    coefs_few : Each (IsFewFor most name) (coef_entries ls)
+    coefs_few = few_from ls name k most read (each_left (IsFewFor k name) (coef_entries ls) (side_entries ls) (own_first ls how name))
+        (coef_needs (coef_entries ls) (column_names ls) name k most
         (each_left (λ z. needed_decimals k z ≤ most) coefs (right_amount sides.0 sides.1) front))
 
-    rights_few : Each (IsFewFor most name) rs
-    rights_few = each_weaker (IsFound (codes "RHS") ls of_row) (IsFewFor most name) rs
+    rights_few : Each (IsFewFor most name) (side_entries ls)
+    rights_few = each_weaker (IsFound (codes "RHS") ls of_row) (IsFewFor most name) (side_entries ls)
         (λ e found same. let is = written_alone (codes "RHS") ls name e found same in subst
         (λ o. decimals_of (unwrap_or o no_number) ≤ most) is known.0) read.right_sides
 
-    ranges_few : Each (IsFewFor most name) gs
-    ranges_few = each_weaker (IsFound (codes "RANGES") ls of_row) (IsFewFor most name) gs
+    ranges_few : Each (IsFewFor most name) (range_entries ls)
+    ranges_few = each_weaker (IsFound (codes "RANGES") ls of_row) (IsFewFor most name) (range_entries ls)
         (λ e found same. known.1 (number_or_zero e.text) (written_alone (codes "RANGES") ls name e found same)) read.ranges
 
 -- ---- the costs
@@ -194,17 +206,9 @@ pub cost_least : (ls : List Line) (how : How) → AreRead ls → (row : List ℕ
     → (model_from ls how).cost_decimals
     ≡ largest how.digits (map (needed_decimals ((model_from ls how).cost_decimals)) (cost_amounts (model_from ls how)))
 cost_least ls how read row is =
-    least_is ls how cost_row amounts (three_parts (IsFewFor most cost_row) es rs gs costs_few rights_few ranges_few)
+    least_is ls how cost_row amounts
+    (three_parts (IsFewFor most cost_row) (coef_entries ls) (side_entries ls) (range_entries ls) costs_few rights_few ranges_few)
   where
-    es : List Entry
-    es = kept_entries (codes "COLUMNS") ls
-
-    rs : List Entry
-    rs = kept_entries (codes "RHS") ls
-
-    gs : List Entry
-    gs = kept_entries (codes "RANGES") ls
-
     cost_row : List ℕ
     cost_row = unwrap_or (objective ls) []
 
@@ -218,30 +222,25 @@ cost_least ls how read row is =
     most = largest how.digits (map (needed_decimals k) amounts)
 
     b : Number
-    b = unwrap_or (written_for rs cost_row) no_number
+    b = unwrap_or (written_for (side_entries ls) cost_row) no_number
 
     costs : List ℤ
     costs = map (λ (c : Column). c.cost) (map (column_from ls how cost_row k) (column_names ls))
 
     needs : Each (λ z. needed_decimals k z ≤ most) amounts
-    needs = each_before_map (λ d. d ≤ most) (needed_decimals k) amounts (largest_each how.digits (map (needed_decimals k) amounts))
-
-    own : Each (IsFewFor k cost_row) (es ++ rs ++ gs)
-    own = own_decimals ls how cost_row
-
-    own_front : Each (IsFewFor k cost_row) (es ++ rs)
-    own_front = each_left (IsFewFor k cost_row) (es ++ rs) gs own
+    needs = largest_needs how k amounts
 
     cost_at : List ℕ → ℤ
-    cost_at name = units k (unwrap_or (written_at es cost_row name) no_number)
+    cost_at name = units k (unwrap_or (written_at (coef_entries ls) cost_row name) no_number)
 
     columns_need : Each (λ name. needed_decimals k (cost_at name) ≤ most) (column_names ls)
     columns_need = each_before_map (λ (c : Column). needed_decimals k c.cost ≤ most) (column_from ls how cost_row k) (column_names ls)
         (each_before_map (λ z. needed_decimals k z ≤ most) (λ (c : Column). c.cost) (map (column_from ls how cost_row k) (column_names ls))
         (each_left (λ z. needed_decimals k z ≤ most) costs (neg_ℤ (units k b) ∷ []) needs))
 
-    costs_few : Each (IsFewFor most cost_row) es
-    costs_few = few_from ls cost_row k most read (each_left (IsFewFor k cost_row) es rs own_front)
+    costs_few : Each (IsFewFor most cost_row) (coef_entries ls)
+    costs_few = few_from ls cost_row k most read
+        (each_left (IsFewFor k cost_row) (coef_entries ls) (side_entries ls) (own_first ls how cost_row))
         (λ name x here at. subst (λ o. needed_decimals k (units k (unwrap_or o no_number)) ≤ most) at
         (named_each (λ c. needed_decimals k (cost_at c) ≤ most) (column_names ls) name columns_need here))
 
@@ -251,15 +250,16 @@ cost_least ls how read row is =
         let same : unsigned_abs (neg_ℤ (units k b)) ≡ unsigned_abs (units k b) = omega (arith, ints) in
         subst (λ (n : ℕ). least_decimals n k ≤ most) same last.0
 
-    rights_few : Each (IsFewFor most cost_row) rs
-    rights_few = each_weaker (IsFound (codes "RHS") ls of_row) (IsFewFor most cost_row) rs
+    rights_few : Each (IsFewFor most cost_row) (side_entries ls)
+    rights_few = each_weaker (IsFound (codes "RHS") ls of_row) (IsFewFor most cost_row) (side_entries ls)
         (λ e found same.
-        let own_b = or_nothing k (written_for rs cost_row) (written_own k cost_row rs (each_right (IsFewFor k cost_row) es rs own_front)) in
+        let own_b = or_nothing k (written_for (side_entries ls) cost_row)
+        (written_own k cost_row (side_entries ls) (own_sides ls how cost_row)) in
         let small : decimals_of b ≤ most = let c = constant_needs in omega arith in
         subst (λ o. decimals_of (unwrap_or o no_number) ≤ most) (written_alone (codes "RHS") ls cost_row e found same) small)
         read.right_sides
 
-    ranges_few : Each (IsFewFor most cost_row) gs
-    ranges_few = each_weaker (IsFound (codes "RANGES") ls of_row) (IsFewFor most cost_row) gs
+    ranges_few : Each (IsFewFor most cost_row) (range_entries ls)
+    ranges_few = each_weaker (IsFound (codes "RANGES") ls of_row) (IsFewFor most cost_row) (range_entries ls)
         (λ e found same. absurd (none_on_objective ls row e is found.kept (ap (bytes_eq e.row) (sym (ap (λ o. unwrap_or o []) is))
         ∙ same))) read.ranges

@@ -1,11 +1,10 @@
 -- A number that is read has the least decimals that write it, in each unit that is fine enough; and the decimals of a difference.
-use Rattle.std.specs.Prelude.{◌≡◌, ℕ, zero, suc, ◌+◌, ◌-◌, ◌*◌, ◌/◌, ◌%◌, ◌^◌, ◌≤◌, nat_le, max, Bool, true, false, if◌then◌else◌, List}
-use Rattle.std.specs.Prelude.{[]}
-use Rattle.std.specs.Prelude.{◌∷◌, unwrap_or, ℤ, pos, negsuc, ◌-ℤ◌, ◌*ℤ◌}
+use Rattle.std.specs.Prelude.{◌≡◌, ℕ, zero, suc, ◌+◌, ◌-◌, ◌*◌, ◌/◌, ◌%◌, ◌^◌, ◌≤◌, ◌==◌, nat_le, max, Bool, true, false, if◌then◌else◌}
+use Rattle.std.specs.Prelude.{List, [], ◌∷◌, unwrap_or, ℤ, pos, ◌-ℤ◌, ◌*ℤ◌}
 use Rattle.std.specs.Int.RustNames.{unsigned_abs}
 use Rattle.std.proofs.Common.{refl, arith, ap, sym, ◌∙◌, subst, leb-false}
 use Rattle.std.proofs.Math.Nat.{mul_assoc, mul_comm, mul-mod_left, mul-sub, add-mul}
-use Rattle.std.proofs.lemmas.Bool.{eqb-true, eq-eqb, leb-true}
+use Rattle.std.proofs.lemmas.Bool.{eqb-true, eqb-false, eq-eqb, leb-true}
 use Rattle.std.proofs.lemmas.Int.{ints, unsigned_abs-mul}
 use Rattle.std.proofs.lemmas.Nat.{pow-add}
 use Rattle.decimals.proofs.DecimalLaws.{least_units, passes_at_k}
@@ -134,25 +133,20 @@ writes_sum k m a b h g =
 -- the absolute value of a difference is a sum or a difference of absolute values
 size_of_difference : (P : ℕ → Type 0) (x y : ℤ) → P (unsigned_abs x + unsigned_abs y) → P (unsigned_abs x - unsigned_abs y)
     → P (unsigned_abs y - unsigned_abs x) → P (unsigned_abs (x -ℤ y))
-size_of_difference P x y sum down up = by (nat_le (unsigned_abs x) (unsigned_abs y)) refl x y refl refl
+size_of_difference P x y sum down up =
+    by (unsigned_abs (x -ℤ y) == unsigned_abs x + unsigned_abs y) refl (nat_le (unsigned_abs x) (unsigned_abs y)) refl
   where
-    by : (t : Bool) → nat_le (unsigned_abs x) (unsigned_abs y) ≡ t → (a b : ℤ) → a ≡ x → b ≡ y → P (unsigned_abs (x -ℤ y))
-    by t e (pos a) (negsuc b) f g =
-        let same : unsigned_abs x + unsigned_abs y ≡ unsigned_abs (x -ℤ y) = omega (arith, ints) in subst P same sum
-    by t e (negsuc a) (pos b) f g =
-        let same : unsigned_abs x + unsigned_abs y ≡ unsigned_abs (x -ℤ y) = omega (arith, ints) in subst P same sum
-    by true e (pos a) (pos b) f g =
-        let l = leb-true (unsigned_abs x) (unsigned_abs y) e in let same : unsigned_abs y - unsigned_abs x ≡ unsigned_abs (x -ℤ y) = omega
-        (arith, ints) in subst P same up
-    by true e (negsuc a) (negsuc b) f g =
-        let l = leb-true (unsigned_abs x) (unsigned_abs y) e in let same : unsigned_abs y - unsigned_abs x ≡ unsigned_abs (x -ℤ y) = omega
-        (arith, ints) in subst P same up
-    by false e (pos a) (pos b) f g =
-        let l = leb-false (unsigned_abs x) (unsigned_abs y) e in let same : unsigned_abs x - unsigned_abs y ≡ unsigned_abs (x -ℤ y) = omega
-        (arith, ints) in subst P same down
-    by false e (negsuc a) (negsuc b) f g =
-        let l = leb-false (unsigned_abs x) (unsigned_abs y) e in let same : unsigned_abs x - unsigned_abs y ≡ unsigned_abs (x -ℤ y) = omega
-        (arith, ints) in subst P same down
+    by : (t : Bool) → (unsigned_abs (x -ℤ y) == unsigned_abs x + unsigned_abs y) ≡ t → (u : Bool)
+        → nat_le (unsigned_abs x) (unsigned_abs y) ≡ u → P (unsigned_abs (x -ℤ y))
+    by true e u f = subst P (sym (eqb-true (unsigned_abs (x -ℤ y)) (unsigned_abs x + unsigned_abs y) e)) sum
+    by false e true f =
+        let less = leb-true (unsigned_abs x) (unsigned_abs y) f in
+        let other = eqb-false (unsigned_abs (x -ℤ y)) (unsigned_abs x + unsigned_abs y) e in
+        let same : unsigned_abs y - unsigned_abs x ≡ unsigned_abs (x -ℤ y) = omega (arith, ints) in subst P same up
+    by false e false f =
+        let more = leb-false (unsigned_abs x) (unsigned_abs y) f in
+        let other = eqb-false (unsigned_abs (x -ℤ y)) (unsigned_abs x + unsigned_abs y) e in
+        let same : unsigned_abs x - unsigned_abs y ≡ unsigned_abs (x -ℤ y) = omega (arith, ints) in subst P same down
 
 -- a difference needs no more decimals than the two numbers
 pub difference_needs : (k m : ℕ) (x y : ℤ) → needed_decimals k x ≤ m → needed_decimals k y ≤ m → needed_decimals k (x -ℤ y) ≤ m

@@ -36,6 +36,7 @@ pub mod CanonicalLaws
 pub mod SectionLaws
 pub mod LineTextLaws
 pub mod ListLaws
+pub mod EachLineLaws
 pub mod NumeralLaws
 pub mod NumberTextLaws
 pub mod ScaleLaws

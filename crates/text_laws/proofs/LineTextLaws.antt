@@ -1,10 +1,11 @@
 -- A written text is read as its lines: each with its number, its section and its fields.
 use Rattle.std.specs.Prelude.{◌≡◌, ℕ, suc, ◌+◌, ◌-◌, ◌==◌, nat_le, Bool, true, false, ◌&&◌, ◌||◌, not, cond, if◌then◌else◌, List, [], ◌∷◌}
-use Rattle.std.specs.Prelude.{◌++◌, length, take, map, filter, flat_map, slice_index_or, bytes_eq, codes, ⊤}
+use Rattle.std.specs.Prelude.{◌++◌, length, take, map, filter, flat_map, slice_index_or, bytes_eq, codes}
 use Rattle.std.specs.List.{slice_split, onto_first, list_any, list_all, enumerate_from, concat}
 use Rattle.std.proofs.Common.{refl, arith, ap, sym, ◌∙◌, le-leb}
 use Rattle.std.proofs.lemmas.List.Folds.{list_any-append}
 use Rattle.std.proofs.lemmas.List.Splits.{slice_split-cons_yes, slice_split-cons_no}
+use Rattle.ip_defs.specs.Lists.{Each}
 use Rattle.mps_defs.specs.Lists.{with_earlier, after_those, through_first}
 use Rattle.mps_defs.specs.CanonicalText.{Written, written_text, newline, is_separator}
 use Rattle.mps_defs.specs.Records.{Line, is_blank, is_star, begins_with, without_return, fields_of, numbered, is_section_line, is_end_line}
@@ -145,9 +146,11 @@ stays (b ∷ bs) none =
 -- ---- the lines of a text
 
 -- each line is readable
+abbrev pub IsReadable : Written → Type 0
+IsReadable w = is_readable w ≡ true
+
 abbrev pub AreReadable : List Written → Type 0
-AreReadable [] = ⊤
-AreReadable (w ∷ ws) = (is_readable w ≡ true) × AreReadable ws
+AreReadable ws = Each IsReadable ws
 
 written_is : (w : Written) (ys : List ℕ) → written_text w ++ ys ≡ line_text w ++ 10 ∷ ys
 written_is w ys = append_assoc (line_text w) newline ys

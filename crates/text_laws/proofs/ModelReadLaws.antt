@@ -205,6 +205,18 @@ row_coefs_read m how h i r at =
     column_at (c ∷ cs) zero name e = (c, refl, cc)
     column_at (c ∷ cs) (suc j) name e = column_at cs j name e
 
+-- what is written on the right of a row or of the objective: on the line of the constant, or on those of the rows
+right_written : (m : Parts) (name : List ℕ)
+    → written_for (kept_entries (codes "RHS") (program_lines m)) name
+    ≡ option_or (bare_for (flat_map listed (constant_line m)) name) (bare_for (flat_map rhs_bare m.rows) name)
+right_written m name =
+    written_for_bare (kept_entries (codes "RHS") (program_lines m)) name
+    ∙ ap (λ ts. bare_for ts name)
+    (right_sides_kept m
+    ∙ listed_append (constant_line m) (flat_map rhs_line m.rows)
+    ∙ ap (λ k. flat_map listed (constant_line m) ++ k) (flat_flat rhs_line m.rows))
+    ∙ for_append (flat_map listed (constant_line m)) (flat_map rhs_bare m.rows) name
+
 pub row_sides_read : (m : Parts) (how : How) → IsCanonical m how → (i : ℕ) (r : Row) → slice_get m.rows i ≡ Some r
     → row_sides (kind_text r) r.decimals (unwrap_or (written_for (kept_entries (codes "RHS") (program_lines m)) r.name) no_number)
     (written_for (kept_entries (codes "RANGES") (program_lines m)) r.name)
@@ -214,12 +226,7 @@ row_sides_read m how h i r at =
     let row = each_get IsRowText m.rows i r text.rows at in
     let apart = not_at m.objective (map (λ k. k.name) m.rows) i r.name h.rows.0 (get_map (λ k. k.name) m.rows i r at) in
     let right : written_for (kept_entries (codes "RHS") (program_lines m)) r.name ≡ bare_for (rhs_bare r) r.name =
-    written_for_bare (kept_entries (codes "RHS") (program_lines m)) r.name
-    ∙ ap (λ ts. bare_for ts r.name)
-    (right_sides_kept m
-    ∙ listed_append (constant_line m) (flat_map rhs_line m.rows)
-    ∙ ap (λ k. flat_map listed (constant_line m) ++ k) (flat_flat rhs_line m.rows))
-    ∙ for_append (flat_map listed (constant_line m)) (flat_map rhs_bare m.rows) r.name
+    right_written m r.name
     ∙ ap (λ o. option_or o (bare_for (flat_map rhs_bare m.rows) r.name))
     (none_for m.objective r.name (flat_map listed (constant_line m)) (constant_row m) apart).0
     ∙ (own_of rhs_bare rhs_own m.rows i r h.rows.1 at).0 in
@@ -255,12 +262,7 @@ constant_read m how h =
     let text = program_text m h.printable h.limits in
     let given : written_for (kept_entries (codes "RHS") (program_lines m)) m.objective ≡
     (if not (int_eq m.constant (pos 0)) then Some (number_or_zero (value_text m (neg_ℤ m.constant))) else None) =
-    written_for_bare (kept_entries (codes "RHS") (program_lines m)) m.objective
-    ∙ ap (λ ts. bare_for ts m.objective)
-    (right_sides_kept m
-    ∙ listed_append (constant_line m) (flat_map rhs_line m.rows)
-    ∙ ap (λ k. flat_map listed (constant_line m) ++ k) (flat_flat rhs_line m.rows))
-    ∙ for_append (flat_map listed (constant_line m)) (flat_map rhs_bare m.rows) m.objective
+    right_written m m.objective
     ∙ ap (option_or (bare_for (flat_map listed (constant_line m)) m.objective)) (none_of rhs_bare rhs_own m.rows m.objective h.rows.0).0
     ∙ or_none (bare_for (flat_map listed (constant_line m)) m.objective)
     ∙ amount_for (not (int_eq m.constant (pos 0))) (codes "RHS") m.objective (value_text m (neg_ℤ m.constant)) in

@@ -15,11 +15,12 @@ use Rattle.ip_defs.specs.declared.programs.Column.{Column}
 use Rattle.ip_defs.specs.declared.programs.Row.{Row}
 use Rattle.ip_defs.specs.declared.programs.Parts.{Parts}
 use Rattle.text_laws.proofs.WrittenLaws.{lines_from}
-use Rattle.text_laws.proofs.SectionLaws.{lines_in, columns_are, columns_at, new_names, names_are}
+use Rattle.text_laws.proofs.SectionLaws.{lines_in, columns_at, new_names, names_are, data_lines}
 use Rattle.text_laws.proofs.CanonicalLaws.{sections_of, are_sections}
 use Rattle.text_laws.proofs.ReadableLaws.{IsProgramText}
-use Rattle.text_laws.proofs.EntryReadLaws.{BareEntry, listed, AreTriples, listed_append}
-use Rattle.text_laws.proofs.RecordReadLaws.{first_mark, last_mark, blocks_of, blocks_triples}
+use Rattle.text_laws.proofs.EntryReadLaws.{BareEntry, listed, AreTriples, of_triple, listed_append}
+use Rattle.text_laws.proofs.RecordReadLaws.{blocks_of, blocks_triples}
+use Rattle.text_laws.proofs.EachLineLaws.{first_mark, last_mark}
 use Rattle.text_laws.proofs.CoefReadLaws.{bare_from, block_bare}
 use Rattle.ip_defs.proofs.BoolLaws.{left_false, right_false}
 use Rattle.std.proofs.lemmas.List.{append-nil, append_assoc, map-append}
@@ -33,7 +34,7 @@ owners ts = map (λ t. t.owner) ts
 pub lines_bare : (m : Parts) → IsProgramText m
     → map column_name (column_lines (lines_in (sections_of m))) ≡ owners (flat_map listed (blocks_of m))
 lines_bare m h =
-    ap (λ ls. map column_name (filter (λ l. not (is_marker l)) ls)) (columns_are (sections_of m) (are_sections m)) ∙ by m.columns
+    ap (λ ls. map column_name (filter (λ l. not (is_marker l)) ls)) (data_lines (sections_of m) (are_sections m)).columns ∙ by m.columns
   where
     first : ℕ
     first = columns_at (sections_of m)
@@ -45,22 +46,13 @@ lines_bare m h =
         → map column_name (filter (λ l. not (is_marker l)) (lines_from n (codes "COLUMNS") (ds ++ last_mark ∷ [])))
         ≡ owners (flat_map listed ds)
     after n [] t = refl
-    after n (d ∷ ds) t = two d ds t (after (suc n) ds t.1)
-      where
-        two : (e : Written) (es : List Written) → AreTriples (e ∷ es)
-            → map column_name (filter (λ l. not (is_marker l)) (lines_from (suc n) (codes "COLUMNS") (es ++ last_mark ∷ [])))
-            ≡ owners (flat_map listed es)
-            → map column_name (filter (λ l. not (is_marker l)) (lines_from n (codes "COLUMNS") (e ∷ (es ++ last_mark ∷ []))))
-            ≡ owners (flat_map listed (e ∷ es))
-        two (true, a ∷ b ∷ c ∷ []) es k rest =
-            let l : Line = record { number = n; is_item = true; section = codes "COLUMNS"; fields = a ∷ b ∷ c ∷ [] } in
-            let later = filter (λ y. not (is_marker y)) (lines_from (suc n) (codes "COLUMNS") (es ++ last_mark ∷ [])) in
-            ap (λ u. map column_name (cond (not u) (l ∷ later) later)) k.0 ∙ ap (λ y. a ∷ y) rest
-        two (true, a ∷ b ∷ c ∷ d' ∷ fs) es k rest = absurd k.0
-        two (true, a ∷ b ∷ []) es k rest = absurd k.0
-        two (true, a ∷ []) es k rest = absurd k.0
-        two (true, []) es k rest = absurd k.0
-        two (false, fs) es k rest = absurd k.0
+    after n (d ∷ ds) t =
+        of_triple (λ w. map column_name (filter (λ l. not (is_marker l)) (lines_from n (codes "COLUMNS") (w ∷ (ds ++ last_mark ∷ []))))
+        ≡ owners (flat_map listed (w ∷ ds))) d t.0
+        (λ a b c e.
+        let l : Line = record { number = n; is_item = true; section = codes "COLUMNS"; fields = a ∷ b ∷ c ∷ [] } in
+        let later = filter (λ y. not (is_marker y)) (lines_from (suc n) (codes "COLUMNS") (ds ++ last_mark ∷ [])) in
+        ap (λ u. map column_name (cond (not u) (l ∷ later) later)) e ∙ ap (λ y. a ∷ y) (after (suc n) ds t.1))
 
     by : (cs : List Column)
         → map column_name (filter (λ l. not (is_marker l)) (lines_from first (codes "COLUMNS") (if length cs == 0 then []

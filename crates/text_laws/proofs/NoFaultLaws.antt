@@ -15,7 +15,7 @@ use Rattle.ip_defs.specs.declared.programs.Row.{Row}
 use Rattle.ip_defs.specs.declared.programs.Parts.{Parts}
 use Rattle.text_laws.proofs.WrittenLaws.{lines_from}
 use Rattle.text_laws.specs.ReadBack.{CanonicalTextsHaveNoFault}
-use Rattle.text_laws.proofs.SectionLaws.{AreItems, number_after, items_all, columns_are, columns_at, lines_in, after_rows, after_columns}
+use Rattle.text_laws.proofs.SectionLaws.{AreItems, number_after, items_all, columns_at, lines_in, after_rows, after_columns, data_lines}
 use Rattle.text_laws.proofs.SectionLaws.{after_right_sides, after_ranges, after_bounds}
 use Rattle.text_laws.proofs.CanonicalLaws.{sections_of, are_sections}
 use Rattle.text_laws.proofs.ReadableLaws.{IsProgramText, IsRowText, IsColumnText, program_text}
@@ -108,7 +108,7 @@ columns_bounded m before h e = all m.columns h.columns (column_owned m 0 m.colum
   where
     names : map column_name (filter (λ l. not (is_marker l)) (items_of (codes "COLUMNS") before)) ≡ owners (bare_from m 0 m.columns)
     names =
-        ap (λ k. map column_name (filter (λ l. not (is_marker l)) k)) (e ∙ sym (columns_are (sections_of m) (are_sections m)))
+        ap (λ k. map column_name (filter (λ l. not (is_marker l)) k)) (e ∙ sym ((data_lines (sections_of m) (are_sections m)).columns))
         ∙ lines_bare m h
 
     all : (cs : List Column) → Each IsColumnText cs → Each (λ c. is_among c.name (owners (bare_from m 0 m.columns)) ≡ true) cs

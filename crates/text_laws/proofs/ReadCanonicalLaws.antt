@@ -190,15 +190,10 @@ models_canonical text how digits none printable = record {
 
 -- what is canonical for one reading is so for each with the same digits
 with_digits : (m : Parts) (how again : How) → again.digits ≡ how.digits → IsCanonical m how → IsCanonical m again
-with_digits m how again same h = record {
-  printable = h.printable;
-  limits = h.limits;
-  texts = h.texts;
-  columns = h.columns;
-  rows = h.rows;
-  digits = subst (λ (n : ℕ). n ≤ 9) (sym same) h.digits;
-  decimals = subst (λ (n : ℕ). HasLeastDecimals n m) (sym same) h.decimals;
-}
+with_digits m how again same h =
+    let d = subst (λ (n : ℕ). n ≤ 9) (sym same) h.digits in
+    let ds = subst (λ (n : ℕ). HasLeastDecimals n m) (sym same) h.decimals in
+    record { printable = h.printable; limits = h.limits; texts = h.texts; columns = h.columns; rows = h.rows; digits = d; decimals = ds }
 
 pub models_read_back : ModelsReadArePrintedAndReadBack
 models_read_back text how again digits same none printable =

@@ -1,10 +1,10 @@
 -- Each line of the canonical text of a printable program within its limits can be read back, and ENDATA is the last one.
 use Rattle.std.specs.Prelude.{◌≡◌, ℕ, zero, suc, ◌/◌, ◌%◌, ◌^◌, ◌<◌, ◌≤◌, ◌==◌, Bool, true, false, ◌&&◌, ◌||◌, not, cond, if◌then◌else◌}
-use Rattle.std.specs.Prelude.{List, [], ◌∷◌, ◌++◌, length, map, flat_map, find, Option, None, Some, slice_get, bytes_eq, codes, decimal, ℤ}
+use Rattle.std.specs.Prelude.{List, [], ◌∷◌, ◌++◌, length, flat_map, find, Some, slice_get, bytes_eq, codes, decimal, ℤ}
 use Rattle.std.specs.Prelude.{pos, negsuc, neg_ℤ, ◌-ℤ◌}
 use Rattle.std.specs.Fmt.{signed_decimal}
 use Rattle.std.specs.List.{list_any, list_all, enumerate_from}
-use Rattle.std.specs.Option.{option_map_or, ForSome}
+use Rattle.std.specs.Option.{ForSome}
 use Rattle.std.specs.Int.RustNames.{unsigned_abs}
 use Rattle.std.specs.Ordering.{int_eq}
 use Rattle.std.proofs.Common.{refl, arith, ap, sym, ◌∙◌, subst}
@@ -12,12 +12,12 @@ use Rattle.std.proofs.lemmas.Bool.{and_from, ne_eqb}
 use Rattle.std.proofs.lemmas.Int.{ints}
 use Rattle.std.proofs.lemmas.List.Folds.{list_any-append}
 use Rattle.std.proofs.Math.Nat.{div-le_self}
-use Rattle.ip_defs.specs.Lists.{when, Each}
+use Rattle.ip_defs.specs.Lists.{Each}
 use Rattle.ip_defs.specs.Limits.{IsWithinLimits, AreSmall}
 use Rattle.mps_defs.specs.Numbers.{decimal_text, unsigned_text, places, is_digit}
 use Rattle.mps_defs.specs.CanonicalText.{Written, head, pair, triple, bound_line, kind_text, is_equation, is_from_below, coef_line}
 use Rattle.mps_defs.specs.CanonicalText.{column_block, columns_block, right_side, rhs_line, constant_line, range_line, written_text}
-use Rattle.mps_defs.specs.CanonicalText.{canonical_text, is_printable, is_printable_name, value_text, is_separator, side_line, width_line}
+use Rattle.mps_defs.specs.CanonicalText.{canonical_text, is_printable, is_printable_name, value_text, is_separator}
 use Rattle.ip_defs.specs.Program.{is_crossed}
 use Rattle.mps_defs.specs.Records.{lines_of}
 use Rattle.ip_defs.specs.declared.programs.Column.{Column}
@@ -26,13 +26,15 @@ use Rattle.ip_defs.specs.declared.programs.Parts.{Parts}
 use Rattle.text_laws.proofs.WrittenLaws.{is_field, is_readable, is_last}
 use Rattle.text_laws.proofs.NumeralLaws.{digit_range, decimal_digits, decimal_some, places_digits, none_among}
 use Rattle.text_laws.proofs.NumberTextLaws.{signed_decimal_is}
-use Rattle.text_laws.proofs.LineTextLaws.{AreReadable, EndsOnce, text_lines}
+use Rattle.text_laws.proofs.LineTextLaws.{IsReadable, AreReadable, EndsOnce, text_lines}
+use Rattle.text_laws.proofs.ListLaws.{each_flat, each_map, each_when}
+use Rattle.text_laws.proofs.EachLineLaws.{each_coef_line, each_rhs_line, each_range_line, each_columns_line}
 use Rattle.text_laws.proofs.SectionLaws.{Sections, AreSections, AreItems, section_lines, lines_in, after_rows, after_columns}
 use Rattle.text_laws.proofs.SectionLaws.{after_right_sides, after_ranges, after_bounds}
 use Rattle.text_laws.proofs.CanonicalLaws.{sections_of, canonical_sections, are_sections}
 use Rattle.ip_defs.proofs.BoolLaws.{both_true}
 use Rattle.std.proofs.lemmas.Bool.{not-true}
-use Rattle.ip_defs.proofs.ListLaws.{each_numbered}
+use Rattle.ip_defs.proofs.ListLaws.{each_append, each_numbered}
 use Rattle.mps_defs.proofs.NumberLaws.{ten_positive}
 
 -- ---- number texts are fields
@@ -169,24 +171,6 @@ program_text m e w =
 
 -- ---- readable lines
 
-readable_append : (xs ys : List Written) → AreReadable xs → AreReadable ys → AreReadable (xs ++ ys)
-readable_append [] ys h k = k
-readable_append (x ∷ xs) ys h k = (h.0, readable_append xs ys h.1 k)
-
-readable_flat : {A : Type 0} (P : A → Type 0) (f : A → List Written) (xs : List A) → Each P xs → ((x : A) → P x → AreReadable (f x))
-    → AreReadable (flat_map f xs)
-readable_flat P f [] all h = tt
-readable_flat P f (x ∷ xs) all h = readable_append (f x) (flat_map f xs) (h x all.0) (readable_flat P f xs all.1 h)
-
-readable_map : {A : Type 0} (P : A → Type 0) (f : A → Written) (xs : List A) → Each P xs → ((x : A) → P x → is_readable (f x) ≡ true)
-    → AreReadable (map f xs)
-readable_map P f [] all h = tt
-readable_map P f (x ∷ xs) all h = (h x all.0, readable_map P f xs all.1 h)
-
-readable_when : (t : Bool) (w : Written) → is_readable w ≡ true → AreReadable (when t w)
-readable_when true w e = (e, tt)
-readable_when false w e = tt
-
 three : (a b c : List ℕ) → is_field a ≡ true → is_field b ≡ true → is_field c ≡ true → is_readable (triple a b c) ≡ true
 three a b c e f g =
     and_from (is_field a) (is_field b && (is_field c && true)) e
@@ -203,16 +187,10 @@ found_small (q ∷ qs) test p all e = by (test q) e (found_small qs test p all.1
     by false f rest = rest f
 
 coef_readable : (j : ℕ) (name : List ℕ) (r : Row) → is_field name ≡ true → IsRowText r → AreReadable (coef_line j name r)
-coef_readable j name r e h = by (find (λ p. p.0 == j) r.coefs) refl
-  where
-    by : (o : Option (ℕ × ℤ)) → find (λ p. p.0 == j) r.coefs ≡ o
-        → AreReadable (option_map_or (λ p. triple name r.name (decimal_text p.1 r.decimals) ∷ []) o [])
-    by None f = tt
-    by (Some p) f = (
-      three name r.name (decimal_text p.1 r.decimals) e (name_field r.name h.name)
-          (number_field p.1 r.decimals (found_small r.coefs (λ q. q.0 == j) p h.coefs f)),
-      tt,
-    )
+coef_readable j name r e h =
+    each_coef_line IsReadable j name r
+    (λ p f. three name r.name (decimal_text p.1 r.decimals) e (name_field r.name h.name)
+    (number_field p.1 r.decimals (found_small r.coefs (λ q. q.0 == j) p h.coefs f)))
 
 pub right_side_small : (r : Row) → IsRowText r → ForSome (right_side r) (λ b. unsigned_abs b ≤ 2 ^ 62)
 right_side_small r h = by (is_from_below r)
@@ -222,30 +200,19 @@ right_side_small r h = by (is_from_below r)
     by false = h.high
 
 rhs_readable : (r : Row) → IsRowText r → AreReadable (rhs_line r)
-rhs_readable r h = by (right_side r) (right_side_small r h)
-  where
-    by : (o : Option ℤ) → ForSome o (λ b. unsigned_abs b ≤ 2 ^ 62)
-        → AreReadable (option_map_or (side_line r) o (triple (codes "RHS") r.name (codes "1e30") ∷ []))
-    by None s = (three (codes "RHS") r.name (codes "1e30") refl (name_field r.name h.name) refl, tt)
-    by (Some b) s =
-        readable_when (not (int_eq b (pos 0))) (triple (codes "RHS") r.name (decimal_text b r.decimals))
-        (three (codes "RHS") r.name (decimal_text b r.decimals) refl (name_field r.name h.name)
-        (number_field b r.decimals (let l = s b refl in omega arith)))
+rhs_readable r h =
+    each_rhs_line IsReadable r (three (codes "RHS") r.name (codes "1e30") refl (name_field r.name h.name) refl)
+    (λ b e. three (codes "RHS") r.name (decimal_text b r.decimals) refl (name_field r.name h.name)
+    (number_field b r.decimals (let s = right_side_small r h b e in omega arith)))
 
 pub width_small : (low high : ℤ) → unsigned_abs low ≤ 2 ^ 62 → unsigned_abs high ≤ 2 ^ 62 → unsigned_abs (high -ℤ low) < 2 ^ 64
 width_small low high h k = omega (arith, ints)
 
 range_readable : (r : Row) → IsRowText r → AreReadable (range_line r)
-range_readable r h = by r.low r.high h.low h.high
-  where
-    by : (o p : Option ℤ) → ForSome o (λ b. unsigned_abs b ≤ 2 ^ 62) → ForSome p (λ b. unsigned_abs b ≤ 2 ^ 62)
-        → AreReadable (option_map_or (λ low. option_map_or (width_line r low) p []) o [])
-    by None p s t = tt
-    by (Some low) None s t = tt
-    by (Some low) (Some high) s t =
-        readable_when (not (int_eq low high)) (triple (codes "RNG") r.name (decimal_text (high -ℤ low) r.decimals))
-        (three (codes "RNG") r.name (decimal_text (high -ℤ low) r.decimals) refl (name_field r.name h.name)
-        (number_field (high -ℤ low) r.decimals (width_small low high (s low refl) (t high refl))))
+range_readable r h =
+    each_range_line IsReadable r
+    (λ low high e f. three (codes "RNG") r.name (decimal_text (high -ℤ low) r.decimals) refl (name_field r.name h.name)
+    (number_field (high -ℤ low) r.decimals (width_small low high (h.low low e) (h.high high f))))
 
 kind_readable : (r : Row) → IsRowText r → is_readable (pair (kind_text r) r.name) ≡ true
 kind_readable r h =
@@ -261,25 +228,14 @@ column_readable : (m : Parts) → IsProgramText m → (p : ℕ × Column) → Is
 column_readable m h p c = (
   three p.1.name m.objective (value_text m p.1.cost) (name_field p.1.name c.name) (name_field m.objective h.objective)
       (number_field p.1.cost m.cost_decimals c.cost),
-  readable_flat IsRowText (coef_line p.0 p.1.name) m.rows h.rows (λ r k. coef_readable p.0 p.1.name r (name_field p.1.name c.name) k),
+  each_flat IsRowText IsReadable (coef_line p.0 p.1.name) m.rows h.rows
+      (λ r k. coef_readable p.0 p.1.name r (name_field p.1.name c.name) k),
 )
 
 columns_readable : (m : Parts) → IsProgramText m → AreReadable (columns_block m)
-columns_readable m h = by (length m.columns == 0)
-  where
-    blocks : List Written
-    blocks = flat_map (column_block m) (enumerate_from 0 m.columns)
-
-    by : (t : Bool)
-        → AreReadable (if t then [] else triple (codes "M") (codes "'MARKER'") (codes "'INTORG'") ∷ blocks
-        ++ triple (codes "M") (codes "'MARKER'") (codes "'INTEND'") ∷ [])
-    by true = tt
-    by false = (
-      refl,
-      readable_append blocks (triple (codes "M") (codes "'MARKER'") (codes "'INTEND'") ∷ [])
-          (readable_flat (λ p. IsColumnText p.1) (column_block m) (enumerate_from 0 m.columns)
-          (each_numbered IsColumnText 0 m.columns h.columns) (column_readable m h)) (refl, tt),
-    )
+columns_readable m h =
+    each_columns_line IsReadable m refl refl (each_flat (λ p. IsColumnText p.1) IsReadable (column_block m) (enumerate_from 0 m.columns)
+    (each_numbered IsColumnText 0 m.columns h.columns) (column_readable m h))
 
 bound_readable : (kind name : List ℕ) (z : ℤ) → is_field kind ≡ true → is_field name ≡ true → unsigned_abs z < 2 ^ 64
     → is_readable (bound_line kind name z) ≡ true
@@ -300,32 +256,33 @@ sections_readable m h =
       refl,
       (
         refl,
-        readable_append s.rows (after_rows s) (
+        each_append IsReadable s.rows (after_rows s) (
           and_from (is_field (codes "N")) (is_field m.objective && true) refl
               (and_from (is_field m.objective) true (name_field m.objective h.objective) refl),
-          readable_map IsRowText
+          each_map IsRowText IsReadable
               (λ r. pair (kind_text r) r.name) m.rows h.rows kind_readable,
         ) (
           refl,
-          readable_append s.columns (after_columns s) (columns_readable m h) (
+          each_append IsReadable s.columns (after_columns s) (columns_readable m h) (
             refl,
-            readable_append s.right_sides (after_right_sides s) (readable_append (constant_line m) (flat_map rhs_line m.rows)
-                (readable_when (not (int_eq m.constant (pos 0))) (triple (codes "RHS") m.objective (value_text m (neg_ℤ m.constant)))
+            each_append IsReadable s.right_sides (after_right_sides s) (each_append IsReadable (constant_line m) (flat_map rhs_line m.rows)
+                (each_when IsReadable (not (int_eq m.constant (pos 0))) (triple (codes "RHS") m.objective (value_text m (neg_ℤ m.constant)))
                 (three (codes "RHS") m.objective (value_text m (neg_ℤ m.constant)) refl (name_field m.objective h.objective)
                 (number_field (neg_ℤ m.constant) m.cost_decimals (negated_small m.constant h.constant))))
-                (readable_flat IsRowText rhs_line m.rows h.rows rhs_readable)) (
+                (each_flat IsRowText IsReadable rhs_line m.rows h.rows rhs_readable)) (
                   refl,
-                  readable_append s.ranges (after_ranges s) (readable_flat IsRowText range_line m.rows h.rows range_readable) (
-                    refl,
-                    readable_append s.bounds (after_bounds s)
-                        (readable_flat IsColumnText
-                        (λ c. bound_line (codes "LO") c.name c.lo ∷ bound_line (codes "UP") c.name c.hi ∷ []) m.columns h.columns
-                        (λ c k. (
-                          bound_readable (codes "LO") c.name c.lo refl (name_field c.name k.name) k.lo,
-                          (bound_readable (codes "UP") c.name c.hi refl (name_field c.name k.name) k.hi, tt),
-                        )))
-                        (refl, tt),
-                  ),
+                  each_append IsReadable s.ranges (after_ranges s)
+                      (each_flat IsRowText IsReadable range_line m.rows h.rows range_readable) (
+                        refl,
+                        each_append IsReadable s.bounds (after_bounds s)
+                            (each_flat IsColumnText IsReadable
+                            (λ c. bound_line (codes "LO") c.name c.lo ∷ bound_line (codes "UP") c.name c.hi ∷ []) m.columns h.columns
+                            (λ c k. (
+                              bound_readable (codes "LO") c.name c.lo refl (name_field c.name k.name) k.lo,
+                              (bound_readable (codes "UP") c.name c.hi refl (name_field c.name k.name) k.hi, tt),
+                            )))
+                            (refl, tt),
+                      ),
                 ),
           ),
         ),

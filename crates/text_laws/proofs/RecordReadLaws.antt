@@ -18,18 +18,20 @@ use Rattle.ip_defs.specs.declared.programs.Column.{Column}
 use Rattle.ip_defs.specs.declared.programs.Row.{Row}
 use Rattle.ip_defs.specs.declared.programs.Parts.{Parts}
 use Rattle.text_laws.proofs.WrittenLaws.{lines_from}
-use Rattle.text_laws.proofs.SectionLaws.{lines_in, rows_are, columns_are, right_sides_are, ranges_are, columns_at, right_sides_at}
+use Rattle.text_laws.proofs.SectionLaws.{lines_in, columns_at, right_sides_at, data_lines}
 use Rattle.text_laws.proofs.SectionLaws.{ranges_at}
 use Rattle.text_laws.proofs.CanonicalLaws.{sections_of, are_sections}
 use Rattle.text_laws.proofs.ReadableLaws.{IsProgramText, IsRowText}
-use Rattle.text_laws.proofs.EntryReadLaws.{bare, listed, AreTriples}
+use Rattle.text_laws.proofs.EntryReadLaws.{bare, listed, IsTriple, AreTriples, of_triple}
+use Rattle.text_laws.proofs.ListLaws.{all_flat, each_flat}
+use Rattle.text_laws.proofs.EachLineLaws.{first_mark, last_mark, each_coef_line}
 use Rattle.ip_defs.proofs.BoolLaws.{both_true}
 use Rattle.ip_defs.proofs.TextLaws.{text_self}
 
 -- ---- rows
 
 pub objective_read : (m : Parts) → objective (lines_in (sections_of m)) ≡ Some m.objective
-objective_read m = ap (λ ls. option_map row_name (find is_free ls)) (rows_are (sections_of m) (are_sections m))
+objective_read m = ap (λ ls. option_map row_name (find is_free ls)) (data_lines (sections_of m) (are_sections m)).rows
 
 kind_bound : (r : Row) → bytes_eq (kind_text r) (codes "N") ≡ false
 kind_bound r = by (is_equation r) (is_from_below r)
@@ -68,12 +70,12 @@ pub rows_read : {A : Type 0} (f : List ℕ → List ℕ → A) (m : Parts)
     → map (λ l. f (row_kind l) (row_name l)) (filter (λ l. not (is_free l)) (row_lines (lines_in (sections_of m))))
     ≡ map (λ r. f (kind_text r) r.name) m.rows
 rows_read f m =
-    ap (λ ls. map (λ l. f (row_kind l) (row_name l)) (filter (λ l. not (is_free l)) ls)) (rows_are (sections_of m) (are_sections m))
+    ap (λ ls. map (λ l. f (row_kind l) (row_name l)) (filter (λ l. not (is_free l)) ls)) (data_lines (sections_of m) (are_sections m)).rows
     ∙ ap (map (λ l. f (row_kind l) (row_name l))) (bound_rows 4 m.rows) ∙ made_of f 4 m.rows
 
 free_read : (m : Parts) → map row_name (filter is_free (row_lines (lines_in (sections_of m)))) ≡ m.objective ∷ []
 free_read m =
-    ap (λ ls. map row_name (filter is_free ls)) (rows_are (sections_of m) (are_sections m))
+    ap (λ ls. map row_name (filter is_free ls)) (data_lines (sections_of m) (are_sections m)).rows
     ∙ ap (λ k. m.objective ∷ map row_name k) (free_rows 4 m.rows)
 
 pub objective_is : (m : Parts) (name : List ℕ) → is_objective (lines_in (sections_of m)) name ≡ bytes_eq name m.objective
@@ -97,21 +99,8 @@ not_marker name e =
     let h = both_true (not (length name == 0) && not (bytes_eq name (codes "'MARKER'"))) (not (list_any is_separator name)) e in
     not-true (bytes_eq name (codes "'MARKER'")) (both_true (not (length name == 0)) (not (bytes_eq name (codes "'MARKER'"))) h.0).1
 
-triples_append : (xs ys : List Written) → AreTriples xs → AreTriples ys → AreTriples (xs ++ ys)
-triples_append [] ys h k = k
-triples_append (x ∷ xs) ys h k = (h.0, triples_append xs ys h.1 k)
-
-triples_flat : {A : Type 0} (P : A → Type 0) (f : A → List Written) (xs : List A) → Each P xs → ((x : A) → P x → AreTriples (f x))
-    → AreTriples (flat_map f xs)
-triples_flat P f [] all h = tt
-triples_flat P f (x ∷ xs) all h = triples_append (f x) (flat_map f xs) (h x all.0) (triples_flat P f xs all.1 h)
-
 coef_triples : (j : ℕ) (name : List ℕ) (r : Row) → IsRowText r → AreTriples (coef_line j name r)
-coef_triples j name r h = by (find (λ p. p.0 == j) r.coefs)
-  where
-    by : (o : Option (ℕ × ℤ)) → AreTriples (option_map_or (λ p. triple name r.name (decimal_text p.1 r.decimals) ∷ []) o [])
-    by None = tt
-    by (Some p) = (not_marker r.name h.name, tt)
+coef_triples j name r h = each_coef_line IsTriple j name r (λ p e. not_marker r.name h.name)
 
 -- the lines between the markers
 abbrev pub blocks_of : Parts → List Written
@@ -119,28 +108,17 @@ blocks_of m = flat_map (column_block m) (enumerate_from 0 m.columns)
 
 pub blocks_triples : (m : Parts) → IsProgramText m → (xs : List (ℕ × Column)) → AreTriples (flat_map (column_block m) xs)
 blocks_triples m h xs =
-    triples_flat (λ p. ⊤) (column_block m) xs (any xs)
-    (λ p t. (
+    all_flat IsTriple (column_block m) xs
+    (λ p. (
       not_marker m.objective h.objective,
-      triples_flat IsRowText (coef_line p.0 p.1.name) m.rows h.rows
+      each_flat IsRowText IsTriple (coef_line p.0 p.1.name) m.rows h.rows
           (λ r k. coef_triples p.0 p.1.name r k),
     ))
-  where
-    any : (ys : List (ℕ × Column)) → Each (λ p. ⊤) ys
-    any [] = tt
-    any (y ∷ ys) = (tt, any ys)
-
--- the two marker lines
-abbrev pub first_mark : Written
-first_mark = triple (codes "M") (codes "'MARKER'") (codes "'INTORG'")
-
-abbrev pub last_mark : Written
-last_mark = triple (codes "M") (codes "'MARKER'") (codes "'INTEND'")
 
 -- what the entries of COLUMNS are
 pub columns_bare : (m : Parts) → IsProgramText m
     → map bare (all_entries (codes "COLUMNS") (lines_in (sections_of m))) ≡ flat_map listed (blocks_of m)
-columns_bare m h = ap (λ ls. map bare (flat_map entries_of ls)) (columns_are (sections_of m) (are_sections m)) ∙ by m.columns
+columns_bare m h = ap (λ ls. map bare (flat_map entries_of ls)) (data_lines (sections_of m) (are_sections m)).columns ∙ by m.columns
   where
     first : ℕ
     first = columns_at (sections_of m)
@@ -148,20 +126,13 @@ columns_bare m h = ap (λ ls. map bare (flat_map entries_of ls)) (columns_are (s
     after : (n : ℕ) (ds : List Written) → AreTriples ds
         → map bare (flat_map entries_of (lines_from n (codes "COLUMNS") (ds ++ last_mark ∷ []))) ≡ flat_map listed ds
     after n [] t = refl
-    after n (d ∷ ds) t = two d ds t (after (suc n) ds t.1)
-      where
-        two : (e : Written) (es : List Written) → AreTriples (e ∷ es)
-            → map bare (flat_map entries_of (lines_from (suc n) (codes "COLUMNS") (es ++ last_mark ∷ []))) ≡ flat_map listed es
-            → map bare (flat_map entries_of (lines_from n (codes "COLUMNS") (e ∷ (es ++ last_mark ∷ [])))) ≡ flat_map listed (e ∷ es)
-        two (true, a ∷ b ∷ c ∷ []) es k rest =
-            ap (λ u. map bare ((if u then [] else record { line = n; owner = a; row = b; text = c } ∷ [])
-            ++ flat_map entries_of (lines_from (suc n) (codes "COLUMNS") (es ++ last_mark ∷ [])))) k.0
-            ∙ ap (λ l. record { owner = a; row = b; text = c } ∷ l) rest
-        two (true, a ∷ b ∷ c ∷ d' ∷ fs) es k rest = absurd k.0
-        two (true, a ∷ b ∷ []) es k rest = absurd k.0
-        two (true, a ∷ []) es k rest = absurd k.0
-        two (true, []) es k rest = absurd k.0
-        two (false, fs) es k rest = absurd k.0
+    after n (d ∷ ds) t =
+        of_triple (λ w. map bare (flat_map entries_of (lines_from n (codes "COLUMNS") (w ∷ (ds ++ last_mark ∷ []))))
+        ≡ flat_map listed (w ∷ ds)) d t.0
+        (λ a b c e.
+        ap (λ u. map bare ((if u then [] else record { line = n; owner = a; row = b; text = c } ∷ [])
+        ++ flat_map entries_of (lines_from (suc n) (codes "COLUMNS") (ds ++ last_mark ∷ [])))) e
+        ∙ ap (λ l. record { owner = a; row = b; text = c } ∷ l) (after (suc n) ds t.1))
 
     by : (cs : List Column)
         → map bare (flat_map entries_of (lines_from first (codes "COLUMNS") (if length cs == 0 then []
@@ -287,7 +258,7 @@ right_sides_kept m =
     at = right_sides_at (sections_of m)
 
     items : items_of (codes "RHS") (lines_in (sections_of m)) ≡ lines_from at (codes "RHS") (constant_line m ++ flat_map rhs_line m.rows)
-    items = right_sides_are (sections_of m) (are_sections m)
+    items = (data_lines (sections_of m) (are_sections m)).right_sides
 
     by : (ds : List Written) → constant_line m ++ flat_map rhs_line m.rows ≡ ds
         → AreOfSet (codes "RHS") (λ b. ⊤) (constant_line m ++ flat_map rhs_line m.rows)
@@ -324,7 +295,7 @@ ranges_kept m apart =
     at = ranges_at (sections_of m)
 
     items : items_of (codes "RANGES") (lines_in (sections_of m)) ≡ lines_from at (codes "RANGES") (flat_map range_line m.rows)
-    items = ranges_are (sections_of m) (are_sections m)
+    items = (data_lines (sections_of m) (are_sections m)).ranges
 
     by : (ds : List Written) → flat_map range_line m.rows ≡ ds → AreOfSet (codes "RNG") (IsApart m) (flat_map range_line m.rows)
         → map bare (filter (is_kept (codes "RANGES") (lines_in (sections_of m)))

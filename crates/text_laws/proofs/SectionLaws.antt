@@ -1,9 +1,9 @@
 -- The data lines of the sections of a written text.
-use Rattle.std.specs.Prelude.{◌≡◌, ℕ, suc, nat_le, Bool, true, false, ◌&&◌, not, cond, List, [], ◌∷◌, ◌++◌, length, map, filter, bytes_eq}
-use Rattle.std.specs.Prelude.{codes, ⊤}
+use Rattle.std.specs.Prelude.{◌≡◌, ℕ, suc, nat_le, Bool, true, false, ◌&&◌, not, cond, if◌then◌else◌, List, [], ◌∷◌, ◌++◌}
+use Rattle.std.specs.Prelude.{length, map, filter, bytes_eq, codes}
 use Rattle.std.proofs.Common.{refl, ap, sym, ◌∙◌}
 use Rattle.mps_defs.specs.Lists.{after_those, is_among}
-use Rattle.ip_defs.specs.Lists.{when}
+use Rattle.ip_defs.specs.Lists.{when, Each}
 use Rattle.mps_defs.specs.CanonicalText.{Written, head}
 use Rattle.mps_defs.specs.Records.{Line, items_of, column_lines, column_name, column_names, has_column}
 use Rattle.text_laws.proofs.WrittenLaws.{lines_from}
@@ -11,9 +11,12 @@ use Rattle.ip_defs.proofs.ListLaws.{filter-append}
 use Rattle.std.proofs.lemmas.List.{append-nil}
 use Rattle.mps_defs.proofs.ColumnLaws.{is_column_line, names_on_lines-append, column_line-one, is_first, column_lines-append}
 
+-- data lines
+abbrev pub IsItem : Written → Type 0
+IsItem w = w.0 ≡ true
+
 abbrev pub AreItems : List Written → Type 0
-AreItems [] = ⊤
-AreItems (w ∷ ws) = (w.0 ≡ true) × AreItems ws
+AreItems ws = Each IsItem ws
 
 -- the number after some lines
 abbrev pub number_after : ℕ → List Written → ℕ
@@ -45,21 +48,6 @@ items_none n word w ((true, fs) ∷ ds) h e =
     ap (λ t. cond t (l ∷ items_of w (lines_from (suc n) word ds)) (items_of w (lines_from (suc n) word ds))) e
     ∙ items_none (suc n) word w ds h.1 e
 items_none n word w ((false, fs) ∷ ds) h e = absurd cc
-
--- a section of its own, and what comes after it
-pub own_section : (n : ℕ) (word : List ℕ) (ds ws : List Written) → AreItems ds → bytes_eq word word ≡ true
-    → items_of word (lines_from n word (ds ++ ws)) ≡ lines_from n word ds ++ items_of word (lines_from (number_after n ds) word ws)
-own_section n word ds ws h e =
-    ap (items_of word) (items_first n word ds ws h)
-    ∙ filter-append (λ l. l.is_item && bytes_eq l.section word) (lines_from n word ds) (lines_from (number_after n ds) word ws)
-    ∙ ap (λ k. k ++ items_of word (lines_from (number_after n ds) word ws)) (items_all n word word ds h e)
-
-pub other_section : (n : ℕ) (word w : List ℕ) (ds ws : List Written) → AreItems ds → bytes_eq word w ≡ false
-    → items_of w (lines_from n word (ds ++ ws)) ≡ items_of w (lines_from (number_after n ds) word ws)
-other_section n word w ds ws h e =
-    ap (items_of w) (items_first n word ds ws h)
-    ∙ filter-append (λ l. l.is_item && bytes_eq l.section w) (lines_from n word ds) (lines_from (number_after n ds) word ws)
-    ∙ ap (λ k. k ++ items_of w (lines_from (number_after n ds) word ws)) (items_none n word w ds h e)
 
 -- the sections of a written text
 pub record Sections : Type 0 where
@@ -110,59 +98,53 @@ section_lines s = head (codes "NAME") ∷ head (codes "ROWS") ∷ (s.rows ++ aft
 abbrev pub lines_in : Sections → List Line
 lines_in s = lines_from 1 [] (section_lines s)
 
+-- the data lines of a section that are those of a word
+abbrev pub part : ℕ → List ℕ → List ℕ → List Written → List Line
+part n word w ds = if bytes_eq word w then lines_from n word ds else []
+
+pub section_part : (n : ℕ) (word w : List ℕ) (ds ws : List Written) → AreItems ds
+    → items_of w (lines_from n word (ds ++ ws)) ≡ part n word w ds ++ items_of w (lines_from (number_after n ds) word ws)
+section_part n word w ds ws h =
+    ap (items_of w) (items_first n word ds ws h)
+    ∙ filter-append (λ l. l.is_item && bytes_eq l.section w) (lines_from n word ds) (lines_from (number_after n ds) word ws)
+    ∙ ap (λ k. k ++ items_of w (lines_from (number_after n ds) word ws)) (by (bytes_eq word w) refl)
+  where
+    by : (t : Bool) → bytes_eq word w ≡ t → items_of w (lines_from n word ds) ≡ (if t then lines_from n word ds else [])
+    by true e = items_all n word w ds h e
+    by false e = items_none n word w ds h e
+
+-- so the lines of a word are those of each section that is of the word
+parts_are : (s : Sections) (w : List ℕ) → AreSections s
+    → items_of w (lines_in s)
+    ≡ part 3 (codes "ROWS") w s.rows ++ (part (columns_at s) (codes "COLUMNS") w s.columns ++
+    (part (right_sides_at s) (codes "RHS") w s.right_sides ++ (part (ranges_at s) (codes "RANGES") w s.ranges ++
+    (part (bounds_at s) (codes "BOUNDS") w s.bounds ++ []))))
+parts_are s w h =
+    section_part 3 (codes "ROWS") w s.rows (after_rows s) h.rows
+    ∙ ap (λ k. part 3 (codes "ROWS") w s.rows ++ k) (section_part (columns_at s) (codes "COLUMNS") w s.columns (after_columns s) h.columns
+    ∙ ap (λ k. part (columns_at s) (codes "COLUMNS") w s.columns ++ k)
+    (section_part (right_sides_at s) (codes "RHS") w s.right_sides (after_right_sides s) h.right_sides
+    ∙ ap (λ k. part (right_sides_at s) (codes "RHS") w s.right_sides ++ k)
+    (section_part (ranges_at s) (codes "RANGES") w s.ranges (after_ranges s) h.ranges
+    ∙ ap (λ k. part (ranges_at s) (codes "RANGES") w s.ranges ++ k)
+    (section_part (bounds_at s) (codes "BOUNDS") w s.bounds (after_bounds s) h.bounds))))
+
 -- the data lines of each section
-pub rows_are : (s : Sections) → AreSections s → items_of (codes "ROWS") (lines_in s) ≡ lines_from 3 (codes "ROWS") s.rows
-rows_are s h =
-    own_section 3 (codes "ROWS") s.rows (after_rows s) h.rows refl
-    ∙ ap (λ k. lines_from 3 (codes "ROWS") s.rows ++ k)
-    (other_section (columns_at s) (codes "COLUMNS") (codes "ROWS") s.columns (after_columns s) h.columns refl
-    ∙ other_section (right_sides_at s) (codes "RHS") (codes "ROWS") s.right_sides (after_right_sides s) h.right_sides refl
-    ∙ other_section (ranges_at s) (codes "RANGES") (codes "ROWS") s.ranges (after_ranges s) h.ranges refl
-    ∙ other_section (bounds_at s) (codes "BOUNDS") (codes "ROWS") s.bounds (after_bounds s) h.bounds refl)
-    ∙ append-nil (lines_from 3 (codes "ROWS") s.rows)
+pub record AreDataLines (s : Sections) : Type 0 where
+  pub rows : items_of (codes "ROWS") (lines_in s) ≡ lines_from 3 (codes "ROWS") s.rows
+  pub columns : items_of (codes "COLUMNS") (lines_in s) ≡ lines_from (columns_at s) (codes "COLUMNS") s.columns
+  pub right_sides : items_of (codes "RHS") (lines_in s) ≡ lines_from (right_sides_at s) (codes "RHS") s.right_sides
+  pub ranges : items_of (codes "RANGES") (lines_in s) ≡ lines_from (ranges_at s) (codes "RANGES") s.ranges
+  pub bounds : items_of (codes "BOUNDS") (lines_in s) ≡ lines_from (bounds_at s) (codes "BOUNDS") s.bounds
 
-pub columns_are : (s : Sections) → AreSections s
-    → items_of (codes "COLUMNS") (lines_in s) ≡ lines_from (columns_at s) (codes "COLUMNS") s.columns
-columns_are s h =
-    other_section 3 (codes "ROWS") (codes "COLUMNS") s.rows (after_rows s) h.rows refl
-    ∙ own_section (columns_at s) (codes "COLUMNS") s.columns (after_columns s) h.columns refl
-    ∙ ap (λ k. lines_from (columns_at s) (codes "COLUMNS") s.columns ++ k)
-    (other_section (right_sides_at s) (codes "RHS") (codes "COLUMNS") s.right_sides (after_right_sides s) h.right_sides refl
-    ∙ other_section (ranges_at s) (codes "RANGES") (codes "COLUMNS") s.ranges (after_ranges s) h.ranges refl
-    ∙ other_section (bounds_at s) (codes "BOUNDS") (codes "COLUMNS") s.bounds (after_bounds s) h.bounds refl)
-    ∙ append-nil (lines_from (columns_at s) (codes "COLUMNS") s.columns)
-
-pub right_sides_are : (s : Sections) → AreSections s
-    → items_of (codes "RHS") (lines_in s) ≡ lines_from (right_sides_at s) (codes "RHS") s.right_sides
-right_sides_are s h =
-    other_section 3 (codes "ROWS") (codes "RHS") s.rows (after_rows s) h.rows refl
-    ∙ other_section (columns_at s) (codes "COLUMNS") (codes "RHS") s.columns (after_columns s) h.columns refl
-    ∙ own_section (right_sides_at s) (codes "RHS") s.right_sides (after_right_sides s) h.right_sides refl
-    ∙ ap (λ k. lines_from (right_sides_at s) (codes "RHS") s.right_sides ++ k)
-    (other_section (ranges_at s) (codes "RANGES") (codes "RHS") s.ranges (after_ranges s) h.ranges refl
-    ∙ other_section (bounds_at s) (codes "BOUNDS") (codes "RHS") s.bounds (after_bounds s) h.bounds refl)
-    ∙ append-nil (lines_from (right_sides_at s) (codes "RHS") s.right_sides)
-
-pub ranges_are : (s : Sections) → AreSections s
-    → items_of (codes "RANGES") (lines_in s) ≡ lines_from (ranges_at s) (codes "RANGES") s.ranges
-ranges_are s h =
-    other_section 3 (codes "ROWS") (codes "RANGES") s.rows (after_rows s) h.rows refl
-    ∙ other_section (columns_at s) (codes "COLUMNS") (codes "RANGES") s.columns (after_columns s) h.columns refl
-    ∙ other_section (right_sides_at s) (codes "RHS") (codes "RANGES") s.right_sides (after_right_sides s) h.right_sides refl
-    ∙ own_section (ranges_at s) (codes "RANGES") s.ranges (after_ranges s) h.ranges refl
-    ∙ ap (λ k. lines_from (ranges_at s) (codes "RANGES") s.ranges ++ k)
-    (other_section (bounds_at s) (codes "BOUNDS") (codes "RANGES") s.bounds (after_bounds s) h.bounds refl)
-    ∙ append-nil (lines_from (ranges_at s) (codes "RANGES") s.ranges)
-
-pub bounds_are : (s : Sections) → AreSections s
-    → items_of (codes "BOUNDS") (lines_in s) ≡ lines_from (bounds_at s) (codes "BOUNDS") s.bounds
-bounds_are s h =
-    other_section 3 (codes "ROWS") (codes "BOUNDS") s.rows (after_rows s) h.rows refl
-    ∙ other_section (columns_at s) (codes "COLUMNS") (codes "BOUNDS") s.columns (after_columns s) h.columns refl
-    ∙ other_section (right_sides_at s) (codes "RHS") (codes "BOUNDS") s.right_sides (after_right_sides s) h.right_sides refl
-    ∙ other_section (ranges_at s) (codes "RANGES") (codes "BOUNDS") s.ranges (after_ranges s) h.ranges refl
-    ∙ own_section (bounds_at s) (codes "BOUNDS") s.bounds (after_bounds s) h.bounds refl
-    ∙ append-nil (lines_from (bounds_at s) (codes "BOUNDS") s.bounds)
+pub data_lines : (s : Sections) → AreSections s → AreDataLines s
+data_lines s h = record {
+  rows = parts_are s (codes "ROWS") h ∙ append-nil (lines_from 3 (codes "ROWS") s.rows);
+  columns = parts_are s (codes "COLUMNS") h ∙ append-nil (lines_from (columns_at s) (codes "COLUMNS") s.columns);
+  right_sides = parts_are s (codes "RHS") h ∙ append-nil (lines_from (right_sides_at s) (codes "RHS") s.right_sides);
+  ranges = parts_are s (codes "RANGES") h ∙ append-nil (lines_from (ranges_at s) (codes "RANGES") s.ranges);
+  bounds = parts_are s (codes "BOUNDS") h ∙ append-nil (lines_from (bounds_at s) (codes "BOUNDS") s.bounds);
+}
 
 -- ---- columns
 

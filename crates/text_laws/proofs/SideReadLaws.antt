@@ -144,6 +144,17 @@ finite_plain kind k n v finite is =
 abbrev row_with : Row → Option ℤ → Option ℤ → Row
 row_with r low' high' = record { name = r.name; decimals = r.decimals; coefs = r.coefs; low = low'; high = high' }
 
+-- what is read of one amount on the right of a row without a range
+one_side : (r : Row) (kind : List ℕ) (b : ℤ) → unsigned_abs b ≤ 2 ^ 62 → r.decimals ≤ 9
+    → row_sides kind r.decimals (unwrap_or (bare_for (flat_map listed (side_line r b)) r.name) no_number) None ≡ plain_sides kind b
+one_side r kind b size most =
+    let small : unsigned_abs b < 2 ^ 64 = omega arith in
+    let given = amount_number b r.decimals small most in
+    ap (λ o. row_sides kind r.decimals (unwrap_or o no_number) None)
+    (amount_for (not (int_eq b (pos 0))) (codes "RHS") r.name (decimal_text b r.decimals))
+    ∙ finite_plain kind r.decimals
+    (unwrap_or (if not (int_eq b (pos 0)) then Some (number_or_zero (decimal_text b r.decimals)) else None) no_number) b given.1 given.0
+
 sides_of : (r : Row) (low high : Option ℤ) → r.decimals ≤ 9 → ForSome low (λ b. unsigned_abs b ≤ 2 ^ 62)
     → ForSome high (λ b. unsigned_abs b ≤ 2 ^ 62) → is_crossed (row_with r low high) ≡ false
     → read_sides (row_with r low high) ≡ (low, high)
@@ -151,22 +162,8 @@ sides_of r None None most l h c =
     ap (λ u. row_sides (codes "L") r.decimals
     (unwrap_or (option_map (λ (k : BareEntry). number_or_zero k.text)
     (cond u (Some (record { owner = codes "RHS"; row = r.name; text = codes "1e30" })) None)) no_number) None) (text_self r.name)
-sides_of r (Some low) None most l h c =
-    let small : unsigned_abs low < 2 ^ 64 = let s = l low refl in omega arith in
-    let given = amount_number low r.decimals small most in
-    ap (λ o. row_sides (codes "G") r.decimals (unwrap_or o no_number) None)
-    (amount_for (not (int_eq low (pos 0))) (codes "RHS") r.name (decimal_text low r.decimals))
-    ∙ finite_plain (codes "G") r.decimals
-    (unwrap_or (if not (int_eq low (pos 0)) then Some
-    (number_or_zero (decimal_text low r.decimals)) else None) no_number) low given.1 given.0
-sides_of r None (Some high) most l h c =
-    let small : unsigned_abs high < 2 ^ 64 = let s = h high refl in omega arith in
-    let given = amount_number high r.decimals small most in
-    ap (λ o. row_sides (codes "L") r.decimals (unwrap_or o no_number) None)
-    (amount_for (not (int_eq high (pos 0))) (codes "RHS") r.name (decimal_text high r.decimals))
-    ∙ finite_plain (codes "L") r.decimals
-    (unwrap_or (if not (int_eq high (pos 0)) then Some
-    (number_or_zero (decimal_text high r.decimals)) else None) no_number) high given.1 given.0
+sides_of r (Some low) None most l h c = one_side r (codes "G") low (l low refl) most
+sides_of r None (Some high) most l h c = one_side r (codes "L") high (h high refl) most
 sides_of r (Some low) (Some high) most l h c =
     ap (λ o. row_sides (kind_text (row_with r (Some low) (Some high))) r.decimals (unwrap_or o no_number)
     (bare_for (range_bare (row_with r (Some low) (Some high))) r.name)) (amount_for (not (int_eq high (pos 0))) (codes "RHS") r.name

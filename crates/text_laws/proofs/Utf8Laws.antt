@@ -1,9 +1,8 @@
 -- A canonical text is UTF-8 where the names of its program are.
-use Rattle.std.specs.Prelude.{◌≡◌, ℕ, suc, ◌/◌, ◌%◌, ◌^◌, ◌<◌, ◌≤◌, ◌==◌, Bool, true, false, not, if◌then◌else◌, List, [], ◌∷◌, ◌++◌}
-use Rattle.std.specs.Prelude.{length, flat_map, find, Option, None, Some, codes, decimal, ℤ, pos, negsuc, neg_ℤ, ◌-ℤ◌, nat_lt}
+use Rattle.std.specs.Prelude.{◌≡◌, ℕ, suc, ◌/◌, ◌%◌, ◌^◌, ◌<◌, ◌==◌, Bool, true, false, not, if◌then◌else◌, List, [], ◌∷◌, ◌++◌}
+use Rattle.std.specs.Prelude.{flat_map, codes, decimal, ℤ, pos, negsuc, neg_ℤ, ◌-ℤ◌, nat_lt}
 use Rattle.std.specs.Fmt.{signed_decimal}
 use Rattle.std.specs.List.{list_all, enumerate_from, concat}
-use Rattle.std.specs.Option.{option_map_or, ForSome}
 use Rattle.std.specs.Int.RustNames.{unsigned_abs}
 use Rattle.std.specs.Ordering.{int_eq}
 use Rattle.std.specs.Str.{IsUtf8, is_utf8}
@@ -16,14 +15,15 @@ use Rattle.std.proofs.Math.Nat.{div-le_self}
 use Rattle.ip_defs.specs.Lists.{Each}
 use Rattle.mps_defs.specs.Numbers.{decimal_text, unsigned_text, places, is_digit}
 use Rattle.mps_defs.specs.CanonicalText.{Written, head, pair, triple, bound_line, kind_text, is_equation, is_from_below, coef_line}
-use Rattle.mps_defs.specs.CanonicalText.{column_block, columns_block, right_side, rhs_line, constant_line, range_line, written_text}
-use Rattle.mps_defs.specs.CanonicalText.{canonical_text, value_text, newline, side_line, width_line}
+use Rattle.mps_defs.specs.CanonicalText.{column_block, columns_block, rhs_line, constant_line, range_line, written_text}
+use Rattle.mps_defs.specs.CanonicalText.{canonical_text, value_text, newline}
 use Rattle.ip_defs.specs.declared.programs.Column.{Column}
 use Rattle.ip_defs.specs.declared.programs.Row.{Row}
 use Rattle.ip_defs.specs.declared.programs.Parts.{Parts}
 use Rattle.text_laws.specs.ReadBack.{HasTextNames}
 use Rattle.text_laws.proofs.NumeralLaws.{digit_range, decimal_digits, places_digits}
 use Rattle.text_laws.proofs.NumberTextLaws.{signed_decimal_is}
+use Rattle.text_laws.proofs.EachLineLaws.{each_coef_line, each_rhs_line, each_range_line, each_columns_line}
 use Rattle.text_laws.proofs.ListLaws.{each_flat, each_map, each_when, each_both}
 use Rattle.text_laws.proofs.SectionLaws.{Sections, section_lines, after_columns, after_right_sides, after_ranges, after_bounds}
 use Rattle.text_laws.proofs.CanonicalLaws.{sections_of, canonical_sections}
@@ -128,71 +128,45 @@ kind_utf8 r = by (is_equation r) (is_from_below r)
     by false false = ascii (codes "L") refl
 
 coef_utf8 : (j : ℕ) (name : List ℕ) (r : Row) → IsUtf8 name → IsRowUtf8 r → AreTexts (coef_line j name r)
-coef_utf8 j name r e h = by (find (λ p. p.0 == j) r.coefs) refl
-  where
-    by : (o : Option (ℕ × ℤ)) → find (λ p. p.0 == j) r.coefs ≡ o
-        → AreTexts (option_map_or (λ p. triple name r.name (decimal_text p.1 r.decimals) ∷ []) o [])
-    by None f = tt
-    by (Some p) f = ((e, (h.name, (number_utf8 p.1 r.decimals (found_small r.coefs (λ q. q.0 == j) p h.text.coefs f), tt))), tt)
+coef_utf8 j name r e h =
+    each_coef_line IsText j name r
+    (λ p f. (e, (h.name, (number_utf8 p.1 r.decimals (found_small r.coefs (λ q. q.0 == j) p h.text.coefs f), tt))))
 
 rhs_utf8 : (r : Row) → IsRowUtf8 r → AreTexts (rhs_line r)
-rhs_utf8 r h = by (right_side r) (right_side_small r h.text)
-  where
-    by : (o : Option ℤ) → ForSome o (λ b. unsigned_abs b ≤ 2 ^ 62)
-        → AreTexts (option_map_or (side_line r) o (triple (codes "RHS") r.name (codes "1e30") ∷ []))
-    by None s = ((ascii (codes "RHS") refl, (h.name, (ascii (codes "1e30") refl, tt))), tt)
-    by (Some b) s =
-        each_when IsText (not (int_eq b (pos 0))) (triple (codes "RHS") r.name (decimal_text b r.decimals))
-        (ascii (codes "RHS") refl, (h.name, (number_utf8 b r.decimals (let l = s b refl in omega arith), tt)))
+rhs_utf8 r h =
+    each_rhs_line IsText r (ascii (codes "RHS") refl, (h.name, (ascii (codes "1e30") refl, tt)))
+    (λ b e. (
+      ascii (codes "RHS") refl,
+      (h.name, (number_utf8 b r.decimals (let s = right_side_small r h.text b e in omega arith), tt)),
+    ))
 
 range_utf8 : (r : Row) → IsRowUtf8 r → AreTexts (range_line r)
-range_utf8 r h = by r.low r.high h.text.low h.text.high
-  where
-    by : (o p : Option ℤ) → ForSome o (λ b. unsigned_abs b ≤ 2 ^ 62) → ForSome p (λ b. unsigned_abs b ≤ 2 ^ 62)
-        → AreTexts (option_map_or (λ low. option_map_or (width_line r low) p []) o [])
-    by None p s t = tt
-    by (Some low) None s t = tt
-    by (Some low) (Some high) s t =
-        each_when IsText (not (int_eq low high)) (triple (codes "RNG") r.name (decimal_text (high -ℤ low) r.decimals))
-        (ascii (codes "RNG") refl, (h.name, (number_utf8 (high -ℤ low) r.decimals (width_small low high (s low refl) (t high refl)), tt)))
+range_utf8 r h =
+    each_range_line IsText r
+    (λ low high e f. (
+      ascii (codes "RNG") refl,
+      (h.name, (number_utf8 (high -ℤ low) r.decimals (width_small low high (h.text.low low e) (h.text.high high f)), tt)),
+    ))
 
 marker_utf8 : (word : List ℕ) → IsUtf8 word → Each IsUtf8 (codes "M" ∷ codes "'MARKER'" ∷ word ∷ [])
 marker_utf8 word h = (ascii (codes "M") refl, (ascii (codes "'MARKER'") refl, (h, tt)))
 
 block_utf8 : (m : Parts) → IsProgramText m → HasTextNames m → AreTexts (columns_block m)
-block_utf8 m h t = by (length m.columns == 0)
-  where
-    start : Written
-    start = triple (codes "M") (codes "'MARKER'") (codes "'INTORG'")
-
-    last : Written
-    last = triple (codes "M") (codes "'MARKER'") (codes "'INTEND'")
-
-    blocks : List Written
-    blocks = flat_map (column_block m) (enumerate_from 0 m.columns)
-
-    are : AreTexts blocks
-    are =
-        each_flat (λ p. IsColumnUtf8 p.1) IsText (column_block m) (enumerate_from 0 m.columns)
-        (each_numbered IsColumnUtf8 0 m.columns (columns_utf8 m h t))
-        (λ p c. (
-          (
-            c.name,
-            (
-              IsUtf8-from_is_utf8 m.objective t.objective,
-              (number_utf8 p.1.cost m.cost_decimals c.text.cost, tt),
-            ),
-          ),
-          each_flat IsRowUtf8 IsText (coef_line p.0 p.1.name) m.rows (rows_utf8 m h t) (λ r k. coef_utf8 p.0 p.1.name r c.name k),
-        ))
-
-    by : (u : Bool) → AreTexts (if u then [] else start ∷ blocks ++ last ∷ [])
-    by true = tt
-    by false = (
-      marker_utf8 (codes "'INTORG'") (ascii (codes "'INTORG'") refl),
-      each_append IsText blocks (last ∷ []) are
-          (marker_utf8 (codes "'INTEND'") (ascii (codes "'INTEND'") refl), tt),
-    )
+block_utf8 m h t =
+    each_columns_line IsText m (marker_utf8 (codes "'INTORG'") (ascii (codes "'INTORG'") refl))
+    (marker_utf8 (codes "'INTEND'") (ascii (codes "'INTEND'") refl))
+    (each_flat (λ p. IsColumnUtf8 p.1) IsText (column_block m) (enumerate_from 0 m.columns)
+    (each_numbered IsColumnUtf8 0 m.columns (columns_utf8 m h t))
+    (λ p c. (
+      (
+        c.name,
+        (
+          IsUtf8-from_is_utf8 m.objective t.objective,
+          (number_utf8 p.1.cost m.cost_decimals c.text.cost, tt),
+        ),
+      ),
+      each_flat IsRowUtf8 IsText (coef_line p.0 p.1.name) m.rows (rows_utf8 m h t) (λ r k. coef_utf8 p.0 p.1.name r c.name k),
+    )))
 
 bound_utf8 : (kind name : List ℕ) (z : ℤ) → IsUtf8 kind → IsUtf8 name → unsigned_abs z < 2 ^ 64 → Each IsUtf8 (bound_line kind name z).1
 bound_utf8 kind name z e f h = (e, (ascii (codes "BND") refl, (f, (whole_utf8 z h, tt))))

@@ -1,33 +1,6 @@
 -- What is read without a fault was written, part by part.
-use Rattle.std.specs.Prelude.{
-  ◌≡◌,
-  ℕ,
-  zero,
-  suc,
-  ◌+◌,
-  ◌*◌,
-  ◌%◌,
-  ◌^◌,
-  ◌<◌,
-  ◌≤◌,
-  ◌==◌,
-  ◌&&◌,
-  not,
-  Bool,
-  true,
-  false,
-  nat_lt,
-  List,
-  [],
-  ◌∷◌,
-  ◌++◌,
-  length,
-  ℤ,
-  pos,
-  negsuc,
-  Some,
-  None,
-}
+use Rattle.std.specs.Prelude.{◌≡◌, ℕ, zero, suc, ◌+◌, ◌*◌, ◌%◌, ◌^◌, ◌<◌, ◌≤◌, ◌==◌, ◌&&◌, not, Bool, true, false, nat_lt, List, [], ◌∷◌}
+use Rattle.std.specs.Prelude.{◌++◌, length, ℤ, pos, negsuc, Some, None, if◌then◌else◌}
 use Rattle.std.specs.Int.RustNames.{unsigned_abs}
 use Rattle.std.specs.Int.Signed.{lt_z}
 use Rattle.std.specs.List.{flat_map, list_all}
@@ -46,39 +19,11 @@ use Rattle.proof_tree.specs.declared.claims.Claim.TheVariants.{Best, Empty}
 use Rattle.proof_tree.proofs.CertLaws.{cert_exact}
 use Rattle.tree_format.specs.Readings.{Reading, stopped, part_then}
 use Rattle.tree_format.specs.Numbers.{unsigned, signed}
-use Rattle.tree_format.specs.Spellings.{
-  number,
-  signed_number,
-  opening,
-  claim_bytes,
-  multiplier_bytes,
-  cert_bytes,
-  tree_bytes,
-  IsClaimWithin,
-}
-use Rattle.tree_format.specs.Grammar.{
-  number_at,
-  opening_at,
-  coordinates_at,
-  point_at,
-  claim_at,
-  claim_kind,
-  of_point,
-  of_emptiness,
-  of_neither,
-  ClaimKind,
-  multiplier_at,
-  multipliers_at,
-  cert_at,
-  split_at,
-  NodeKind,
-  node_kind,
-  leaf_kind,
-  split_kind,
-  no_kind,
-  tree_at,
-  end_at,
-}
+use Rattle.tree_format.specs.Spellings.{number, signed_number, opening, claim_bytes, multiplier_bytes, cert_bytes, tree_bytes}
+use Rattle.tree_format.specs.Spellings.{IsClaimWithin}
+use Rattle.tree_format.specs.Grammar.{number_at, opening_at, coordinates_at, point_at, claim_at, claim_kind, of_point, of_emptiness}
+use Rattle.tree_format.specs.Grammar.{of_neither, ClaimKind, multiplier_at, multipliers_at, cert_at, split_at, NodeKind, node_kind}
+use Rattle.tree_format.specs.Grammar.{leaf_kind, split_kind, no_kind, tree_at, end_at}
 use Rattle.tree_format.specs.Laws.{ReadingsAreSpelled}
 use Rattle.tree_format.specs.declared.errors.TreeError.TheVariants as faults
 use Rattle.tree_format.specs.declared.tokens.Token.{Token}
@@ -392,21 +337,21 @@ sides_taken k nodes place b bytes next each e sides none =
           ∙ ap (λ (q : ℕ). next (nodes + node_count t) q right.others) (omega arith)) right.none;
     }
 
-kind_leaf : (b : ℕ) → node_kind b ≡ leaf_kind → b ≡ 76
-kind_leaf b e = by (b == 76) (b == 83) refl refl
+-- what holds of each of three kinds, of the first two for their bytes, holds of the kind of a byte
+by_kind : {K : Type 0} (P : K → Type 0) (b m n : ℕ) (x y z : K) → (b ≡ m → P x) → (b ≡ n → P y) → P z →
+    P (if b == m then x else if b == n then y else z)
+by_kind P b m n x y z first second other = by (b == m) (b == n) refl refl
   where
-    by : (t u : Bool) → (b == 76) ≡ t → (b == 83) ≡ u → b ≡ 76
-    by true u f g = eqb-true b 76 f
-    by false true f g = absurd (let no : split_kind ≡ leaf_kind = rw (f, g) at e in cc)
-    by false false f g = absurd (let no : no_kind ≡ leaf_kind = rw (f, g) at e in cc)
+    by : (t u : Bool) → (b == m) ≡ t → (b == n) ≡ u → P (if t then x else if u then y else z)
+    by true u f g = first (eqb-true b m f)
+    by false true f g = second (eqb-true b n g)
+    by false false f g = other
+
+kind_leaf : (b : ℕ) → node_kind b ≡ leaf_kind → b ≡ 76
+kind_leaf b = by_kind (λ k. k ≡ leaf_kind → b ≡ 76) b 76 83 leaf_kind split_kind no_kind (λ e h. e) (λ e h. absurd cc) (λ h. absurd cc)
 
 kind_split : (b : ℕ) → node_kind b ≡ split_kind → b ≡ 83
-kind_split b e = by (b == 76) (b == 83) refl refl
-  where
-    by : (t u : Bool) → (b == 76) ≡ t → (b == 83) ≡ u → b ≡ 83
-    by true u f g = absurd (let no : leaf_kind ≡ split_kind = rw f at e in cc)
-    by false true f g = eqb-true b 83 g
-    by false false f g = absurd (let no : no_kind ≡ split_kind = rw (f, g) at e in cc)
+kind_split b = by_kind (λ k. k ≡ split_kind → b ≡ 83) b 76 83 leaf_kind split_kind no_kind (λ e h. absurd cc) (λ e h. e) (λ h. absurd cc)
 
 tree_taken : (levels : ℕ) → AreTaken levels
 tree_taken zero nodes place [] next each none = absurd cc
@@ -432,20 +377,12 @@ tree_taken (suc k) nodes place (b ∷ bytes) next each none = by (nat_lt nodes 1
 -- ---- the whole file
 
 kind_of_point : (b : ℕ) → claim_kind b ≡ of_point → b ≡ 66
-kind_of_point b e = by (b == 66) (b == 69) refl refl
-  where
-    by : (t u : Bool) → (b == 66) ≡ t → (b == 69) ≡ u → b ≡ 66
-    by true u f g = eqb-true b 66 f
-    by false true f g = absurd (let no : of_emptiness ≡ of_point = rw (f, g) at e in cc)
-    by false false f g = absurd (let no : of_neither ≡ of_point = rw (f, g) at e in cc)
+kind_of_point b =
+    by_kind (λ k. k ≡ of_point → b ≡ 66) b 66 69 of_point of_emptiness of_neither (λ e h. e) (λ e h. absurd cc) (λ h. absurd cc)
 
 kind_of_emptiness : (b : ℕ) → claim_kind b ≡ of_emptiness → b ≡ 69
-kind_of_emptiness b e = by (b == 66) (b == 69) refl refl
-  where
-    by : (t u : Bool) → (b == 66) ≡ t → (b == 69) ≡ u → b ≡ 69
-    by true u f g = absurd (let no : of_point ≡ of_emptiness = rw f at e in cc)
-    by false true f g = eqb-true b 69 g
-    by false false f g = absurd (let no : of_neither ≡ of_emptiness = rw (f, g) at e in cc)
+kind_of_emptiness b =
+    by_kind (λ k. k ≡ of_emptiness → b ≡ 69) b 66 69 of_point of_emptiness of_neither (λ e h. absurd cc) (λ e h. e) (λ h. absurd cc)
 
 abbrev ClaimTaken : ℕ → List ℕ → (ℕ → List ℕ → Reading Token) → Type 0
 ClaimTaken place bytes next = Taken IsClaimWithin claim_bytes (λ c rest. next (place + length (claim_bytes c)) rest) bytes

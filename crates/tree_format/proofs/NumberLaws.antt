@@ -1,29 +1,6 @@
 -- Numbers as bytes: what their bytes weigh, and that what was written is read.
-use Rattle.std.specs.Prelude.{
-  ◌&&◌,
-  ◌==◌,
-  ◌-◌,
-  Bool,
-  true,
-  false,
-  nat_lt,
-  length,
-  ◌≡◌,
-  ℕ,
-  zero,
-  suc,
-  ◌+◌,
-  ◌*◌,
-  ◌/◌,
-  ◌%◌,
-  ◌^◌,
-  ◌<◌,
-  ◌≤◌,
-  List,
-  [],
-  ◌∷◌,
-  ◌++◌,
-}
+use Rattle.std.specs.Prelude.{◌&&◌, ◌==◌, ◌-◌, Bool, true, false, nat_lt, length, ◌≡◌, ℕ, zero, suc, ◌+◌, ◌*◌, ◌/◌, ◌%◌, ◌^◌, ◌<◌, ◌≤◌}
+use Rattle.std.specs.Prelude.{List, [], ◌∷◌, ◌++◌}
 use Rattle.std.proofs.Common.{arith, mod-lt, lit<, refl, ap, ◌∙◌, sym}
 use Rattle.std.proofs.Math.Nat.{pow-le-pow_right, mul_assoc, mul_comm, add-mul, pow-suc, div-lt_iff_lt-mul}
 use Rattle.std.proofs.lemmas.Nat.{div-add-mod'}

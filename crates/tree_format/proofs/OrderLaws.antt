@@ -1,28 +1,6 @@
 -- The parts of all bytes are in order.
-use Rattle.std.specs.Prelude.{
-  ◌≡◌,
-  ℕ,
-  zero,
-  suc,
-  ◌+◌,
-  ◌<◌,
-  ◌^◌,
-  ◌==◌,
-  if◌then◌else◌,
-  Bool,
-  true,
-  false,
-  nat_lt,
-  List,
-  [],
-  ◌∷◌,
-  ◌++◌,
-  length,
-  ℤ,
-  Option,
-  Some,
-  None,
-}
+use Rattle.std.specs.Prelude.{◌≡◌, ℕ, zero, suc, ◌+◌, ◌<◌, ◌^◌, ◌==◌, if◌then◌else◌, Bool, true, false, nat_lt, List, [], ◌∷◌, ◌++◌}
+use Rattle.std.specs.Prelude.{length, ℤ, Option, Some, None}
 use Rattle.std.specs.List.{flat_map}
 use Rattle.std.proofs.Common.{arith, refl, sym, subst, append_assoc, ap, length-append, ◌∙◌}
 use Rattle.proof_tree.specs.LabelledTrees.{leaf, split}
@@ -30,41 +8,11 @@ use Rattle.proof_tree.specs.Trees.{PlainTree}
 use Rattle.tree_format.specs.Readings.{Reading, complete, stopped, part_then, parts_then}
 use Rattle.tree_format.specs.Numbers.{number_from, next_digit, signed}
 use Rattle.tree_format.specs.Spellings.{longest, opening, tree_parts, multiplier_part}
-use Rattle.tree_format.specs.Grammar.{
-  opening_at,
-  coordinates_at,
-  point_at,
-  claim_at,
-  claim_kind,
-  of_point,
-  of_emptiness,
-  of_neither,
-  ClaimKind,
-  multiplier_at,
-  multipliers_at,
-  cert_at,
-  split_at,
-  NodeKind,
-  node_kind,
-  leaf_kind,
-  split_kind,
-  no_kind,
-  tree_at,
-  end_at,
-}
-use Rattle.tree_format.specs.Orders.{
-  Expected,
-  a_claim,
-  a_coordinate,
-  trees,
-  a_count,
-  a_multiplier,
-  multipliers,
-  AreInOrder,
-  IsInOrder,
-  PartsAreInOrder,
-  MayEnd,
-}
+use Rattle.tree_format.specs.Grammar.{opening_at, coordinates_at, point_at, claim_at, claim_kind, of_point, of_emptiness, of_neither}
+use Rattle.tree_format.specs.Grammar.{ClaimKind, multiplier_at, multipliers_at, cert_at, split_at, NodeKind, node_kind, leaf_kind}
+use Rattle.tree_format.specs.Grammar.{split_kind, no_kind, node_at, tree_at, end_at}
+use Rattle.tree_format.specs.Orders.{Expected, a_claim, a_coordinate, trees, a_count, a_multiplier, multipliers, AreInOrder, IsInOrder}
+use Rattle.tree_format.specs.Orders.{PartsAreInOrder, MayEnd}
 use Rattle.tree_format.specs.declared.errors.TreeError.{TreeError}
 use Rattle.tree_format.specs.declared.errors.TreeError.TheVariants as faults
 use Rattle.tree_format.specs.declared.numbers.Digit.{Digit}
@@ -165,15 +113,8 @@ tree_in_order (suc levels) k nodes place (b ∷ bytes) next h = by (nat_lt nodes
     by : (t : Bool) (kind : NodeKind)
         → ((p : ℕ) (rest : List ℕ) → IsInOrder (trees (suc (suc k)))
         (tree_at levels (nodes + 1) p rest (λ n p rest. tree_at levels n p rest next)))
-        → IsInOrder (trees (suc k)) (elim t [
-          | false ↦ stopped (faults.TooMany place)
-          | true ↦ elim kind [
-            | leaf_kind ↦ cert_at (place + 1) bytes (next (nodes + 1))
-            | split_kind ↦ split_at (place + 1) bytes
-                (λ p rest. tree_at levels (nodes + 1) p rest (λ n p rest. tree_at levels n p rest next))
-            | no_kind ↦ stopped (faults.Tag place)
-          ]
-        ])
+        → IsInOrder (trees (suc k)) (node_at t kind place (cert_at (place + 1) bytes (next (nodes + 1)))
+        (split_at (place + 1) bytes (λ p rest. tree_at levels (nodes + 1) p rest (λ n p rest. tree_at levels n p rest next))))
     by false kind on = tt
     by true leaf_kind on = cert_in_order k (place + 1) bytes (next (nodes + 1)) (h (nodes + 1))
     by true split_kind on = split_in_order k (place + 1) bytes _ on

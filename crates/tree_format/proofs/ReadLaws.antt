@@ -3,33 +3,14 @@ use Rattle.std.specs.Prelude.{◌≡◌, ℕ, zero, suc, ◌<◌, Bool, true, fa
 use Rattle.std.proofs.Common.{arith, refl, ap, ◌∙◌, sym, subst, append_assoc, lit<, lit≤, drop}
 use Rattle.std.proofs.lemmas.List.{append-nil}
 use Rattle.tree_format.specs.Readings.{Reading, stopped, parts_then}
-use Rattle.tree_format.specs.Grammar.{
-  reading,
-  first_fault,
-  fault_so_far,
-  parts_so_far,
-  unless_cut,
-  claims_point,
-  shown,
-  begins_with,
-  IsAnswer,
-}
+use Rattle.tree_format.specs.Grammar.{reading, first_fault, fault_so_far, parts_so_far, unless_cut, claims_point, shown, begins_with}
+use Rattle.tree_format.specs.Grammar.{IsAnswer}
 use Rattle.tree_format.specs.Internal.Fields.{is_whole, token_then, claim_from, IsUnclaimed, IsFieldSound}
 use Rattle.tree_format.specs.Spellings.{opening}
 use Rattle.tree_format.specs.declared.fields.Field.{Field}
 use Rattle.tree_format.specs.declared.fields.Field.TheVariants as fields
-use Rattle.tree_format.specs.Internal.Remaining.{
-  remaining,
-  left_of,
-  unless_fault,
-  answer_then,
-  claim_unless,
-  HasRead,
-  IsSound,
-  IsSoundUnless,
-  IsStep,
-  start_with,
-}
+use Rattle.tree_format.specs.Internal.Remaining.{remaining, left_of, unless_fault, answer_then, claim_unless, HasRead, IsSound}
+use Rattle.tree_format.specs.Internal.Remaining.{IsSoundUnless, IsStep, start_with}
 use Rattle.tree_format.specs.declared.errors.TreeError.{TreeError}
 use Rattle.tree_format.specs.declared.progress.Progress.{Progress}
 use Rattle.tree_format.specs.declared.tokens.Token.{Token}

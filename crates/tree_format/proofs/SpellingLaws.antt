@@ -1,30 +1,6 @@
 -- What spells a proof is read, part by part, whatever follows it.
-use Rattle.std.specs.Prelude.{
-  ◌≡◌,
-  ℕ,
-  zero,
-  suc,
-  ◌+◌,
-  ◌*◌,
-  ◌/◌,
-  ◌%◌,
-  ◌^◌,
-  ◌<◌,
-  ◌≤◌,
-  ◌&&◌,
-  not,
-  true,
-  nat_lt,
-  List,
-  [],
-  ◌∷◌,
-  ◌++◌,
-  length,
-  ℤ,
-  pos,
-  negsuc,
-  ◌≤ℤ◌,
-}
+use Rattle.std.specs.Prelude.{◌≡◌, ℕ, zero, suc, ◌+◌, ◌*◌, ◌/◌, ◌%◌, ◌^◌, ◌<◌, ◌≤◌, ◌&&◌, not, true, nat_lt, List, [], ◌∷◌, ◌++◌, length}
+use Rattle.std.specs.Prelude.{ℤ, pos, negsuc, ◌≤ℤ◌}
 use Rattle.std.specs.Int.RustNames.{unsigned_abs}
 use Rattle.std.specs.Int.Signed.{lt_z}
 use Rattle.std.specs.List.{flat_map, list_all}
@@ -44,34 +20,10 @@ use Rattle.proof_tree.specs.declared.claims.Claim.TheVariants.{Best, Empty}
 use Rattle.proof_tree.proofs.CertLaws.{cert_exact}
 use Rattle.tree_format.specs.Readings.{Reading, part_then, parts_then, complete}
 use Rattle.tree_format.specs.Numbers.{unsigned, signed}
-use Rattle.tree_format.specs.Spellings.{
-  number,
-  signed_number,
-  claim_bytes,
-  multiplier_bytes,
-  cert_bytes,
-  tree_bytes,
-  spelling,
-  claim_parts,
-  coordinate_part,
-  multiplier_part,
-  tree_parts,
-  proof_parts,
-  IsClaimWithin,
-}
-use Rattle.tree_format.specs.Grammar.{
-  number_at,
-  coordinates_at,
-  point_at,
-  claim_at,
-  multiplier_at,
-  multipliers_at,
-  cert_at,
-  split_at,
-  tree_at,
-  end_at,
-  reading,
-}
+use Rattle.tree_format.specs.Spellings.{number, signed_number, claim_bytes, multiplier_bytes, cert_bytes, tree_bytes, spelling}
+use Rattle.tree_format.specs.Spellings.{claim_parts, coordinate_part, multiplier_part, tree_parts, proof_parts, IsClaimWithin}
+use Rattle.tree_format.specs.Grammar.{number_at, coordinates_at, point_at, claim_at, multiplier_at, multipliers_at, cert_at, split_at}
+use Rattle.tree_format.specs.Grammar.{tree_at, end_at, reading}
 use Rattle.tree_format.specs.Laws.{SpellingsAreRead}
 use Rattle.tree_format.specs.declared.tokens.Token.{Token}
 use Rattle.tree_format.specs.declared.tokens.Token.TheVariants.{Claimed, Coordinate, SplitAt, LeafQ, Parts, Part}

@@ -4,29 +4,9 @@ use Rattle.std.proofs.Common.{refl, sym, ap, ◌∙◌}
 use Rattle.tree_format.specs.Readings.{Reading, stopped, part_then}
 use Rattle.tree_format.specs.Numbers.{number_from, next_digit, signed}
 use Rattle.tree_format.specs.Spellings.{longest, opening}
-use Rattle.tree_format.specs.Grammar.{
-  opening_at,
-  coordinates_at,
-  point_at,
-  claim_at,
-  claim_kind,
-  of_point,
-  of_emptiness,
-  of_neither,
-  ClaimKind,
-  multiplier_at,
-  multipliers_at,
-  cert_at,
-  split_at,
-  NodeKind,
-  node_kind,
-  leaf_kind,
-  split_kind,
-  no_kind,
-  tree_at,
-  end_at,
-  unless_cut,
-}
+use Rattle.tree_format.specs.Grammar.{opening_at, coordinates_at, point_at, claim_at, claim_kind, of_point, of_emptiness, of_neither}
+use Rattle.tree_format.specs.Grammar.{ClaimKind, multiplier_at, multipliers_at, cert_at, split_at, NodeKind, node_kind, leaf_kind}
+use Rattle.tree_format.specs.Grammar.{split_kind, no_kind, node_at, tree_at, end_at, unless_cut}
 use Rattle.tree_format.specs.Laws.{FaultsStand}
 use Rattle.tree_format.specs.declared.errors.TreeError.{TreeError}
 use Rattle.tree_format.specs.declared.errors.TreeError.TheVariants as faults
@@ -129,24 +109,10 @@ tree_stays more (suc levels) nodes place (b ∷ bytes) next h = by (nat_lt nodes
     by : (t : Bool) (kind : NodeKind) → Follows more (λ p rest. tree_at levels (nodes + 1) p rest (λ n p rest. tree_at levels n p
         rest next))
         → Stays
-        (elim t [
-          | false ↦ stopped (faults.TooMany place)
-          | true ↦ elim kind [
-            | leaf_kind ↦ cert_at (place + 1) bytes (next (nodes + 1))
-            | split_kind ↦ split_at (place + 1) bytes
-                (λ p rest. tree_at levels (nodes + 1) p rest (λ n p rest. tree_at levels n p rest next))
-            | no_kind ↦ stopped (faults.Tag place)
-          ]
-        ])
-        (elim t [
-          | false ↦ stopped (faults.TooMany place)
-          | true ↦ elim kind [
-            | leaf_kind ↦ cert_at (place + 1) (bytes ++ more) (next (nodes + 1))
-            | split_kind ↦ split_at (place + 1) (bytes ++ more)
-                (λ p rest. tree_at levels (nodes + 1) p rest (λ n p rest. tree_at levels n p rest next))
-            | no_kind ↦ stopped (faults.Tag place)
-          ]
-        ])
+        (node_at t kind place (cert_at (place + 1) bytes (next (nodes + 1)))
+        (split_at (place + 1) bytes (λ p rest. tree_at levels (nodes + 1) p rest (λ n p rest. tree_at levels n p rest next))))
+        (node_at t kind place (cert_at (place + 1) (bytes ++ more) (next (nodes + 1)))
+        (split_at (place + 1) (bytes ++ more) (λ p rest. tree_at levels (nodes + 1) p rest (λ n p rest. tree_at levels n p rest next))))
     by false kind on = λ e f. f
     by true leaf_kind on = cert_stays more (place + 1) bytes (next (nodes + 1)) (h (nodes + 1))
     by true split_kind on = split_stays more (place + 1) bytes _ on

@@ -9,18 +9,8 @@ use Rattle.proof_tree.specs.Trees.{PlainTree}
 use Rattle.proof_tree.specs.declared.claims.Claim.{Claim}
 use Rattle.proof_tree.specs.declared.claims.Claim.TheVariants.{Best, Empty}
 use Rattle.tree_format.specs.Readings.{Reading, parts_then, complete}
-use Rattle.tree_format.specs.Spellings.{
-  spelling,
-  opening,
-  claim_bytes,
-  tree_bytes,
-  claim_parts,
-  tree_parts,
-  proof_parts,
-  coordinate_part,
-  multiplier_part,
-  IsClaimWithin,
-}
+use Rattle.tree_format.specs.Spellings.{spelling, opening, claim_bytes, tree_bytes, claim_parts, tree_parts, proof_parts, coordinate_part}
+use Rattle.tree_format.specs.Spellings.{multiplier_part, IsClaimWithin}
 use Rattle.tree_format.specs.Grammar.{reading, end_at}
 use Rattle.tree_format.specs.Laws.{OneSpelling}
 use Rattle.tree_format.specs.declared.tokens.Token.{Token}

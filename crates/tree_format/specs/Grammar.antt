@@ -1,30 +1,6 @@
 -- Reading a tree file, from the first byte on: its parts, and its first fault with its place.
-use Rattle.std.specs.Prelude.{
-  ◌≡◌,
-  ℕ,
-  zero,
-  suc,
-  ◌+◌,
-  ◌^◌,
-  ◌==◌,
-  Bool,
-  true,
-  false,
-  if◌then◌else◌,
-  nat_lt,
-  List,
-  [],
-  ◌∷◌,
-  ◌++◌,
-  ◌&&◌,
-  Result,
-  Ok,
-  Err,
-  pos,
-  Option,
-  Some,
-  None,
-}
+use Rattle.std.specs.Prelude.{◌≡◌, ℕ, zero, suc, ◌+◌, ◌^◌, ◌==◌, Bool, true, false, if◌then◌else◌, nat_lt, List, [], ◌∷◌, ◌++◌, ◌&&◌}
+use Rattle.std.specs.Prelude.{Result, Ok, Err, pos, Option, Some, None}
 use Rattle.tree_format.specs.Readings.{Reading, complete, stopped, part_then}
 use Rattle.tree_format.specs.Numbers.{number_at as number_within, signed}
 use Rattle.tree_format.specs.Spellings.{longest, opening}
@@ -112,6 +88,14 @@ pub data NodeKind : Type 0 where
 abbrev pub node_kind : ℕ → NodeKind
 node_kind b = if b == 76 then leaf_kind else if b == 83 then split_kind else no_kind
 
+-- what the byte of a node leads to, where few nodes stand before it: to a leaf, to a split, or to a fault
+abbrev pub node_at : Bool → NodeKind → ℕ → Reading Token → Reading Token → Reading Token
+node_at few kind place leaf split =
+    elim few [
+      | false ↦ stopped (faults.TooMany place)
+      | true ↦ elim kind [ leaf_kind ↦ leaf | split_kind ↦ split | no_kind ↦ stopped (faults.Tag place) ]
+    ]
+
 -- a tree of at most some levels, where some nodes stand before it; what follows is given how many nodes stand before it
 abbrev pub tree_at : ℕ → ℕ → ℕ → List ℕ → (ℕ → ℕ → List ℕ → Reading Token) → Reading Token
 tree_at zero nodes place [] next = stopped (faults.Cut place)
@@ -119,15 +103,8 @@ tree_at zero nodes place (b ∷ bytes) next =
     if nat_lt nodes 1000000 then stopped (faults.TooDeep place) else stopped (faults.TooMany place)
 tree_at (suc k) nodes place [] next = stopped (faults.Cut place)
 tree_at (suc k) nodes place (b ∷ bytes) next =
-    elim (nat_lt nodes 1000000) [
-      | false ↦ stopped (faults.TooMany place)
-      | true ↦ elim (node_kind b) [
-        | leaf_kind ↦ cert_at (place + 1) bytes (next (nodes + 1))
-        | split_kind ↦ split_at (place + 1) bytes
-            (λ p rest. tree_at k (nodes + 1) p rest (λ n p rest. tree_at k n p rest next))
-        | no_kind ↦ stopped (faults.Tag place)
-      ]
-    ]
+    node_at (nat_lt nodes 1000000) (node_kind b) place (cert_at (place + 1) bytes (next (nodes + 1)))
+    (split_at (place + 1) bytes (λ p rest. tree_at k (nodes + 1) p rest (λ n p rest. tree_at k n p rest next)))
 
 -- nothing stands after the tree
 abbrev pub end_at : ℕ → List ℕ → Reading Token

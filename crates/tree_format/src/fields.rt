@@ -2,6 +2,7 @@
 ghost use Rattle.std.specs.Prelude.{◌≡◌, ◌+◌, ◌*◌, ◌^◌, ◌≤◌, IfOk, IfErr};
 ghost use Rattle.tree_format.specs.Internal.Remaining.{IsFinal};
 ghost use Rattle.tree_format.specs.Internal.Fields.{greatest_of, IsUpTo, IsAfter, IsFieldSound, IsClaimed, most_left, coordinate_field};
+ghost use Rattle.tree_format.specs.Internal.Fields.{IsNextField};
 ghost use Rattle.tree_format.specs.Internal.Fields.{multiplier_field};
 
 use crate::values::signed;
@@ -54,9 +55,7 @@ pub(crate) fn greatest(field: Field) -> Option<u64>
 /// The field of the next coordinate, where some are still to come.
 fn coordinates(count: u32) -> Field
     ensures field { result ≡ coordinate_field count }
-    ensures left { most_left result ≡ 6 * count }
-    ensures sound { IsFieldSound result }
-    ensures claimed { IsClaimed result }
+    ensures next { IsNextField (6 * count) result }
 {
     if count == 0 {
         Field::Node
@@ -68,9 +67,7 @@ fn coordinates(count: u32) -> Field
 /// The field of the next multiplier, where some are still to come and the next row is at least a least one.
 fn multipliers(count: u32, least: u32) -> Field
     ensures field { result ≡ multiplier_field count least }
-    ensures left { most_left result ≡ 12 * count }
-    ensures sound { IsFieldSound result }
-    ensures claimed { IsClaimed result }
+    ensures next { IsNextField (12 * count) result }
 {
     if count == 0 {
         Field::Node

@@ -12,8 +12,6 @@ mod numbers;
 mod pending;
 mod progress;
 mod readers;
-#[cfg(test)]
-mod tests;
 mod tokens;
 mod values;
 

@@ -5,6 +5,8 @@ use Rattle.mps_defs.specs.CanonicalText.{range_line}
 use Rattle.ip_defs.specs.declared.programs.Column.{Column}
 use Rattle.ip_defs.specs.declared.programs.Row.{Row}
 use Rattle.ip_defs.specs.declared.programs.Parts.{Parts}
+use Rattle.mps_printer.specs.declared.rows.RowPart.{RowPart}
+use Rattle.mps_printer.specs.declared.rows.RowPart.TheVariants.{RightSide, Range}
 
 -- written lines as bytes
 abbrev pub lines_text : List Written → List ℕ
@@ -13,6 +15,11 @@ lines_text lines = flat_map written_text lines
 -- the line of a row in ROWS
 abbrev pub kind_line : Row → Written
 kind_line r = pair (kind_text r) r.name
+
+-- the lines of a part of a row
+abbrev pub part_lines : RowPart → (Row → List Written)
+part_lines RightSide = rhs_line
+part_lines Range = range_line
 
 -- the two lines of a column in BOUNDS
 abbrev pub bound_lines : Column → List Written

@@ -14,28 +14,17 @@ abbrev pub clamped : ℤ → ℤ
 clamped z = int_max (neg_ℤ beyond) (int_min z beyond)
 
 abbrev pub clamped_column : Column → Column
-clamped_column c = record { name = c.name; cost = clamped c.cost; lo = clamped c.lo; hi = clamped c.hi }
+clamped_column c = record c { cost = clamped c.cost; lo = clamped c.lo; hi = clamped c.hi }
 
 abbrev pub clamped_coefs : List (ℕ × ℤ) → List (ℕ × ℤ)
 clamped_coefs ps = map (λ p. (p.0, clamped p.1)) ps
 
 abbrev pub clamped_row : Row → Row
-clamped_row r = record {
-  name = r.name;
-  decimals = r.decimals;
-  coefs = clamped_coefs r.coefs;
-  low = option_map clamped r.low;
-  high = option_map clamped r.high;
-}
+clamped_row r = record r { coefs = clamped_coefs r.coefs; low = option_map clamped r.low; high = option_map clamped r.high }
 
 abbrev pub clamped_parts : Parts → Parts
-clamped_parts m = record {
-  objective = m.objective;
-  cost_decimals = m.cost_decimals;
-  constant = clamped m.constant;
-  columns = map clamped_column m.columns;
-  rows = map clamped_row m.rows;
-}
+clamped_parts m =
+    record m { constant = clamped m.constant; columns = map clamped_column m.columns; rows = map clamped_row m.rows }
 
 abbrev pub clamped_sides : Option ℤ × Option ℤ → Option ℤ × Option ℤ
 clamped_sides s = (option_map clamped s.0, option_map clamped s.1)

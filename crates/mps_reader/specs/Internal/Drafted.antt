@@ -1,9 +1,10 @@
 -- The model that a draft says, and what is wrong with the whole of it.
-use Rattle.std.specs.Prelude.{◌≡◌, Result, Ok, Err, ℕ, suc, ◌==◌, max, Bool, true, false, not, ◌&&◌, if◌then◌else◌, List, [], ◌∷◌, ◌++◌}
-use Rattle.std.specs.Prelude.{map, filter, string_bytes, Option, None, Some, option_and_then, unwrap_or, ℤ, pos, neg_ℤ}
+use Rattle.std.specs.Prelude.{◌≡◌, Result, Ok, Err, ℕ, suc, ◌==◌, max, Bool, false, not, ◌&&◌, if◌then◌else◌, List, [], ◌∷◌, ◌++◌}
+use Rattle.std.specs.Prelude.{map, filter, string_bytes, bytes_eq, codes, Option, None, Some, option_and_then, unwrap_or, ℤ, pos, neg_ℤ}
 use Rattle.std.specs.Int.RustNames.{unsigned_abs}
 use Rattle.std.specs.Option.{is_none}
 use Rattle.ip_defs.specs.Lists.{when, first_of}
+use Rattle.mps_defs.specs.Lists.{is_among}
 use Rattle.mps_reader.specs.declared.column_rules.Rule.{Rule}
 use Rattle.mps_reader.specs.declared.column_rules.Rule.TheVariants.{Integer, Bounded, NotNegative}
 use Rattle.mps_defs.specs.Faults.{IsFirst, lower_is_missing, upper_is_missing}
@@ -17,22 +18,17 @@ use Rattle.ip_defs.specs.declared.programs.Column.{Column}
 use Rattle.ip_defs.specs.declared.programs.Row.{Row}
 use Rattle.ip_defs.specs.declared.programs.Parts.{Parts}
 use Rattle.mps_reader.specs.declared.sections.Section.{Section}
-use Rattle.mps_reader.specs.declared.sections.Section.TheVariants as Sections
 use Rattle.mps_reader.specs.declared.draft.RowKind.{RowKind}
-use Rattle.mps_reader.specs.declared.draft.RowKind.TheVariants.{Free, AtMost, AtLeast, Equal}
 use Rattle.mps_reader.specs.declared.draft.RowDraft.{RowDraft}
 use Rattle.mps_reader.specs.declared.draft.UpperBound.{UpperBound}
 use Rattle.mps_reader.specs.declared.draft.ColumnDraft.{ColumnDraft}
 use Rattle.mps_reader.specs.declared.draft.Draft.{Draft}
-use Rattle.mps_reader.specs.Internal.Progress.{kind_word}
+use Rattle.mps_reader.specs.Internal.Progress.{kind_word, section_word}
 
 -- ---- rows
 
 abbrev pub is_free_kind : RowKind → Bool
-is_free_kind Free = true
-is_free_kind AtMost = false
-is_free_kind AtLeast = false
-is_free_kind Equal = false
+is_free_kind kind = bytes_eq (kind_word kind) (codes "N")
 
 -- the decimals of a row
 abbrev pub drafted_decimals : How → RowDraft → ℕ
@@ -136,14 +132,9 @@ is_negative_bound (Some u) = u.is_negative
 abbrev pub negative_fault : List ℕ → ColumnDraft → List MpsError
 negative_fault name c = when (is_none c.lower && is_negative_bound c.upper) (NegativeUpper name)
 
-abbrev pub is_end : Section → Bool
-is_end Sections.End = true
-is_end Sections.Name = false
-is_end Sections.Rows = false
-is_end Sections.Columns = false
-is_end Sections.RightSides = false
-is_end Sections.Ranges = false
-is_end Sections.Bounds = false
+-- ENDATA is among the sections
+abbrev pub has_end : List Section → Bool
+has_end sections = is_among (codes "ENDATA") (map section_word sections)
 
 -- what is wrong with the columns, in order
 abbrev pub drafted_column_faults : Draft → How → List MpsError

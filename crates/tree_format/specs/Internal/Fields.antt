@@ -1,33 +1,6 @@
 -- The fields of a tree file: what is left to read of each, and what a number in one is followed by.
-use Rattle.std.specs.Prelude.{
-  ◌≡◌,
-  ℕ,
-  zero,
-  suc,
-  ◌+◌,
-  ◌*◌,
-  ◌-◌,
-  ◌^◌,
-  ◌<◌,
-  ◌≤◌,
-  ◌==◌,
-  Bool,
-  true,
-  false,
-  nat_lt,
-  List,
-  [],
-  ◌∷◌,
-  ◌++◌,
-  drop,
-  pos,
-  Option,
-  Some,
-  None,
-  Result,
-  Ok,
-  Err,
-}
+use Rattle.std.specs.Prelude.{◌≡◌, ℕ, zero, suc, ◌+◌, ◌*◌, ◌-◌, ◌^◌, ◌<◌, ◌≤◌, ◌==◌, Bool, true, false, nat_lt, List, [], ◌∷◌, ◌++◌, drop}
+use Rattle.std.specs.Prelude.{pos, Option, Some, None, Result, Ok, Err}
 use Rattle.tree_format.specs.Readings.{Reading, complete, stopped, part_then, parts_then}
 use Rattle.tree_format.specs.Numbers.{number_from, signed}
 use Rattle.tree_format.specs.Spellings.{longest, opening}
@@ -174,3 +147,7 @@ abbrev pub IsClaimed : Field → Type 0
 IsClaimed (fields.Opening seen) = ⊥
 IsClaimed fields.Claim = ⊥
 IsClaimed other = Unit {0}
+
+-- a field that comes after the claim, from which on some number of bytes is left at most
+abbrev pub IsNextField : ℕ → Field → Type 0
+IsNextField most f = (most_left f ≡ most) × IsFieldSound f × IsClaimed f

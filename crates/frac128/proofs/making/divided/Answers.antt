@@ -3,7 +3,20 @@ use Rattle.std.specs.Int.{w128}
 use Rattle.std.proofs.lemmas.Int.{ints}
 use Rattle.frac128.specs.Fractions.{Fraction, shared}
 use Rattle.frac128.proofs.FractionLaws.{lowest-made, lowest-parts, lowest_of-equal}
+use Rattle.frac128.proofs.SharedLaws.{shared-positive}
 use Rattle.frac128.proofs.making.divided.Goals as goal
+
+pub over-requires : goal.over-requires
+over-requires c =
+    let is = c.requires.factor in
+    let positive = shared-positive c.args.num c.args.den c.requires.positive in
+    omega (arith, ints)
+
+pub over-requires-2 : goal.over-requires-2
+over-requires-2 c =
+    let is = c.requires.factor in
+    let positive = shared-positive c.args.num c.args.den c.requires.positive in
+    omega (arith, ints)
 
 pub fraction_of-requires : goal.fraction_of-requires
 fraction_of-requires c =

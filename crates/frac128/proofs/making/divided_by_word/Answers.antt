@@ -3,7 +3,20 @@ use Rattle.std.specs.Int.{w128}
 use Rattle.std.proofs.lemmas.Int.{ints}
 use Rattle.frac128.specs.Fractions.{shared}
 use Rattle.frac128.proofs.FractionLaws.{lowest-made, lowest-parts}
+use Rattle.frac128.proofs.SharedLaws.{shared-positive}
 use Rattle.frac128.proofs.making.divided_by_word.Goals as goal
+
+pub over_word-requires : goal.over_word-requires
+over_word-requires c =
+    let is = c.requires.factor in
+    let positive = shared-positive c.args.num c.args.den c.requires.positive in
+    omega (arith, ints)
+
+pub over_word-requires-2 : goal.over_word-requires-2
+over_word-requires-2 c =
+    let is = c.requires.factor in
+    let positive = shared-positive c.args.num c.args.den c.requires.positive in
+    omega (arith, ints)
 
 pub fraction_of-requires : goal.fraction_of-requires
 fraction_of-requires c =

@@ -1,6 +1,6 @@
-use Rattle.std.proofs.Common.{rules, ◌≡◌, ◌*ℤ◌, int_div, to_z, of_z, Some}
+use Rattle.std.proofs.Common.{rules, ◌≡◌, to_z, of_z, Some}
 use Rattle.std.specs.Int.{w128}
-use Rattle.frac128.specs.Fractions.{product_of, IsFraction, within, shared}
+use Rattle.frac128.specs.Fractions.{product_of, IsFraction, within, over_product, under_product}
 use Rattle.frac128.proofs.FractionLaws.{IsFraction-product}
 use Rattle.frac128.proofs.products.general_product.Goals as goal
 
@@ -8,10 +8,8 @@ pub fraction_of-requires : goal.fraction_of-requires
 fraction_of-requires c =
     let first : IsFraction c.args.a.num c.args.a.den = search rules in
     let second : IsFraction c.args.c.num c.args.c.den = search rules in
-    let numerator : within (int_div c.args.a.num (shared c.args.a.num c.args.c.den) *ℤ int_div c.args.c.num
-    (shared c.args.c.num c.args.a.den)) ≡ Some (to_z w128 (of_z w128 c.in-Some-Some.num)) = search rules in
-    let under : within (int_div c.args.a.den (shared c.args.c.num c.args.a.den) *ℤ int_div c.args.c.den (shared c.args.a.num c.args.c.den))
-    ≡ Some (to_z w128 (of_z w128 c.in-Some-Some.den)) = search rules in
+    let numerator : within (over_product c.args.a c.args.c) ≡ Some (to_z w128 (of_z w128 c.in-Some-Some.num)) = search rules in
+    let under : within (under_product c.args.a c.args.c) ≡ Some (to_z w128 (of_z w128 c.in-Some-Some.den)) = search rules in
     IsFraction-product c.args.a.num c.args.a.den c.args.c.num c.args.c.den first second _ _ numerator under
 
 pub returns-in-Some-Some : goal.returns-in-Some-Some

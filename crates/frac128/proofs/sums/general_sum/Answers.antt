@@ -1,6 +1,6 @@
-use Rattle.std.proofs.Common.{rules, ◌≡◌, ◌∙◌, ap, sym, subst, ◌<ℤ◌, ◌+ℤ◌, ◌*ℤ◌, pos, int_div, to_z, of_z, Some, None, Ok}
+use Rattle.std.proofs.Common.{rules, ◌≡◌, ◌∙◌, ap, sym, subst, ◌<ℤ◌, ◌+ℤ◌, pos, to_z, of_z, Some, None, Ok}
 use Rattle.std.specs.Int.{w128}
-use Rattle.frac128.specs.Fractions.{Fraction, sum_of, IsFraction, within, shared}
+use Rattle.frac128.specs.Fractions.{Fraction, sum_of, IsFraction, within, shared, left_of_sum, right_of_sum, under_sum}
 use Rattle.frac128.proofs.FractionLaws.{sum_den, sum-positive, within-some, sum-made, sum-wide}
 use Rattle.frac128.proofs.SharedLaws.{sum-factor_within}
 use Rattle.frac128.proofs.sums.general_sum.Goals as goal
@@ -23,38 +23,30 @@ pub divided-requires-clause-factor : goal.divided-requires-clause-factor
 divided-requires-clause-factor c =
     let first : IsFraction c.args.a.num c.args.a.den = search rules in
     let second : IsFraction c.args.c.num c.args.c.den = search rules in
-    let left : within (c.args.a.num *ℤ int_div c.args.c.den (shared c.args.a.den c.args.c.den))
-    ≡ Some (to_z w128 (of_z w128 c.in-Some-Some-Some.left)) = search rules in
-    let right : within (c.args.c.num *ℤ int_div c.args.a.den (shared c.args.a.den c.args.c.den))
-    ≡ Some (to_z w128 (of_z w128 c.in-Some-Some-Some.right)) = search rules in
+    let left : within (left_of_sum c.args.a c.args.c) ≡ Some (to_z w128 (of_z w128 c.in-Some-Some-Some.left)) = search rules in
+    let right : within (right_of_sum c.args.a c.args.c) ≡ Some (to_z w128 (of_z w128 c.in-Some-Some-Some.right)) = search rules in
     let num : within (to_z w128 (of_z w128 c.in-Some-Some-Some.left) +ℤ to_z w128 (of_z w128 c.in-Some-Some-Some.right))
     ≡ Some (to_z w128 (of_z w128 c.in-Some.num)) = search rules in
-    let den : within (int_div c.args.a.den (shared c.args.a.den c.args.c.den) *ℤ c.args.c.den)
-    ≡ Some (to_z w128 (of_z w128 c.in-Some-Some-Some.den)) = search rules in
+    let den : within (under_sum c.args.a c.args.c) ≡ Some (to_z w128 (of_z w128 c.in-Some-Some-Some.den)) = search rules in
     let factor : to_z w128 (of_z w128 c.shared.result) ≡ shared (to_z w128 (of_z w128 c.in-Some.num)) (shared c.args.a.den c.args.c.den) =
     search rules in
     factor ∙ sum-factor_within c.args.a c.args.c first second _ _ _ _ left right num den
 
 pub returns-in-Some : goal.returns-in-Some
 returns-in-Some c =
-    let left : within (c.args.a.num *ℤ int_div c.args.c.den (shared c.args.a.den c.args.c.den))
-    ≡ Some (to_z w128 (of_z w128 c.in-Some-Some-Some.left)) = search rules in
-    let right : within (c.args.c.num *ℤ int_div c.args.a.den (shared c.args.a.den c.args.c.den))
-    ≡ Some (to_z w128 (of_z w128 c.in-Some-Some-Some.right)) = search rules in
+    let left : within (left_of_sum c.args.a c.args.c) ≡ Some (to_z w128 (of_z w128 c.in-Some-Some-Some.left)) = search rules in
+    let right : within (right_of_sum c.args.a c.args.c) ≡ Some (to_z w128 (of_z w128 c.in-Some-Some-Some.right)) = search rules in
     let num : within (to_z w128 (of_z w128 c.in-Some-Some-Some.left) +ℤ to_z w128 (of_z w128 c.in-Some-Some-Some.right))
     ≡ Some (to_z w128 (of_z w128 c.in-Some.num)) = search rules in
-    let den : within (int_div c.args.a.den (shared c.args.a.den c.args.c.den) *ℤ c.args.c.den)
-    ≡ Some (to_z w128 (of_z w128 c.in-Some-Some-Some.den)) = search rules in
+    let den : within (under_sum c.args.a c.args.c) ≡ Some (to_z w128 (of_z w128 c.in-Some-Some-Some.den)) = search rules in
     ap (λ (r : Fraction). Ok r) c.divided.ensures.value ∙ sym (sum-made c.args.a c.args.c _ _ left right _ _ num den)
 
 pub returns-in-None : goal.returns-in-None
 returns-in-None c =
-    let left : within (c.args.a.num *ℤ int_div c.args.c.den (shared c.args.a.den c.args.c.den))
-    ≡ Some (to_z w128 (of_z w128 c.in-Some-Some-Some.left)) = search rules in
-    let right : within (c.args.c.num *ℤ int_div c.args.a.den (shared c.args.a.den c.args.c.den))
-    ≡ Some (to_z w128 (of_z w128 c.in-Some-Some-Some.right)) = search rules in
-    let num : within (to_z w128 (of_z w128 c.in-Some-Some-Some.left) +ℤ to_z w128 (of_z w128 c.in-Some-Some-Some.right)) ≡ None =
-    search rules in
+    let left : within (left_of_sum c.args.a c.args.c) ≡ Some (to_z w128 (of_z w128 c.in-Some-Some-Some.left)) = search rules in
+    let right : within (right_of_sum c.args.a c.args.c) ≡ Some (to_z w128 (of_z w128 c.in-Some-Some-Some.right)) = search rules in
+    let num : within (to_z w128 (of_z w128 c.in-Some-Some-Some.left) +ℤ to_z w128 (of_z w128 c.in-Some-Some-Some.right))
+    ≡ None = search rules in
     sym (sum-wide c.args.a c.args.c _ _ left right num)
 
 pub returns-in_default : goal.returns-in_default

@@ -1,28 +1,22 @@
-use Rattle.std.proofs.Common.{arith, ◌≡◌, ◌*◌, ◌/◌, ◌^◌, ◌<◌, ◌∙◌, ap, sym}
-use Rattle.std.specs.Int.{trailing_zeros, w64}
-use Rattle.frac128.specs.Gcd.{gcd}
-use Rattle.frac128.proofs.GcdLaws.{gcd-zero, gcd_comm, gcd-small}
-use Rattle.frac128.proofs.BinaryGcdLaws.{odd-part, shifted-twos}
+use Rattle.std.proofs.Common.{arith}
+use Rattle.std.specs.Int.{w64}
+use Rattle.frac128.proofs.BinaryGcdLaws.{odd_part, shifted-gcd, gcd_none_first, gcd_none_second}
 use Rattle.frac128.proofs.words.word_gcd.Goals as goal
 
-pub returns-then-a-eq0 : goal.returns-then-a-eq0
-returns-then-a-eq0 c = sym (gcd_comm c.args.a c.args.b ∙ gcd-zero c.args.b c.args.a c.if-a-eq0.true)
-
-pub returns-then-b-eq0 : goal.returns-then-b-eq0
-returns-then-b-eq0 c = sym (gcd-zero c.args.a c.args.b c.if-b-eq0.true)
-
 pub odd_gcd-requires-clause-first : goal.odd_gcd-requires-clause-first
-odd_gcd-requires-clause-first c = odd-part w64 c.args.a (omega arith) (omega arith)
+odd_gcd-requires-clause-first c = odd_part w64 c.args.a (omega arith) (omega arith)
 
 pub odd_gcd-requires-clause-second : goal.odd_gcd-requires-clause-second
-odd_gcd-requires-clause-second c = odd-part w64 c.args.b (omega arith) (omega arith)
+odd_gcd-requires-clause-second c = odd_part w64 c.args.b (omega arith) (omega arith)
+
+pub returns-then-a-eq0 : goal.returns-then-a-eq0
+returns-then-a-eq0 c = gcd_none_first c.args.a c.args.b c.if-a-eq0.true
+
+pub returns-then-b-eq0 : goal.returns-then-b-eq0
+returns-then-b-eq0 c = gcd_none_second c.args.a c.args.b c.if-b-eq0.true
 
 pub returns : goal.returns
 returns c =
-    let positive : 0 < c.args.b = omega arith in
-    let all = shifted-twos w64 c.args.a c.args.b (omega arith) positive (omega arith) (omega arith) in
-    let is : c.odd_gcd.result * 2 ^ c.min.result ≡ gcd c.args.a c.args.b = ap (λ n. n * 2 ^ c.min.result) c.odd_gcd.ensures
-    ∙ ap (λ n. gcd (c.args.a / 2 ^ trailing_zeros w64 c.args.a) (c.args.b / 2 ^ trailing_zeros w64 c.args.b) * 2 ^ n) c.min.ensures
-    ∙ all in
-    let small = gcd-small c.args.a c.args.b positive in
+    let shifted = shifted-gcd w64 c.args.a c.args.b _ _ (omega arith) (omega arith) (omega arith) (omega arith) c.odd_gcd.ensures
+    c.min.ensures in
     omega arith

@@ -1,25 +1,11 @@
-use Rattle.std.proofs.Common.{arith, rules, ◌≡◌, ◌∙◌, ◌<◌, to_z, of_z, length, Some, sym}
-use Rattle.std.specs.Prelude.{slice_get}
+use Rattle.std.proofs.Common.{arith, rules, ◌≡◌, ◌∙◌, to_z, of_z}
 use Rattle.std.specs.Int.{w128, w64}
 use mir.Val.{SFits}
 use Rattle.std.proofs.lemmas.Int.{ints, to_z-of_z}
-use Rattle.ip_model.proofs.PlaceLaws.{read_at, cost_of_column}
-use Rattle.ip_defs.specs.Program.{at, low_at, high_at, costs_of}
+use Rattle.ip_defs.specs.Program.{low_at, high_at, costs_of}
 use Rattle.leaf_cert.specs.Internal.Columns.{least_part}
 use Rattle.leaf_cert.proofs.Taken.{sum_step}
 use Rattle.leaf_cert.proofs.columns.column_sum.Goals as goal
-
-pub reduced_cost-reduced-requires-clause-cost_small :
-    goal.reduced_cost-reduced-requires-clause-cost_small
-reduced_cost-reduced-requires-clause-cost_small c =
-    let m = c.args.parts.now in
-    let j = c.loop-j.j in
-    let column = c.index-columns-j.result in
-    let inside : j < length m.columns = omega (arith, c.requires.sides.size) in
-    let found : slice_get m.columns j ≡ Some column = read_at m.columns c.as_slice-columns.result.now j column c.as_slice-columns.ensures
-    (rw c.as_slice-columns.ensures inside) c.index-columns-j.is in
-    let small = (c.requires.limits.columns j column found).cost in
-    rw (← c.index-columns-j.is) (omega (arith, ints))
 
 pub lesser_end-requires-clause-low_small : goal.lesser_end-requires-clause-low_small
 lesser_end-requires-clause-low_small c =
@@ -33,30 +19,19 @@ lesser_end-requires-clause-high_small c =
 
 pub loop-j-preserved : goal.loop-j-preserved
 loop-j-preserved c =
-    let m = c.args.parts.now in
-    let d = c.args.taken.now in
     let area = c.args.area.now in
     let j = c.loop-j.j in
-    let column = c.index-columns-j.result in
-    let inside : j < length m.columns = omega (arith, c.requires.sides.size) in
     let back : to_z w128 (of_z w128 c.total_of-total.result) ≡ c.total_of-total.result = omega (arith, ints) in
     let back' : to_z w128 (of_z w128 c.lesser_end.result) ≡ c.lesser_end.result = omega (arith, ints) in
-    let back'' : to_z w128 (of_z w128 c.reduced_cost-reduced.result) ≡ c.reduced_cost-reduced.result = omega (arith, ints) in
-    let fits_cost : SFits w64 column.cost = search rules in
-    let fits_d : SFits w128 (at d j) = search rules in
+    let back'' : to_z w128 (of_z w128 c.reduced_at-reduced.result) ≡ c.reduced_at-reduced.result = omega (arith, ints) in
     let fits_low : SFits w64 (low_at area j) = search rules in
     let fits_high : SFits w64 (high_at area j) = search rules in
-    let read_cost = to_z-of_z w64 column.cost fits_cost in
-    let read_d = to_z-of_z w128 (at d j) fits_d in
     let read_low = to_z-of_z w64 (low_at area j) fits_low in
     let read_high = to_z-of_z w64 (high_at area j) fits_high in
-    let found : slice_get m.columns j ≡ Some column = read_at m.columns c.as_slice-columns.result.now j column c.as_slice-columns.ensures
-    (rw c.as_slice-columns.ensures inside) c.index-columns-j.is in
-    let cost = sym (cost_of_column m j column found) in
-    let reduced = rw (← c.index-columns-j.is, read_cost, read_d, cost) at c.reduced_cost-reduced.ensures.value in
-    let is = rw (back'', read_low, read_high, reduced) at c.lesser_end.ensures.lesser in
+    let is = rw (back'', read_low, read_high, c.reduced_at-reduced.ensures.value) at c.lesser_end.ensures.lesser in
     let added = rw back' at c.total_of-total.ensures in
     record {
-      sum = sum_step (least_part (costs_of m) (to_z w64 (of_z w64 c.args.q)) d area) j _ _ _ c.loop-j.invariant.sum is (back ∙ added);
+      sum = sum_step (least_part (costs_of c.args.parts.now) (to_z w64 (of_z w64 c.args.q)) c.args.taken.now area) j _ _ _
+          c.loop-j.invariant.sum is (back ∙ added);
       small = omega (arith, ints);
     }

@@ -1,8 +1,7 @@
-use Rattle.std.proofs.Common.{arith, ◌≡◌, ◌<◌, ◌≤◌, ap, length, refl, ℤ, ◌^◌, Some}
+use Rattle.std.proofs.Common.{arith, ◌≡◌, ◌<◌, ap, length, refl, Some}
 use Rattle.std.proofs.lemmas.Int.{ints, to_z-of_z}
 use Rattle.std.specs.Prelude.{slice_get}
 use Rattle.std.specs.Int.{w64}
-use Rattle.std.specs.Int.RustNames.{unsigned_abs}
 use mir.Val.{SFits}
 use Rattle.std.proofs.lemmas.Option.{slice_get_read}
 use Rattle.ip_defs.specs.Program.{coefficient}

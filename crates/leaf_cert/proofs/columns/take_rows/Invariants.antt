@@ -1,6 +1,6 @@
 use Rattle.std.proofs.Common.{◌≡◌, ◌<◌, ℕ, take, length}
 use Rattle.ip_defs.specs.Program.{at}
-use Rattle.leaf_cert.specs.Internal.Columns.{taken_of}
+use Rattle.leaf_cert.specs.Columns.{taken_of}
 use Rattle.leaf_cert.proofs.columns.take_rows.Given as goal
 
 abbrev pub invariant-loop-row : goal.invariant-loop-row

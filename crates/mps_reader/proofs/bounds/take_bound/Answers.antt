@@ -5,8 +5,8 @@ use Rattle.ip_defs.specs.Lists.{first_of, when}
 use Rattle.mps_defs.specs.Records.{bound_column, bound_set, column_names, items_of}
 use Rattle.mps_defs.specs.declared.reading.MpsError.TheVariants.{Number}
 use Rattle.mps_reader.specs.Internal.Progress.{Stands}
-use Rattle.mps_reader.proofs.BoundLaws.{bound_item, bound_stands, column_found, columns_kept, columns_noted, faults_by, has_column_where}
-use Rattle.mps_reader.proofs.BoundLaws.{kept_set_more, line_says, noted_count, number_counts, number_fault, of_kept_set, unknown_column}
+use Rattle.mps_reader.proofs.BoundLaws.{bound_item, bound_stands, column_found, columns_kept, columns_noted, found_faults, has_column_where}
+use Rattle.mps_reader.proofs.BoundLaws.{kept_set_more, line_says, noted_count, number_counts, of_kept_set, unknown_column}
 use Rattle.mps_reader.proofs.bounds.take_bound.Goals.{then-branch, else-branch}
 use Rattle.mps_reader.proofs.bounds.take_bound.Goals as goal
 
@@ -21,15 +21,8 @@ returns-in-None c before fields h rows there bound =
 
 pub returns-in-None-number_in : goal.returns-in-None-number_in
 returns-in-None-number_in c before fields h rows there bound =
-    let l = bound_item c.args.line fields in
-    let found =
-    column_found before c.args.draft.now.columns (bound_column l) c.args.bound.column.now
-    (Some c.in-Some.column) h.columns bound.column_is c.in-Some.ensures.index in
-    let counted =
-    number_fault l c.args.kind c.args.bound.text.now c.number_in.result bound.kind_is bound.text_is c.number_in.ensures.none
-    c.number_in.ensures.some in
-    ap first_of (faults_by before c.args.line fields c.args.kind (Some c.in-Some.column) c.number_in.result rows bound.kind_is bound.count
-    (has_column_where before (bound_column l) (Some c.in-Some.column) found) counted)
+    ap first_of (found_faults before c.args.line fields c.args.kind _ _ _ c.args.draft.now.columns c.in-Some.column c.number_in.result
+    h.columns rows bound c.in-Some.ensures.index c.number_in.ensures.none c.number_in.ensures.some)
     ∙ ap (λ o. first_of (when (is_none o) (Number c.args.line))) c.in-None-number_in.is
 
 pub returns : goal.returns
@@ -38,12 +31,9 @@ returns c before fields h rows there bound =
     let found =
     column_found before c.args.draft.now.columns (bound_column l) c.args.bound.column.now
     (Some c.in-Some.column) h.columns bound.column_is c.in-Some.ensures.index in
-    let counted =
-    number_fault l c.args.kind c.args.bound.text.now c.number_in.result bound.kind_is bound.text_is c.number_in.ensures.none
-    c.number_in.ensures.some in
     let right_line =
-    faults_by before c.args.line fields c.args.kind (Some c.in-Some.column) c.number_in.result rows bound.kind_is bound.count
-    (has_column_where before (bound_column l) (Some c.in-Some.column) found) counted in
+    found_faults before c.args.line fields c.args.kind _ _ _ c.args.draft.now.columns c.in-Some.column c.number_in.result h.columns rows
+    bound c.in-Some.ensures.index c.number_in.ensures.none c.number_in.ensures.some in
     let no_faults = right_line ∙ ap (λ o. when (is_none o) (Number c.args.line)) c.in-Some-number_in.is in
     let d = c.args.draft.now in
     let items = items_of (codes "BOUNDS") before in

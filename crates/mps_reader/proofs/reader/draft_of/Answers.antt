@@ -7,7 +7,7 @@ use Rattle.mps_defs.specs.Records.{is_line_end, is_end_line}
 use Rattle.mps_defs.specs.Faults.{all_line_faults}
 use Rattle.mps_reader.specs.Internal.Progress.{Stands, IsFirstFault}
 use Rattle.mps_reader.specs.Internal.Reading.{lines_by}
-use Rattle.mps_reader.proofs.TextLaws.{all_read, few_lines, item_at, next_ended, next_goes_on, next_refused, read_from, said_by}
+use Rattle.mps_reader.proofs.TextLaws.{all_read, few_lines, next_ended, next_goes_on, next_refused, next_taken, read_from, said_by}
 use Rattle.mps_reader.proofs.reader.draft_of.Goals as goal
 
 pub overflow_add-number : goal.overflow_add-number
@@ -21,31 +21,25 @@ overflow_add-number c =
 
 pub returns-then-ended : goal.returns-then-ended
 returns-then-ended c =
-    let xs = map (λ x. x.now) c.as_slice-line-items.result.now in
     let lines = ap (map (λ x. x.now)) c.as_slice-line-items.ensures.value ∙ c.in_ok-lines.ensures in
-    let at = item_at (λ x. x.now) c.as_slice-line-items.result.now c.loop-line.line-index _ c.loop-line-test.true in
-    let inv = c.loop-line.invariant in
-    let taken = c.take_line.ensures (read_from 1 (take c.loop-line.line-index xs)) inv.2 inv.1 in
+    let next = next_taken (λ x. x.now) c.as_slice-line-items.result.now c.loop-line.line-index _ _ _ _ _ c.loop-line-test.true
+    c.loop-line.invariant c.take_line.ensures in
     subst (λ ys. Stands (said_by ys) c.take_line.new.draft) lines
-    (next_ended xs c.loop-line.line-index _ _ _ _ _ (at, inv.0, inv.1, taken) c.in-Ok.is c.if-ended.true)
+    (next_ended _ c.loop-line.line-index _ _ _ _ _ next c.in-Ok.is c.if-ended.true)
 
 pub returns-in-Err : goal.returns-in-Err
 returns-in-Err c =
-    let xs = map (λ x. x.now) c.as_slice-line-items.result.now in
     let lines = ap (map (λ x. x.now)) c.as_slice-line-items.ensures.value ∙ c.in_ok-lines.ensures in
-    let at = item_at (λ x. x.now) c.as_slice-line-items.result.now c.loop-line.line-index _ c.loop-line-test.true in
-    let inv = c.loop-line.invariant in
-    let taken = c.take_line.ensures (read_from 1 (take c.loop-line.line-index xs)) inv.2 inv.1 in
+    let next = next_taken (λ x. x.now) c.as_slice-line-items.result.now c.loop-line.line-index _ _ _ _ _ c.loop-line-test.true
+    c.loop-line.invariant c.take_line.ensures in
     subst (λ ys. IsFirstFault (all_line_faults (said_by ys)) c.in-Err.error) lines
-    (next_refused xs c.loop-line.line-index _ _ _ _ _ (at, inv.0, inv.1, taken) c.in-Err.is)
+    (next_refused _ c.loop-line.line-index _ _ _ _ _ next c.in-Err.is)
 
 pub loop-line-preserved : goal.loop-line-preserved
 loop-line-preserved c =
-    let xs = map (λ x. x.now) c.as_slice-line-items.result.now in
-    let at = item_at (λ x. x.now) c.as_slice-line-items.result.now c.loop-line.line-index _ c.loop-line-test.true in
-    let inv = c.loop-line.invariant in
-    let taken = c.take_line.ensures (read_from 1 (take c.loop-line.line-index xs)) inv.2 inv.1 in
-    next_goes_on xs c.loop-line.line-index _ _ _ _ _ (at, inv.0, inv.1, taken) c.in-Ok.is c.if-ended.false
+    next_goes_on _ c.loop-line.line-index _ _ _ _ _
+    (next_taken (λ x. x.now) c.as_slice-line-items.result.now c.loop-line.line-index _ _ _ _ _ c.loop-line-test.true c.loop-line.invariant
+    c.take_line.ensures) c.in-Ok.is c.if-ended.false
 
 pub returns : goal.returns
 returns c =

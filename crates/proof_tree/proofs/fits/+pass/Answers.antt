@@ -19,24 +19,19 @@ pass-requires-in-Ok t c =
 
 pub returns-in-Ok : goal.returns-in-Ok
 returns-in-Ok t c =
-    let k = c.args.node in
     let f = misfit_at c.args.columns c.args.rows in
-    let left = nodes (plain c.in-Split.left.value) in
-    let right = nodes (plain c.in-Split.right.value) in
     let top = split_node c.in-Split.col c.in-Split.at tt in
     let own : own_misfit c.args.columns c.args.rows top ≡ None = rw c.in-Split.is at (sym c.node_misfit.ensures ∙ c.in-None.is) in
-    let first = rw c.deref.ensures at (sym c.pass.ensures ∙ c.in-Ok.is) in
-    let on = pass_right f k top left right c.in-Ok.next (ap (with_number k) own) first in
-    rw c.deref-in-Ok.ensures at c.pass-in-Ok.ensures ∙ sym on ∙ ap (λ (s : _). passed_over f k (nodes (plain s))) (sym c.in-Split.is)
+    let on = pass_right f c.args.node top (nodes (plain c.in-Split.left.value)) (nodes (plain c.in-Split.right.value)) c.in-Ok.next
+    (ap (with_number c.args.node) own) (rw c.deref.ensures at (sym c.pass.ensures ∙ c.in-Ok.is)) in
+    rw c.deref-in-Ok.ensures at c.pass-in-Ok.ensures ∙ sym on
+    ∙ ap (λ (s : _). passed_over f c.args.node (nodes (plain s))) (sym c.in-Split.is)
 
 pub returns-in-Err : goal.returns-in-Err
 returns-in-Err t c =
-    let k = c.args.node in
     let f = misfit_at c.args.columns c.args.rows in
-    let left = nodes (plain c.in-Split.left.value) in
-    let right = nodes (plain c.in-Split.right.value) in
     let top = split_node c.in-Split.col c.in-Split.at tt in
     let own : own_misfit c.args.columns c.args.rows top ≡ None = rw c.in-Split.is at (sym c.node_misfit.ensures ∙ c.in-None.is) in
-    let first = rw c.deref.ensures at (sym c.pass.ensures ∙ c.in-Err.is) in
-    let stop = pass_left f k top left right c.in-Err.shape (ap (with_number k) own) first in
-    sym stop ∙ ap (λ (s : _). passed_over f k (nodes (plain s))) (sym c.in-Split.is)
+    sym (pass_left f c.args.node top (nodes (plain c.in-Split.left.value)) (nodes (plain c.in-Split.right.value)) c.in-Err.shape
+    (ap (with_number c.args.node) own) (rw c.deref.ensures at (sym c.pass.ensures ∙ c.in-Err.is)))
+    ∙ ap (λ (s : _). passed_over f c.args.node (nodes (plain s))) (sym c.in-Split.is)

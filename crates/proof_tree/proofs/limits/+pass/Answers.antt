@@ -8,24 +8,18 @@ use Rattle.proof_tree.proofs.limits.+pass.Goals as goal
 pub returns-in-Ok : goal.returns-in-Ok
 returns-in-Ok t c =
     let d = c.args.depth in
-    let k = c.args.node in
-    let left = nodes_from (d + 1) (plain c.in-Split.left.value) in
-    let right = nodes_from (d + 1) (plain c.in-Split.right.value) in
-    let own : limit_at k (d, split_node c.in-Split.col c.in-Split.at tt) ≡ None =
-    rw c.in-Split.is at (sym c.node_limit.ensures ∙ c.in-None.is) in
-    let first = rw c.deref.ensures at (sym c.pass.ensures ∙ c.in-Ok.is) in
-    let on = pass_right limit_at k (d, split_node c.in-Split.col c.in-Split.at tt) left right c.in-Ok.next own first in
+    let top = split_node c.in-Split.col c.in-Split.at tt in
+    let own : limit_at c.args.node (d, top) ≡ None = rw c.in-Split.is at (sym c.node_limit.ensures ∙ c.in-None.is) in
+    let on = pass_right limit_at c.args.node (d, top) (nodes_from (d + 1) (plain c.in-Split.left.value))
+    (nodes_from (d + 1) (plain c.in-Split.right.value)) c.in-Ok.next own (rw c.deref.ensures at (sym c.pass.ensures ∙ c.in-Ok.is)) in
     rw c.deref-in-Ok.ensures at c.pass-in-Ok.ensures ∙ sym on
-    ∙ ap (λ (s : _). passed_over limit_at k (nodes_from d (plain s))) (sym c.in-Split.is)
+    ∙ ap (λ (s : _). passed_over limit_at c.args.node (nodes_from d (plain s))) (sym c.in-Split.is)
 
 pub returns-in-Err : goal.returns-in-Err
 returns-in-Err t c =
     let d = c.args.depth in
-    let k = c.args.node in
-    let left = nodes_from (d + 1) (plain c.in-Split.left.value) in
-    let right = nodes_from (d + 1) (plain c.in-Split.right.value) in
-    let own : limit_at k (d, split_node c.in-Split.col c.in-Split.at tt) ≡ None =
-    rw c.in-Split.is at (sym c.node_limit.ensures ∙ c.in-None.is) in
-    let first = rw c.deref.ensures at (sym c.pass.ensures ∙ c.in-Err.is) in
-    let stop = pass_left limit_at k (d, split_node c.in-Split.col c.in-Split.at tt) left right c.in-Err.limit own first in
-    sym stop ∙ ap (λ (s : _). passed_over limit_at k (nodes_from d (plain s))) (sym c.in-Split.is)
+    let top = split_node c.in-Split.col c.in-Split.at tt in
+    let own : limit_at c.args.node (d, top) ≡ None = rw c.in-Split.is at (sym c.node_limit.ensures ∙ c.in-None.is) in
+    sym (pass_left limit_at c.args.node (d, top) (nodes_from (d + 1) (plain c.in-Split.left.value))
+    (nodes_from (d + 1) (plain c.in-Split.right.value)) c.in-Err.limit own (rw c.deref.ensures at (sym c.pass.ensures ∙ c.in-Err.is)))
+    ∙ ap (λ (s : _). passed_over limit_at c.args.node (nodes_from d (plain s))) (sym c.in-Split.is)

@@ -2,7 +2,7 @@ use Rattle.std.proofs.Common.{rules, arith, ℕ, ◌≡◌, ◌∙◌, ◌<◌, 
 use Rattle.std.specs.Int.{w64}
 use Rattle.ip_defs.specs.Boxes.{below, above}
 use Rattle.ip_defs.specs.Program.{low_at, high_at}
-use Rattle.leaf_cert.specs.Room.{FitsScratch}
+use Rattle.leaf_cert.specs.Scratches.{FitsScratch}
 use Rattle.proof_tree.specs.LabelledTrees.{depth}
 use Rattle.proof_tree.specs.Trees.{plain, bound_min, bound_over}
 use Rattle.proof_tree.proofs.TreeLaws.{bound_split}
@@ -48,7 +48,7 @@ walk-below-requires t c =
     let cut = is_below t (goal.at.walk-below-requires t c).After-cut_below in
     let area = below_within n c.args.area.now c.in-Split.col c.in-Split.at columns.0 numbers.1 c.requires.area in
     let falls : depth (plain c.deref.result.now) < t = rw is (omega arith) in
-    (falls, (rw is numbers.2, (rw is columns.1, (rw is rows.0, (rw cut area, c.requires.room)))))
+    (falls, (rw is numbers.2, (rw is columns.1, (rw is rows.0, (rw cut area, c.requires.scratch)))))
 
 pub walk-above-requires : goal.walk-above-requires
 walk-above-requires t c =
@@ -65,12 +65,12 @@ walk-above-requires t c =
     let some : low_at (above b j z) j ≤ℤ high_at (above b j z) j = rw cut at (c.cut_above.ensures.open.0 c.if-cut_above.true) in
     let area = above_within (length m.columns) b j z columns.0 numbers.1 c.requires.area some in
     let falls : depth (plain c.deref-then-cut_above.result.now) < t = rw is (omega arith) in
-    let room : FitsScratch m c.if-cut_below.scratch =
+    let scratch : FitsScratch m c.if-cut_below.scratch =
     elim c.if-cut_below.branch [
-      | then-cut_below w ↦ rw w.scratch-is (w.walk-below.ensures.room ∙ c.requires.room)
-      | else-cut_below w ↦ rw w.scratch-is c.requires.room
+      | then-cut_below w ↦ rw w.scratch-is (w.walk-below.ensures.scratch ∙ c.requires.scratch)
+      | else-cut_below w ↦ rw w.scratch-is c.requires.scratch
     ] in
-    (falls, (rw is numbers.3, (rw is columns.2, (rw is rows.1, (rw cut area, room)))))
+    (falls, (rw is numbers.3, (rw is columns.2, (rw is rows.1, (rw cut area, scratch)))))
 
 pub returns-after-cut_above-clause-bound : goal.returns-after-cut_above-clause-bound
 returns-after-cut_above-clause-bound t c =

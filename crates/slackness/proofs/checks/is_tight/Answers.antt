@@ -22,54 +22,31 @@ returns-then-not-are_tight c =
           c.take_rows.new.taken c.requires.area.size (λ j l. taken j (omega (arith, c.requires.area.size, c.requires.taken))) t.columns),
     )
 
-pub are_within-requires-clause-point_small : goal.are_within-requires-clause-point_small
-are_within-requires-clause-point_small c =
+pub are_within_and_paid-requires-clause-point_small : goal.are_within_and_paid-requires-clause-point_small
+are_within_and_paid-requires-clause-point_small c =
     let d : to_z w128 (of_z w128 c.args.denominator) ≡ c.args.denominator = omega (arith, ints) in
     let same : to_z w64 (of_z w64 c.args.cert.now.q) ≡ c.args.cert.now.q = search rules in
-    let columns = rw (d, same) at c.if-not-are_tight.ensures in
-    let taken = rw c.as_slice-y.ensures at c.take_rows.ensures in
-    let tight = tight_from c.args.parts.now c.args.area.now c.args.denominator c.args.point.now c.args.cert.now
-    c.take_rows.new.taken c.requires.area.size (λ j l. taken j (omega (arith, c.requires.area.size, c.requires.taken)))
-    (columns.0 refl) in
     numerators_small c.args.parts.now c.args.area.now c.args.denominator c.args.point.now c.args.cert.now c.requires.area
-    c.requires.denominator c.requires.point tight
-
-pub returns-then-not-are_within : goal.returns-then-not-are_within
-returns-then-not-are_within c =
-    let d : to_z w128 (of_z w128 c.args.denominator) ≡ c.args.denominator = omega (arith, ints) in
-    let rows = rw d at c.if-not-are_within.ensures in
-    (λ t. absurd cc, λ t. rows.1 t.rows)
-
-pub are_paid-requires-clause-point_small : goal.are_paid-requires-clause-point_small
-are_paid-requires-clause-point_small c =
-    let d : to_z w128 (of_z w128 c.args.denominator) ≡ c.args.denominator = omega (arith, ints) in
-    let same : to_z w64 (of_z w64 c.args.cert.now.q) ≡ c.args.cert.now.q = search rules in
-    let columns = rw (d, same) at c.if-not-are_tight.ensures in
-    let taken = rw c.as_slice-y.ensures at c.take_rows.ensures in
-    let tight = tight_from c.args.parts.now c.args.area.now c.args.denominator c.args.point.now c.args.cert.now
-    c.take_rows.new.taken c.requires.area.size (λ j l. taken j (omega (arith, c.requires.area.size, c.requires.taken)))
-    (columns.0 refl) in
-    numerators_small c.args.parts.now c.args.area.now c.args.denominator c.args.point.now c.args.cert.now c.requires.area
-    c.requires.denominator c.requires.point tight
+    c.requires.denominator c.requires.point (tight_from c.args.parts.now c.args.area.now c.args.denominator c.args.point.now
+    c.args.cert.now c.take_rows.new.taken c.requires.area.size
+    (λ j l. (rw c.as_slice-y.ensures at c.take_rows.ensures) j (omega (arith, c.requires.area.size, c.requires.taken)))
+    ((rw (d, same) at c.if-not-are_tight.ensures).0 refl))
 
 pub returns : goal.returns
 returns c =
     let d : to_z w128 (of_z w128 c.args.denominator) ≡ c.args.denominator = omega (arith, ints) in
     let same : to_z w64 (of_z w64 c.args.cert.now.q) ≡ c.args.cert.now.q = search rules in
-    let columns = rw (d, same) at c.if-not-are_tight.ensures in
-    let taken = rw c.as_slice-y.ensures at c.take_rows.ensures in
-    let tight = tight_from c.args.parts.now c.args.area.now c.args.denominator c.args.point.now c.args.cert.now
-    c.take_rows.new.taken c.requires.area.size (λ j l. taken j (omega (arith, c.requires.area.size, c.requires.taken)))
-    (columns.0 refl) in
-    let rows = rw d at c.if-not-are_within.ensures in
-    let paid = rw (d, c.as_slice-y.ensures) at c.are_paid.ensures in (
+    let rows = rw (d, c.as_slice-y.ensures) at c.are_within_and_paid.ensures in (
       λ t. record {
         size = c.requires.point;
         positive = c.requires.denominator.positive;
         divisor = rw same at (c.if-not-is_positive.ensures.0 refl);
-        columns = tight;
-        rows = rows.0 refl;
-        paid = paid.0 t;
+        columns = tight_from c.args.parts.now c.args.area.now c.args.denominator c.args.point.now c.args.cert.now
+            c.take_rows.new.taken c.requires.area.size
+            (λ j l. (rw c.as_slice-y.ensures at c.take_rows.ensures) j (omega (arith, c.requires.area.size, c.requires.taken)))
+            ((rw (d, same) at c.if-not-are_tight.ensures).0 refl);
+        rows = (rows.0 t).0;
+        paid = (rows.0 t).1;
       },
-      λ t. paid.1 t.paid,
+      λ t. rows.1 (t.rows, t.paid),
     )

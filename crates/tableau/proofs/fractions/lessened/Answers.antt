@@ -14,15 +14,12 @@ returns-then-first-clause-value c =
     let x = c.unchanged.ensures.fraction in
     let f = c.is_zero-first.ensures.fraction in
     let g = c.is_zero-second.ensures.fraction in
-    let left : is_zero_fraction c.args.f ≡ true → less_product c.args.x c.args.f c.args.g ≡ Ok c.args.x =
-    less_zero_left c.args.x c.args.f c.args.g x f g in
-    let right : is_zero_fraction c.args.g ≡ true → less_product c.args.x c.args.f c.args.g ≡ Ok c.args.x =
-    less_zero_right c.args.x c.args.f c.args.g x f g in
     let same : less_product c.args.x c.args.f c.args.g ≡ Ok c.args.x =
     elim c.then-first.branch [
-      | then-first-via-then-first w ↦ left (sym c.is_zero-first.ensures.zero
+      | then-first-via-then-first w ↦ less_zero_left c.args.x c.args.f c.args.g x f g (sym c.is_zero-first.ensures.zero
           ∙ w.if-first.true)
-      | then-first-via-else-first+then-second w ↦ right (sym c.is_zero-second.ensures.zero ∙ w.if-second.true)
+      | then-first-via-else-first+then-second w ↦ less_zero_right c.args.x c.args.f c.args.g x f g
+          (sym c.is_zero-second.ensures.zero ∙ w.if-second.true)
     ] in
     let value = (less_product-value c.args.x c.args.f c.args.g c.args.x x f g same).1 in
     subst (λ (o : Result Fraction Wide). IfOk o (λ r. value_of r ≡ sub (value_of c.args.x) (mul (value_of c.args.f) (value_of c.args.g))))
@@ -33,12 +30,9 @@ returns-then-first-clause-exact c =
     let x = c.unchanged.ensures.fraction in
     let f = c.is_zero-first.ensures.fraction in
     let g = c.is_zero-second.ensures.fraction in
-    let left : is_zero_fraction c.args.f ≡ true → less_product c.args.x c.args.f c.args.g ≡ Ok c.args.x =
-    less_zero_left c.args.x c.args.f c.args.g x f g in
-    let right : is_zero_fraction c.args.g ≡ true → less_product c.args.x c.args.f c.args.g ≡ Ok c.args.x =
-    less_zero_right c.args.x c.args.f c.args.g x f g in
     c.unchanged.ensures.same ∙ sym (elim c.then-first.branch [
-      | then-first-via-then-first w ↦ left (sym c.is_zero-first.ensures.zero
+      | then-first-via-then-first w ↦ less_zero_left c.args.x c.args.f c.args.g x f g (sym c.is_zero-first.ensures.zero
           ∙ w.if-first.true)
-      | then-first-via-else-first+then-second w ↦ right (sym c.is_zero-second.ensures.zero ∙ w.if-second.true)
+      | then-first-via-else-first+then-second w ↦ less_zero_right c.args.x c.args.f c.args.g x f g
+          (sym c.is_zero-second.ensures.zero ∙ w.if-second.true)
     ])

@@ -31,18 +31,15 @@ returns-in-Err-clause-wide c =
 
 pub returns-in-Err-lessen_rows-clause-wide : goal.returns-in-Err-lessen_rows-clause-wide
 returns-in-Err-lessen_rows-clause-wide c =
-    let n = length c.args.quotients.now in
     let rows = c.args.rows.now in
-    let r = c.args.row in
-    let v = c.args.var in
     let g = c.divide_row.new.into in
-    let read = get_or_default rows r c.index-rows-row.result [] c.requires.row in
-    let row_is = c.as_slice.ensures ∙ read in
-    let made = made_of n rows r v c.as_slice.result.now c.at.result (Ok g) row_is (c.at.ensures
-    ∙ ap (λ (z : List Fraction). at z v) (sym c.as_slice.ensures)) (c.requires.rows.size r c.requires.row)
-    c.in-Ok.ensures.quotients in
-    let wide : HasWideRow rows r v g = rw (c.as_slice-2.ensures) at c.in-Err-lessen_rows.ensures.wide in
-    wide_other_row n rows r v c.requires.rows c.requires.row c.requires.variable c.requires.pivot g made wide
+    let row_is = c.as_slice.ensures ∙ get_or_default rows c.args.row c.index-rows-row.result [] c.requires.row in
+    let made = made_of (length c.args.quotients.now) rows c.args.row c.args.var c.as_slice.result.now c.at.result (Ok g) row_is
+    (c.at.ensures ∙ ap (λ (z : List Fraction). at z c.args.var) (sym c.as_slice.ensures))
+    (c.requires.rows.size c.args.row c.requires.row) c.in-Ok.ensures.quotients in
+    let wide : HasWideRow rows c.args.row c.args.var g = rw (c.as_slice-2.ensures) at c.in-Err-lessen_rows.ensures.wide in
+    wide_other_row (length c.args.quotients.now) rows c.args.row c.args.var c.requires.rows c.requires.row c.requires.variable
+    c.requires.pivot g made wide
 
 pub returns-clause-pivoted : goal.returns-clause-pivoted
 returns-clause-pivoted c =

@@ -20,12 +20,9 @@ put_coefs-requires-clause-ordered c =
     (c.requires.limits.shape.rows c.args.k row found).coefs)
 
 pub put_coefs-requires-clause-small : goal.put_coefs-requires-clause-small
-put_coefs-requires-clause-small c =
-    let m = c.args.parts.now in
-    let row = c.index-rows-k.result in
-    let found : slice_get m.rows c.args.k ≡ Some row = read_at m.rows c.as_slice-rows.result.now c.args.k row c.as_slice-rows.ensures
-    (rw c.as_slice-rows.ensures c.requires.row) c.index-rows-k.is in
-    rw c.as_slice.ensures (c.requires.limits.rows c.args.k row found).coefs
+put_coefs-requires-clause-small c = rw c.as_slice.ensures (c.requires.limits.rows c.args.k c.index-rows-k.result
+    (read_at c.args.parts.now.rows c.as_slice-rows.result.now c.args.k c.index-rows-k.result c.as_slice-rows.ensures
+    (rw c.as_slice-rows.ensures c.requires.row) c.index-rows-k.is)).coefs
 
 pub returns : goal.returns
 returns c =

@@ -1,28 +1,23 @@
 use Rattle.std.proofs.Common.{◌∙◌, ◌++◌, ◌∷◌, [], length, sym, ap, arith}
-use Rattle.ips_io.proofs.TableLaws.{changed, added, same_files, filled_after, IsFilled}
+use Rattle.ips_io.proofs.TableLaws.{changed_at, added, same_files, filled_after, IsFilled}
 use Rattle.ips_io.specs.Places.{resized, edited}
 use Rattle.ips_io.specs.declared.places.Lengths.{Lengths}
 use Rattle.ips_io.proofs.tables.Table.put.Goals as goal
 
 pub change-requires-clause-index : goal.change-requires-clause-index
 change-requires-clause-index c =
-    let at = rw (c.as_slice.ensures.value, c.as_slice-2.ensures.value, c.as_bytes-name.ensures.value) at c.in-Some.ensures in
-    let filled = c.self.invariant.0 ∙ c.self.inside.buffer.ok.0 in
-    let change = changed c.self.inside.lengths.items c.self.inside.buffer.items c.args.name.now c.args.bytes.now c.in-Some.place filled
-    (sym at) in
+    let change = changed_at c.args.bytes.now c.as_slice.ensures.value c.as_slice-2.ensures.value c.as_bytes-name.ensures.value
+    (c.self.invariant.0 ∙ c.self.inside.buffer.ok.0) c.in-Some.ensures in
     omega (arith, change.index, c.self.inside.lengths.ok.0)
 
 pub change-requires-clause-within : goal.change-requires-clause-within
 change-requires-clause-within c =
-    let at = rw (c.as_slice.ensures.value, c.as_slice-2.ensures.value, c.as_bytes-name.ensures.value) at c.in-Some.ensures in
-    let filled = c.self.invariant.0 ∙ c.self.inside.buffer.ok.0 in
-    let change = changed c.self.inside.lengths.items c.self.inside.buffer.items c.args.name.now c.args.bytes.now c.in-Some.place filled
-    (sym at) in
+    let change = changed_at c.args.bytes.now c.as_slice.ensures.value c.as_slice-2.ensures.value c.as_bytes-name.ensures.value
+    (c.self.invariant.0 ∙ c.self.inside.buffer.ok.0) c.in-Some.ensures in
     omega (arith, change.within, c.self.inside.buffer.ok.0)
 
 pub invariant_of-self : goal.invariant_of-self
 invariant_of-self c =
-    let at = rw (c.as_slice.ensures.value, c.as_slice-2.ensures.value, c.as_bytes-name.ensures.value) at c.in-Some.ensures in
     let ls = c.self.inside.lengths.items in
     let b = c.self.inside.buffer.items in
     let place = c.in-Some.place in
@@ -30,7 +25,8 @@ invariant_of-self c =
     let listed = c.self.inside.lengths.ok.0 in
     let size = c.self.inside.buffer.ok.0 in
     let filled = c.self.invariant.0 ∙ size in
-    let change = changed ls b c.args.name.now bytes place filled (sym at) in
+    let change = changed_at bytes c.as_slice.ensures.value c.as_slice-2.ensures.value c.as_bytes-name.ensures.value filled
+    c.in-Some.ensures in
     let before : IsFilled ls b c.self.inside.most_files c.self.inside.room = record {
       filled = filled;
       listed = omega arith;
@@ -56,10 +52,8 @@ invariant_of-self c =
 
 pub returns-in-Some-clause-fits : goal.returns-in-Some-clause-fits
 returns-in-Some-clause-fits c =
-    let at = rw (c.as_slice.ensures.value, c.as_slice-2.ensures.value, c.as_bytes-name.ensures.value) at c.in-Some.ensures in
-    let filled = c.self.invariant.0 ∙ c.self.inside.buffer.ok.0 in
-    let change = changed c.self.inside.lengths.items c.self.inside.buffer.items c.args.name.now c.args.bytes.now c.in-Some.place filled
-    (sym at) in
+    let change = changed_at c.args.bytes.now c.as_slice.ensures.value c.as_slice-2.ensures.value c.as_bytes-name.ensures.value
+    (c.self.invariant.0 ∙ c.self.inside.buffer.ok.0) c.in-Some.ensures in
     let listed = c.self.inside.lengths.ok.0 in
     let size = c.self.inside.buffer.ok.0 in
     rw (← c.self.view_is) (
@@ -70,13 +64,12 @@ returns-in-Some-clause-fits c =
 
 pub returns-in-Some-clause-files : goal.returns-in-Some-clause-files
 returns-in-Some-clause-files c =
-    let at = rw (c.as_slice.ensures.value, c.as_slice-2.ensures.value, c.as_bytes-name.ensures.value) at c.in-Some.ensures in
     let ls = c.self.inside.lengths.items in
     let b = c.self.inside.buffer.items in
     let place = c.in-Some.place in
     let bytes = c.args.bytes.now in
-    let filled = c.self.invariant.0 ∙ c.self.inside.buffer.ok.0 in
-    let change = changed ls b c.args.name.now bytes place filled (sym at) in
+    let change = changed_at bytes c.as_slice.ensures.value c.as_slice-2.ensures.value c.as_bytes-name.ensures.value
+    (c.self.invariant.0 ∙ c.self.inside.buffer.ok.0) c.in-Some.ensures in
     rw (← c.self.view_is) (same_files c.change.result c.change.new.files.items (resized ls place.index (length bytes))
     c.change.new.buffer.items (edited b place.content bytes) _ c.change.ensures.files c.change.ensures.buffer change.files)
 

@@ -2,7 +2,7 @@ use Rattle.std.proofs.Common.{arith, ◌≡◌, ◌≢◌, ◌<◌, ◌++◌, �
 use Rattle.std.proofs.Math.Seq.{take-append_seam}
 use Rattle.std.proofs.lemmas.List.{get_or_default}
 use Rattle.frac128.specs.Fractions.{Fraction}
-use Rattle.tableau.specs.Tables.{Table, basic_at, entry, IsTable, AreSpareLines}
+use Rattle.tableau.specs.Tables.{Table, table_of, basic_at, entry, IsTable, AreSpareLines}
 use Rattle.tableau.specs.Pivots.{new_rows}
 use Rattle.tableau.proofs.EntryLaws.{count}
 use Rattle.tableau.proofs.TableLaws.{with_rows, with_rows-table}
@@ -19,12 +19,7 @@ invariant_of-self-2 c =
     let r = c.args.row in
     let v = c.args.var in
     let n = length inside.variables.items in
-    let T : Table = record {
-      rows = inside.rows.items;
-      basics = inside.basics.items;
-      positions = inside.positions.items;
-      variables = inside.variables.items;
-    } in
+    let T = table_of inside.rows.items inside.basics.items inside.positions.items inside.variables.items in
     let table : IsTable T = c.self.invariant.0 in
     let lines = c.self.invariant.1 in
     let row : r < length inside.rows.items = subst (λ (t : Table). r < length t.rows) (sym c.self.view_is) c.requires.row in

@@ -7,7 +7,7 @@ use Rattle.frac128.proofs.Rationals.{rationals}
 use Rattle.ring_laws.proofs.Sums.{sum}
 use Rattle.tableau.specs.declared.positions.Rest.{Rest}
 use Rattle.tableau.specs.declared.variables.Variable.{Variable}
-use Rattle.tableau.specs.Tables.{Table, at, line, position_at, variable_at}
+use Rattle.tableau.specs.Tables.{Table, table_of, at, line, position_at, variable_at}
 use Rattle.tableau.specs.Numbers.{nonbasic_value, side_or_zero}
 use Rattle.tableau.specs.Meanings.{value_number}
 use Rattle.tableau.proofs.NumberLaws.{number_is}
@@ -21,12 +21,7 @@ pub returns-clause-number : goal.returns-clause-number
 returns-clause-number c =
     let inside = c.self.inside in
     let r = c.args.row in
-    let T : Table = record {
-      rows = inside.rows.items;
-      basics = inside.basics.items;
-      positions = inside.positions.items;
-      variables = inside.variables.items;
-    } in
+    let T = table_of inside.rows.items inside.basics.items inside.positions.items inside.variables.items in
     let row : r < length inside.rows.items = subst (λ (t : Table). r < length t.rows) (sym c.self.view_is) c.requires in
     let numbers = c.as_slice.result.now in
     let positions = c.as_slice-2.result.now in

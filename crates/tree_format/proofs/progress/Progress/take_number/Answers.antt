@@ -16,6 +16,5 @@ pub returns-in-Err-clause-left : goal.returns-in-Err-clause-left
 returns-in-Err-clause-left c = λ bytes.
     let s = c.args.self.now in
     let trees = trees_at s.pending s.nodes in
-    let ended = number_ended s.field c.args.greatest s.read s.low s.start c.args.byte c.in-Ends.value trees bytes c.requires.field
-    (sym c.next_digit.ensures ∙ c.in-Ends.is) in
-    rw c.in-Err.is at c.after.ensures.after trees (s.start + (s.read + 1)) bytes ∙ sym ended
+    rw c.in-Err.is at c.after.ensures.after trees (s.start + (s.read + 1)) bytes ∙ sym (number_ended s.field c.args.greatest s.read s.low
+    s.start c.args.byte c.in-Ends.value trees bytes c.requires.field (sym c.next_digit.ensures ∙ c.in-Ends.is))

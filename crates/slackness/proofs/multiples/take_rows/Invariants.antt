@@ -1,7 +1,0 @@
-use Rattle.std.proofs.Common.{◌≡◌, ◌<◌, ℕ, take, length}
-use Rattle.ip_defs.specs.Program.{at}
-use Rattle.leaf_cert.specs.Internal.Columns.{taken_of}
-use Rattle.slackness.proofs.multiples.take_rows.Given as goal
-
-abbrev pub invariant-loop-row : goal.invariant-loop-row
-invariant-loop-row l = (j : ℕ) → j < length l.taken → at l.taken j ≡ taken_of l.parts.rows (take l.row-index l.y) j

@@ -1,5 +1,7 @@
 pub mod AreaLaws
+pub mod ChangeLaws
 pub mod LimitLaws
+pub mod NoLimitLaws
 pub mod PlaceLaws
 pub mod RowLaws
 pub mod ShapeLaws

@@ -1,18 +1,19 @@
 -- The value of a row from its listed coefficients alone, one more at a time.
 use Rattle.std.specs.Prelude.{◌≡◌, ◌≢◌, ℕ, zero, suc, ◌+◌, ◌<◌, ◌≤◌, ◌==◌, Bool, true, false, cond, List, [], ◌∷◌, ◌++◌, length, take}
-use Rattle.std.specs.Prelude.{nat_lt, ℤ, pos, ◌+ℤ◌, ◌*ℤ◌, ◌^◌}
-use Rattle.std.specs.Int.{w64}
+use Rattle.std.specs.Prelude.{nat_lt, ℤ, pos, ◌+ℤ◌, ◌*ℤ◌, ◌^◌, ◌*◌}
+use Rattle.std.specs.Int.{Width, w64}
 use Rattle.std.specs.Int.RustNames.{unsigned_abs}
 use mir.Val.{SFits}
-use Rattle.std.proofs.Common.{arith, refl, ap, ◌∙◌, get_or}
+use Rattle.std.proofs.Common.{arith, refl, ap, sym, ◌∙◌, get_or, add-one, to_z, of_z}
 use Rattle.std.proofs.lemmas.Bool.{eqb-true, eqb-false, ltb-true, ltb-false}
-use Rattle.std.proofs.lemmas.Int.{ints}
-use Rattle.std.proofs.lemmas.List.{take_more}
+use Rattle.std.proofs.lemmas.Int.{ints, to_z-of_z}
+use Rattle.std.proofs.lemmas.List.{take_more, take_all}
 use Rattle.std.proofs.Math.ListN.{get_or-eq_default}
+use Rattle.std.proofs.Math.Nat.{suc-mul}
 use Rattle.ring_laws.proofs.Products.{add_mul}
 use Rattle.ip_defs.specs.Sums.{sum_below, sum_over}
 use Rattle.ip_defs.specs.Program.{at, coefficient, row_sum}
-use Rattle.ip_defs.specs.Limits.{index_at}
+use Rattle.ip_defs.specs.Limits.{index_at, value_at, AreOrdered}
 use Rattle.ip_defs.proofs.SumLaws.{sum_same, sum_add, sum_zero}
 
 pub sum_over-append : {A : Type 0} (f : A → ℤ) (xs ys : List A) → sum_over f (xs ++ ys) ≡ sum_over f xs +ℤ sum_over f ys
@@ -87,6 +88,27 @@ row_walk (p ∷ ps) x =
     let first = lone_sum p.0 p.1 x in
     omega (arith, ints)
 
+-- the sum of the first terms of a row's value, and a bound on its absolute value
+pub record IsFirstSum (ps : List (ℕ × ℤ)) (x : List ℤ) (count most : ℕ) (total : ℤ) : Type 0 where
+  pub sum : total ≡ sum_over (λ p. p.1 *ℤ at x p.0) (take count ps)
+  pub small : unsigned_abs total ≤ count * most
+
+-- one more term
+pub first_sum_more : (ps : List (ℕ × ℤ)) (x : List ℤ) (i most : ℕ) (total term next : ℤ) → i < length ps → IsFirstSum ps x i most total →
+    term ≡ value_at ps i *ℤ at x (index_at ps i) → unsigned_abs term ≤ most → next ≡ total +ℤ term → IsFirstSum ps x (i + 1) most next
+first_sum_more ps x i most total term next l before value small is =
+    let sum = before.sum in
+    let bound = before.small in
+    let more = sum_over_more (λ p. p.1 *ℤ at x p.0) ps i (0, pos 0) l in
+    let size : (i + 1) * most ≡ i * most + most = ap (λ n. n * most) (add-one i) ∙ suc-mul i most in
+    record { sum = omega (arith, ints); small = omega (arith, ints) }
+
+-- all terms make the value of the row
+pub first_sum_all : (ps : List (ℕ × ℤ)) (x : List ℤ) (count most : ℕ) (total : ℤ) → length ps ≤ count → IsFirstSum ps x count most total →
+    total ≡ row_sum ps x
+first_sum_all ps x count most total l all =
+    all.sum ∙ ap (sum_over (λ p. p.1 *ℤ at x p.0)) (take_all count ps l) ∙ sym (row_walk ps x)
+
 -- an index is at most the number there, where numbers increase
 pub place_below : (ps : List (ℕ × ℤ)) (i : ℕ) → ((h k : ℕ) → h < k → k < length ps → index_at ps h < index_at ps k) → i < length ps →
     i ≤ index_at ps i
@@ -99,3 +121,24 @@ place_below ps (suc i) rising l =
 -- a number within the limit of coefficients fits into 64 bits
 pub small_fits : (z : ℤ) → unsigned_abs z ≤ 2 ^ 40 → SFits w64 z
 small_fits z h = omega (arith, ints)
+
+-- one more term at the index of a walk, of a coefficient and a coordinate as they are read
+pub walk_more : (w : Width) (ps : List (ℕ × ℤ)) (x : List ℤ) (i most : ℕ) (total term next : ℤ) → i < length ps →
+    unsigned_abs (value_at ps i) ≤ 2 ^ 40 → SFits w (at x (index_at ps i)) → IsFirstSum ps x i most total →
+    term ≡ to_z w64 (of_z w64 (value_at ps i)) *ℤ to_z w (of_z w (at x (index_at ps i))) → unsigned_abs term ≤ most →
+    next ≡ total +ℤ term → IsFirstSum ps x (i + 1) most next
+walk_more w ps x i most total term next l coefficient coordinate before value small is =
+    let read = rw (
+      to_z-of_z w64 (value_at ps i) (small_fits (value_at ps i) coefficient),
+      to_z-of_z w (at x (index_at ps i)) coordinate,
+    ) at value in
+    first_sum_more ps x i most total term next l before read small is
+
+-- the sum of the terms before an index and the term there is small
+pub walk_small : (n : ℕ) (ps : List (ℕ × ℤ)) (x : List ℤ) (i : ℕ) (total term : ℤ) → AreOrdered n ps → n ≤ 4096 → i < length ps →
+    IsFirstSum ps x i (2 ^ 114) total → unsigned_abs term ≤ 2 ^ 114 → unsigned_abs total + unsigned_abs term ≤ 2 ^ 126
+walk_small n ps x i total term ordered few l before small =
+    let place = place_below ps i ordered.rising l in
+    let within = ordered.within i l in
+    let so = before.small in
+    omega (arith, ints)

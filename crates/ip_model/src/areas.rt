@@ -2,7 +2,9 @@
 ghost use Rattle.std.specs.Prelude.{◌≡◌, ◌<◌, ◌≤◌, ◌^◌, ◌+ℤ◌, ◌≤ℤ◌, ◌↔◌, IfOk, IsTrue, OnOk, length, map, pos};
 ghost use Rattle.std.specs.Int.{int_max};
 ghost use Rattle.std.specs.Int.RustNames.{unsigned_abs};
+ghost use Rattle.std.specs.List.{list_any};
 ghost use Rattle.ip_defs.specs.Boxes.{above, below};
+ghost use Rattle.ip_defs.specs.Certificates.{is_empty_side};
 ghost use Rattle.ip_defs.specs.Limits.{IsWithinLimits};
 ghost use Rattle.ip_defs.specs.Program.{box_of as box_of_parts, high_at, low_at};
 
@@ -45,6 +47,13 @@ pub fn set_box(model: &IntModel, area: &mut Area)
     ensures limits { IsWithinLimits model.now }
 {
     set_sides(model.parts().columns.as_slice(), area);
+}
+
+/// Whether a column of a box is empty: it has no integer between its bounds.
+pub fn has_empty_column(area: &[(i64, i64)]) -> bool
+    ensures { result ≡ list_any is_empty_side area.now }
+{
+    area.iter().any(|side| side.1 < side.0)
 }
 
 /// Lowers the upper bound of column `j` to a cut. The answer says whether the column still has an integer between its bounds.

@@ -77,9 +77,8 @@ fn first_column(parts: &Parts, point: &[i64]) -> Option<Breach>
     ensures { result ≡ first (column_breach (box_of parts.now) point.now) (length parts.now.columns) }
 {
     for (j, column) in parts.columns.as_slice().iter().enumerate() {
-        match breach_of_column(column, j as u32, point[j]) {
-            Some(breach) => return Some(breach),
-            None => {}
+        if let Some(breach) = breach_of_column(column, j as u32, point[j]) {
+            return Some(breach);
         }
     }
     None
@@ -92,9 +91,8 @@ fn first_row(parts: &Parts, point: &[i64]) -> Option<Breach>
     ensures { result ≡ first (λ i. row_breach point.now i (slice_get parts.now.rows i)) (length parts.now.rows) }
 {
     for (i, row) in parts.rows.as_slice().iter().enumerate() {
-        match breach_of_row(row, i as u32, point) {
-            Some(breach) => return Some(breach),
-            None => {}
+        if let Some(breach) = breach_of_row(row, i as u32, point) {
+            return Some(breach);
         }
     }
     None

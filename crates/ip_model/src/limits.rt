@@ -137,7 +137,7 @@ fn first_of_rows(rows: &[Row]) -> Option<Limit>
 }
 
 /// Whether the rows have more coefficients than the limit.
-fn has_many_entries(rows: &[Row]) -> bool
+pub fn has_many_entries(rows: &[Row]) -> bool
     ensures { result ≡ nat_lt 200000 (sum_by (λ r. length r.coefs) rows.now) }
 {
     let mut left = MOST_ENTRIES;

@@ -1,5 +1,5 @@
-//! The terms of costs and row values in 128 bits, and their sums.
-ghost use Rattle.std.specs.Prelude.{◌≡◌, ◌^◌, ◌≤◌, ◌+ℤ◌, ◌*ℤ◌};
+//! Arithmetic of 128 bits that is exact: the terms of costs and row values, sums, differences and products.
+ghost use Rattle.std.specs.Prelude.{◌≡◌, ◌^◌, ◌≤◌, ◌+ℤ◌, ◌-ℤ◌, ◌*ℤ◌};
 ghost use Rattle.std.specs.Int.{w128};
 ghost use Rattle.std.specs.Int.RustNames.{FitsSigned, unsigned_abs};
 
@@ -21,4 +21,22 @@ pub fn total_of(a: i128, b: i128) -> i128
     ensures { result ≡ a +ℤ b }
 {
     a + b
+}
+
+/// A difference that fits into 128 bits.
+#[inline]
+pub fn difference(a: i128, b: i128) -> i128
+    requires { FitsSigned w128 (a -ℤ b) }
+    ensures { result ≡ a -ℤ b }
+{
+    a - b
+}
+
+/// A product that fits into 128 bits.
+#[inline]
+pub fn product(a: i128, b: i128) -> i128
+    requires { FitsSigned w128 (a *ℤ b) }
+    ensures { result ≡ a *ℤ b }
+{
+    a * b
 }

@@ -1,11 +1,6 @@
-use Rattle.std.proofs.Common.{◌≡◌, ◌≤◌, ◌*◌, ◌^◌, ◌*ℤ◌, take}
-use Rattle.std.specs.Int.RustNames.{unsigned_abs}
-use Rattle.ip_defs.specs.Sums.{sum_over}
-use Rattle.ip_defs.specs.Program.{at}
+use Rattle.std.proofs.Common.{◌^◌}
+use Rattle.ip_model.proofs.WalkLaws.{IsFirstSum}
 use Rattle.ip_model.proofs.breaches.row_value.Given as goal
 
 abbrev pub invariant-loop-column : goal.invariant-loop-column
-invariant-loop-column l = record {
-  sum : l.total ≡ sum_over (λ p. p.1 *ℤ at l.point p.0) (take l.column-index l.coefs);
-  small : unsigned_abs l.total ≤ l.column-index * 2 ^ 103;
-}
+invariant-loop-column l = IsFirstSum l.coefs l.point l.column-index (2 ^ 114) l.total

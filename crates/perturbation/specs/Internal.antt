@@ -1,0 +1,3 @@
+-- Definitions for the contracts of private functions and for proofs of this crate alone.
+pub mod Coefs
+pub mod Places

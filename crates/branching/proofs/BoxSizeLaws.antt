@@ -18,7 +18,7 @@ use Rattle.ip_defs.proofs.BoxLaws as Boxes
 use Rattle.ip_model.specs.Sizes.{width_sum}
 use Rattle.branching.specs.Sizes.{count, side_points, point_count}
 use Rattle.proof_tree.specs.LabelledTrees.{split_at}
-use Rattle.branching.specs.Splits.{IsProper}
+use Rattle.node_bounds.specs.Splits.{IsProper}
 use Rattle.ip_defs.proofs.OrderLaws.{less_false}
 
 count_is : (z : ℤ) → pos 0 ≤ℤ z → pos (count z) ≡ z

@@ -12,12 +12,13 @@ use Rattle.proof_tree.proofs.LabelledTreeLaws.{places_counted, labels_counted, s
 use Rattle.branching.specs.declared.budgets.Limits.{Limits}
 use Rattle.branching.specs.declared.outcomes.Outcome.{Outcome}
 use Rattle.branching.specs.declared.outcomes.Outcome.TheVariants.{Best, Empty, Budget}
-use Rattle.branching.specs.declared.reasons.Why.{Why}
-use Rattle.branching.specs.declared.reasons.Why.TheVariants.{Fractional, Stopped, Wide}
-use Rattle.branching.specs.Counts.{is_skipped, is_stopped, nodes_of, stopped_in, stopped_of, stops, AreCountsWithin, IsCounted}
-use Rattle.branching.specs.OpenTrees.{PlainOpen, pending, stuck, ended, cert_of, plain_open, IsDone}
+use Rattle.node_bounds.specs.declared.reasons.Why.{Why}
+use Rattle.node_bounds.specs.declared.reasons.Why.TheVariants.{Fractional, Stopped, Wide}
+use Rattle.node_bounds.specs.Stops.{is_skipped, is_stopped, stops}
+use Rattle.branching.specs.Counts.{nodes_of, stopped_in, stopped_of, AreCountsWithin, IsCounted}
+use Rattle.open_nodes.specs.OpenTrees.{PlainOpen, pending, stuck, ended, cert_of, plain_open, IsDone}
 use Rattle.branching.specs.Outcomes.{Pairwise, IsFinished, IsRightOutcome}
-use Rattle.branching.specs.Reasons.{IsReasoned}
+use Rattle.node_bounds.specs.Reasons.{IsReasoned}
 use Rattle.branching.specs.Internal.Search.{IsAnswerOf}
 
 -- ---- trees

@@ -12,10 +12,11 @@ use Rattle.branching.specs.declared.budgets.Limits.{Limits}
 use Rattle.branching.specs.declared.budgets.BudgetWhat.{BudgetWhat}
 use Rattle.branching.specs.declared.budgets.BudgetWhat.TheVariants.{Nodes, Depth}
 use Rattle.branching.specs.declared.outcomes.Outcome.TheVariants.{Best, Empty, Budget}
-use Rattle.branching.specs.OpenTrees.{PlainOpen, pending, stuck, ended, plain_open, places, stuck_count}
-use Rattle.branching.specs.Outcomes.{SomeOf, HasReason, IsStuckNode, IsStuckAt, IsStopped}
+use Rattle.open_nodes.specs.OpenTrees.{PlainOpen, pending, stuck, ended, plain_open, places, stuck_count}
+use Rattle.branching.specs.Outcomes.{HasReason, IsStuckNode, IsStuckAt, IsStopped}
+use Rattle.open_nodes.specs.OpenTrees.{SomeOf}
 use Rattle.branching.specs.Sizes.{point_count, AreAmple, SearchesEnd}
-use Rattle.branching.specs.Reasons.{IsStuckFor}
+use Rattle.node_bounds.specs.Reasons.{IsStuckFor}
 use Rattle.branching.proofs.OutcomeLaws.{some_of_parts}
 use Rattle.branching.proofs.BoxSizeLaws.{proper_open, points_split, has_point, below_narrower, above_narrower, width_of}
 use Rattle.ip_defs.proofs.ListLaws.{each_left, each_right}

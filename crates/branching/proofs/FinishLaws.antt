@@ -7,21 +7,37 @@ use Rattle.ip_defs.specs.declared.certificates.Bound.TheVariants.{At, Infinite}
 use Rattle.ip_defs.specs.declared.programs.Parts.{Parts}
 use Rattle.ip_defs.specs.Boxes.{below, above}
 use Rattle.ip_defs.specs.Certificates.{leaf_bound}
-use Rattle.ip_defs.specs.Limits.{IsWithinLimits}
+use Rattle.ip_defs.specs.declared.certificates.Cert.{Cert}
+use Rattle.ip_defs.specs.Limits.{IsCert, IsWithinLimits}
 use Rattle.ip_defs.specs.Program.{cost}
 use Rattle.proof_tree.proofs.TreeLaws.{bound_split, bound_min-infinite}
 use Rattle.proof_tree.proofs.LabelledTreeLaws.{deepest_place, relabelled_depth}
-use Rattle.proof_tree.specs.LabelledTrees.{leaf, split, leaf_node, split_node, depth, places_from, splits_over, split_labels, no_label}
+use Rattle.proof_tree.specs.LabelledTrees.{leaf, split, leaf_node, split_node, depth, places_from, splits_over, split_at, split_labels}
+use Rattle.proof_tree.specs.LabelledTrees.{no_label, Split}
+use Rattle.node_bounds.specs.declared.reasons.Why.{Why}
+use Rattle.branching.specs.BestFirst.{BoundsAllAt, IsBestNode}
 use Rattle.proof_tree.specs.Trees.{bound_min, bound_over, FitsColumns, FitsRows, FitsModel}
 use Rattle.proof_tree.specs.Verdicts.{IsAtLeast}
 use Rattle.proof_tree.specs.Within.{AreNumbersWithin}
-use Rattle.branching.specs.OpenTrees.{PlainOpen, pending, stuck, ended, OpenNode, OpenPlace, cert_of, IsDone, tree_of}
+use Rattle.open_nodes.specs.OpenTrees.{PlainOpen, pending, stuck, ended, OpenNode, OpenPlace, cert_of, IsDone, tree_of}
 use Rattle.branching.specs.Outcomes.{Pairwise, HasReason, IsClosedBy, IsClosedNode, FitsNode}
-use Rattle.branching.specs.Reasons.{IsReasoned}
-use Rattle.branching.proofs.LeafLaws.{cert_within}
+use Rattle.node_bounds.specs.Reasons.{IsReasoned}
 use Rattle.branching.proofs.OutcomeLaws.{pair_join}
 use Rattle.ip_defs.proofs.ListLaws.{each_left, each_right}
 use Rattle.ip_defs.specs.Lists.{Each}
+
+-- a certificate for the rows of a program is within the limits of trees
+cert_within : (m : Parts) (c : Cert) → IsWithinLimits m → IsCert (length m.rows) c → IsCert 1024 c
+cert_within m c limits ok = record {
+  not_negative = ok.not_negative;
+  divisor = ok.divisor;
+  ordered = record {
+    rising = ok.ordered.rising;
+    within = λ i p. let row = ok.ordered.within i p in omega (arith, row, limits.row_count);
+    present = ok.ordered.present;
+  };
+  multipliers = ok.multipliers;
+}
 
 pub done_depth : (k d : ℕ) (b : List (ℤ × ℤ)) (t : PlainOpen) → Each (λ p. p.depth ≤ k) (places_from d b t) → d + depth (tree_of t) ≤ k
 done_depth k d b t h = let deep = deepest_place k d b t h in omega (arith, relabelled_depth cert_of no_label t)
@@ -89,20 +105,32 @@ done_closed m x d b (split col cut why left right) done h =
     second in
     subst (IsClosedBy m x) (sym (bound_split m b col cut (tree_of left) (tree_of right))) both
 
+-- what is right of each split node, as a relation of the splits and their reasons
+pub done_pairs : (m : Parts) (N : List (ℤ × ℤ) → OpenNode → Type 0) (R : Split → Why → Type 0)
+    → ((b : List (ℤ × ℤ)) (col : ℕ) (cut : ℤ) (why : Why) → N b (split_node col cut why) → R (split_at b col cut) why)
+    → (d : ℕ) (b : List (ℤ × ℤ)) (t : PlainOpen) → IsDone t → Each (λ p. N p.box p.node) (places_from d b t)
+    → Pairwise R (splits_over b (tree_of t)) (split_labels t)
+done_pairs m N R own d b (leaf pending) done h = absurd done
+done_pairs m N R own d b (leaf (stuck why)) done h = absurd done
+done_pairs m N R own d b (leaf (ended c)) done h = tt
+done_pairs m N R own d b (split col cut why left right) done h =
+    let ps = places_from (d + 1) (below b col cut) left in
+    let qs = places_from (d + 1) (above b col cut) right in
+    let first = done_pairs m N R own (d + 1) (below b col cut) left done.0 (each_left _ ps qs h.1) in
+    let second = done_pairs m N R own (d + 1) (above b col cut) right done.1 (each_right _ ps qs h.1) in
+    let xs = splits_over (below b col cut) (tree_of left) in
+    let ys = splits_over (above b col cut) (tree_of right) in
+    (own b col cut why h.0, pair_join R xs ys (split_labels left) (split_labels right) first second)
+
 pub done_reasons : (m : Parts) (pivots d : ℕ) (b : List (ℤ × ℤ)) (t : PlainOpen) → IsDone t
     → Each (λ p. HasReason m pivots p.box p.node) (places_from d b t)
     → Pairwise (IsReasoned m pivots) (splits_over b (tree_of t)) (split_labels t)
-done_reasons m pivots d b (leaf pending) done h = absurd done
-done_reasons m pivots d b (leaf (stuck why)) done h = absurd done
-done_reasons m pivots d b (leaf (ended c)) done h = tt
-done_reasons m pivots d b (split col cut why left right) done h =
-    let ps = places_from (d + 1) (below b col cut) left in
-    let qs = places_from (d + 1) (above b col cut) right in
-    let first = done_reasons m pivots (d + 1) (below b col cut) left done.0 (each_left _ ps qs h.1) in
-    let second = done_reasons m pivots (d + 1) (above b col cut) right done.1 (each_right _ ps qs h.1) in
-    let xs = splits_over (below b col cut) (tree_of left) in
-    let ys = splits_over (above b col cut) (tree_of right) in
-    (h.0, pair_join (IsReasoned m pivots) xs ys (split_labels left) (split_labels right) first second)
+done_reasons m pivots d b t done h = done_pairs m (HasReason m pivots) (IsReasoned m pivots) (λ b col cut why own. own) d b t done h
+
+-- the bounds of the splits of a search that went best bound first
+pub done_best : (m : Parts) (d : ℕ) (b : List (ℤ × ℤ)) (t : PlainOpen) → IsDone t
+    → Each (λ p. IsBestNode m p.box p.node) (places_from d b t) → Pairwise (BoundsAllAt m) (splits_over b (tree_of t)) (split_labels t)
+done_best m d b t done h = done_pairs m (IsBestNode m) (BoundsAllAt m) (λ b col cut why own. own) d b t done h
 
 -- ---- later points
 
@@ -112,7 +140,7 @@ IsNoWorse m None later = Unit {0}
 IsNoWorse m (Some x) None = ⊥
 IsNoWorse m (Some x) (Some y) = cost m y ≤ℤ cost m x
 
-closed_by_later : (m : Parts) (x y : Option (List ℤ)) (v : Bound) → IsNoWorse m x y → IsClosedBy m x v → IsClosedBy m y v
+pub closed_by_later : (m : Parts) (x y : Option (List ℤ)) (v : Bound) → IsNoWorse m x y → IsClosedBy m x v → IsClosedBy m y v
 closed_by_later m None None v w h = h
 closed_by_later m None (Some y) v w h = subst (λ (u : Bound). IsAtLeast u (cost m y)) (sym h) tt
 closed_by_later m (Some x) None v w h = absurd w

@@ -7,11 +7,8 @@ pub mod TreeSizeLaws
 pub mod EndLaws
 pub mod FinishLaws
 pub mod SearchLaws
-pub mod HalvingLaws
-pub mod LeafLaws
-pub mod RowLaws
-pub mod WholeLaws
-pub mod PointLaws
-pub mod BoundedLaws
-pub mod PriceLaws
-pub mod StepLaws
+pub mod VisitLaws
+pub mod GrowthLaws
+pub mod RoundLaws
+pub mod GrownLaws
+pub mod LoopLaws

@@ -13,13 +13,14 @@ use Rattle.proof_tree.specs.Trees.{tree_bound, tree_limit}
 use Rattle.branching.specs.declared.budgets.Limits.{Limits}
 use Rattle.branching.specs.declared.budgets.BudgetWhat.{BudgetWhat}
 use Rattle.branching.specs.declared.outcomes.Outcome.TheVariants.{Budget}
-use Rattle.branching.specs.declared.open_trees.OpenTree.{Pending}
-use Rattle.branching.specs.declared.reasons.Why.TheVariants.{Stopped}
-use Rattle.branching.specs.OpenTrees.{PlainOpen, ended, places, tree_of, plain_cert}
+use Rattle.open_nodes.specs.declared.open_trees.OpenTree.{Pending}
+use Rattle.node_bounds.specs.declared.reasons.Why.TheVariants.{Stopped}
+use Rattle.open_nodes.specs.OpenTrees.{PlainOpen, ended, places, tree_of}
+use Rattle.node_bounds.specs.Certificates.{plain_cert}
 use Rattle.branching.specs.Outcomes.{IsRightOutcome}
-use Rattle.branching.specs.Internal.Search.{ray_on}
+use Rattle.node_bounds.specs.Internal.Leaves.{ray_on}
 use Rattle.branching.specs.Sizes.{point_count, most_nodes}
-use Rattle.branching.specs.Splits.{IsWidest, middle, width_at}
+use Rattle.node_bounds.specs.Splits.{IsWidest, middle, width_at}
 
 -- least -x with 2x = 1, over x from 0 to a number
 abbrev odd : ℤ → Parts

@@ -16,10 +16,11 @@ use Rattle.proof_tree.specs.declared.claims.Claim.TheVariants as Claims
 use Rattle.proof_tree.specs.declared.claims.Proof.{Proof}
 use Rattle.branching.specs.declared.budgets.Limits.{Limits}
 use Rattle.branching.specs.declared.outcomes.Outcome.TheVariants.{Best, Empty, Budget}
-use Rattle.branching.specs.declared.reasons.Why.{Why}
-use Rattle.branching.specs.Outcomes.{SomeOf, Pairwise, ClaimsPoint, ClaimsLeast, IsFinished, OutcomesAreTrue}
-use Rattle.branching.specs.Reasons.{IsReasoned}
-use Rattle.branching.specs.Splits.{IsProper}
+use Rattle.node_bounds.specs.declared.reasons.Why.{Why}
+use Rattle.branching.specs.Outcomes.{Pairwise, ClaimsPoint, ClaimsLeast, IsFinished, OutcomesAreTrue}
+use Rattle.open_nodes.specs.OpenTrees.{SomeOf}
+use Rattle.node_bounds.specs.Reasons.{IsReasoned}
+use Rattle.node_bounds.specs.Splits.{IsProper}
 use Rattle.ip_defs.proofs.ListLaws.{each_left, each_right}
 use Rattle.ip_defs.specs.Lists.{Each}
 

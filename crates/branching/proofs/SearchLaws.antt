@@ -1,15 +1,13 @@
--- Halves of a search make the whole, and the whole is a right outcome.
-use Rattle.std.specs.Prelude.{◌≡◌, ℕ, suc, ◌+◌, ◌*◌, ◌≤◌, ◌<◌, ◌==◌, Bool, true, false, ℤ, pos, ◌+ℤ◌, ◌≤ℤ◌, List, [], ◌∷◌, length, Option}
-use Rattle.std.specs.Prelude.{Some, None, IfSome, IsSome}
-use Rattle.std.proofs.Math.Nat.{add-mul}
+-- The box of a half is one that a search may come to, and the tree of a search that ended is a right outcome.
+use Rattle.std.specs.Prelude.{◌≡◌, ℕ, ◌≤◌, ◌<◌, ◌==◌, Bool, true, false, ℤ, pos, ◌+ℤ◌, ◌≤ℤ◌, List, [], ◌∷◌, length, Option}
+use Rattle.std.specs.Prelude.{Some, None, IfSome}
 use Rattle.std.specs.Int.{int_min, int_max}
-use Rattle.std.specs.Option.{is_some}
 use Rattle.std.proofs.Common.{refl, arith, inl, inr, subst, sym, ap, ◌∙◌, set, length-set}
 use Rattle.std.proofs.lemmas.Bool.{eqb-true, eqb-false}
 use Rattle.std.proofs.lemmas.Grind.{get_or-set_at}
 use Rattle.std.proofs.lemmas.Int.{ints, clamps}
 use Rattle.std.proofs.lemmas.List.{get_or-set_other}
-use Rattle.std.proofs.lemmas.List.{length-append, length-map}
+use Rattle.std.proofs.lemmas.List.{length-map}
 use Rattle.ip_defs.specs.declared.programs.Column.{Column}
 use Rattle.ip_defs.specs.declared.programs.Parts.{Parts}
 use Rattle.ip_defs.specs.Boxes.{below, above}
@@ -18,7 +16,7 @@ use Rattle.ip_defs.specs.Program.{box_of, high_at, low_at, IsFeasible}
 use Rattle.ip_defs.proofs.BoxLaws.{below_area, above_area}
 use Rattle.proof_tree.proofs.WithinLaws.{limits_are_exact}
 use Rattle.proof_tree.proofs.LabelledTreeLaws.{places_counted, relabelled_count}
-use Rattle.proof_tree.specs.LabelledTrees.{leaf, split, places_from, node_count, depth, splits_over, split_labels, no_label}
+use Rattle.proof_tree.specs.LabelledTrees.{places_from, node_count, depth, splits_over, split_labels, no_label}
 use Rattle.proof_tree.specs.Trees.{PlainTree, plain, bound_over, tree_limit, FitsModel}
 use Rattle.proof_tree.specs.Verdicts.{AreProvedBy, HasLength}
 use Rattle.proof_tree.specs.Within.{IsTreeWithin}
@@ -29,18 +27,20 @@ use Rattle.branching.specs.declared.budgets.BudgetWhat.{BudgetWhat}
 use Rattle.branching.specs.declared.budgets.BudgetWhat.TheVariants.{Nodes, Depth}
 use Rattle.branching.specs.declared.outcomes.Outcome.{Outcome}
 use Rattle.branching.specs.declared.outcomes.Outcome.TheVariants.{Best, Empty, Budget}
-use Rattle.branching.specs.declared.reasons.Why.{Why}
-use Rattle.branching.specs.OpenTrees.{PlainOpen, pending, stuck, ended, OpenPlace, places, cert_of, IsDone, tree_of}
-use Rattle.branching.specs.Outcomes.{HasOneStuck, SomeOf, Pairwise, ClaimsPoint, IsFinished, IsRightOutcome, IsStopped, IsStuckNode}
+use Rattle.node_bounds.specs.declared.reasons.Why.{Why}
+use Rattle.open_nodes.specs.OpenTrees.{PlainOpen, OpenPlace, places, cert_of, IsDone, tree_of}
+use Rattle.branching.specs.Outcomes.{HasOneStuck, Pairwise, ClaimsPoint, IsFinished, IsRightOutcome, IsStopped, IsStuckNode}
+use Rattle.open_nodes.specs.OpenTrees.{SomeOf}
 use Rattle.branching.specs.Outcomes.{IsStuckAt}
-use Rattle.branching.specs.Internal.Search.{Found, point_of, IsSound, Improves, IsAnswerOf, IsPartOf, IsSearchArea, IsSplit, ArePlacesOf}
-use Rattle.branching.specs.Internal.Search.{EndsBy, IsGrown}
-use Rattle.branching.specs.Counts.{IsCounted}
-use Rattle.branching.specs.Reasons.{IsReasoned}
+use Rattle.branching.specs.Internal.Search.{Found, point_of, IsSound, Improves, IsAnswerOf}
+use Rattle.node_bounds.specs.Areas.{IsPartOf, IsSearchArea}
+use Rattle.node_bounds.specs.Nodes.{IsSplit}
+use Rattle.branching.specs.Internal.Search.{IsGrown}
+use Rattle.node_bounds.specs.Reasons.{IsReasoned}
 use Rattle.branching.proofs.BoxSizeLaws.{cut_low, cut_high}
-use Rattle.branching.proofs.OutcomeLaws.{some_left, some_right}
-use Rattle.branching.proofs.FinishLaws.{IsNoWorse, closed_stays, done_closed, done_depth, done_fits, done_numbers, done_reasons}
-use Rattle.ip_defs.proofs.ListLaws.{each_append}
+use Rattle.branching.proofs.FinishLaws.{IsNoWorse, done_closed, done_depth, done_fits, done_numbers, done_reasons}
+use Rattle.branching.proofs.FinishLaws.{done_best}
+use Rattle.branching.specs.BestFirst.{IsBestFirst, IsBestNode}
 use Rattle.ip_defs.specs.Lists.{Each}
 
 -- what was found, as points
@@ -49,83 +49,9 @@ no_worse m None y p q h = tt
 no_worse m (Some x) None p q h = absurd h
 no_worse m (Some x) (Some y) p q h = rw (p.1, q.1) h
 
-pub improves_on : (x y z : Found) → Improves x y → Improves y z → Improves x z
-improves_on None y z p q = tt
-improves_on (Some x) None z p q = absurd p
-improves_on (Some x) (Some y) None p q = absurd q
-improves_on (Some x) (Some y) (Some z) p q = omega (arith, ints)
-
--- ---- the nodes of two halves
-
-pub halves_places : (m : Parts) (l : Limits) (d : ℕ) (b : List (ℤ × ℤ)) (col : ℕ) (cut : ℤ) (why : Why) (left right : PlainOpen)
-    (before mid after : ℕ) (x y : Found) → d ≤ l.depth → IsSplit m l.pivots b col cut why
-    → ArePlacesOf m l (places_from (d + 1) (below b col cut) left) (before + 2) mid x
-    → ArePlacesOf m l (places_from (d + 1) (above b col cut) right) mid after y → IsNoWorse m (point_of x) (point_of y)
-    → ArePlacesOf m l (places_from d b (split col cut why left right)) before after y
-halves_places m l d b col cut why left right before mid after x y deep halved first second better =
-    let ps = places_from (d + 1) (below b col cut) left in
-    let qs = places_from (d + 1) (above b col cut) right in
-    let sum = length-append ps qs in
-    record {
-      reasons = (halved.reasoned, each_append _ ps qs first.reasons second.reasons);
-      deep = (deep, each_append _ ps qs first.deep second.deep);
-      closed = (tt, each_append _ ps qs (closed_stays m (point_of x) (point_of y) ps better first.closed) second.closed);
-      fits = ((halved.column, halved.cut_small), each_append _ ps qs first.fits second.fits);
-      count = (let p = first.count in let q = second.count in omega arith);
-      room = second.room;
-    }
-
--- a half that was left pending
-pub pending_places : (m : Parts) (l : Limits) (d : ℕ) (b : List (ℤ × ℤ)) (count : ℕ) (x : Found) → d ≤ l.depth → count ≤ l.nodes
-    → ArePlacesOf m l (places_from d b (leaf pending)) count count x
-pending_places m l d b count x deep room' =
-    record { reasons = (tt, tt); deep = (deep, tt); closed = (tt, tt); fits = (tt, tt); count = omega arith; room = room' }
-
--- ---- how two halves end
-
--- a subtree without open nodes has no stuck node
-none_stuck : (D d : ℕ) (b : List (ℤ × ℤ)) (t : PlainOpen) → IsDone t → Each (λ p. IsStuckAt D p → ⊥) (places_from d b t)
-none_stuck D d b (leaf pending) done = absurd done
-none_stuck D d b (leaf (stuck why)) done = absurd done
-none_stuck D d b (leaf (ended c)) done = ((λ s. absurd s.0), tt)
-none_stuck D d b (split col cut why left right) done = (
-  (λ s. absurd s.0),
-  each_append _ (places_from (d + 1) (below b col cut) left) (places_from (d + 1) (above b col cut) right)
-      (none_stuck D (d + 1) (below b col cut) left done.0) (none_stuck D (d + 1) (above b col cut) right done.1),
-)
-
--- after a first half without open nodes the second half decides
-pub halves_end : (l : Limits) (d : ℕ) (b : List (ℤ × ℤ)) (col : ℕ) (cut : ℤ) (why : Why) (left right : PlainOpen) (after : ℕ)
-    (stop : Option BudgetWhat) → IsDone left → EndsBy l after right (places_from (d + 1) (above b col cut) right) stop
-    → EndsBy l after (split col cut why left right) (places_from d b (split col cut why left right)) stop
-halves_end l d b col cut why left right after None done e = (done, e)
-halves_end l d b col cut why left right after (Some Depth) done e =
-    inr (some_right _ (places_from (d + 1) (below b col cut) left) (places_from (d + 1) (above b col cut) right) e)
-halves_end l d b col cut why left right after (Some Nodes) done e = (
-  inr (some_right _ (places_from (d + 1) (below b col cut) left) (places_from (d + 1) (above b col cut) right) e.0),
-  (
-    (λ s. absurd s.0),
-    each_append _ (places_from (d + 1) (below b col cut) left) (places_from (d + 1) (above b col cut) right)
-        (none_stuck l.depth (d + 1) (below b col cut) left done) e.1,
-  ),
-  e.2,
-)
-
--- a search that stopped in the first half leaves the second one pending
-pub first_half_ends : (l : Limits) (d : ℕ) (b : List (ℤ × ℤ)) (col : ℕ) (cut : ℤ) (why : Why) (left : PlainOpen) (after : ℕ)
-    (what : BudgetWhat) → EndsBy l after left (places_from (d + 1) (below b col cut) left) (Some what)
-    → EndsBy l after (split col cut why left (leaf pending)) (places_from d b (split col cut why left (leaf pending))) (Some what)
-first_half_ends l d b col cut why left after Depth e =
-    inr (some_left _ (places_from (d + 1) (below b col cut) left) (places_from (d + 1) (above b col cut) (leaf pending)) e)
-first_half_ends l d b col cut why left after Nodes e = (
-  inr (some_left _ (places_from (d + 1) (below b col cut) left) (places_from (d + 1) (above b col cut) (leaf pending)) e.0),
-  (
-    (λ s. absurd s.0),
-    each_append _ (places_from (d + 1) (below b col cut) left) (places_from (d + 1) (above b col cut) (leaf pending)) e.1
-        ((λ s. absurd s.0), tt),
-  ),
-  e.2,
-)
+pub no_worse_self : (m : Parts) (x : Option (List ℤ)) → IsNoWorse m x x
+no_worse_self m None = tt
+no_worse_self m (Some x) = omega (arith, ints)
 
 -- ---- the box of a half
 
@@ -168,53 +94,6 @@ above_search m pivots b j z why halved so =
       area = above_area (length m.columns) b j z proper.col from to' so.area;
       part = part_cut b (box_of m) j (int_max (low_at b j) (z +ℤ pos 1)) (high_at b j) proper.col (omega (arith, ints, clamps))
           (omega (arith, ints)) so.part;
-    }
-
--- ---- subtrees
-
--- both halves were grown
-pub halves_grown : (m : Parts) (l : Limits) (d : ℕ) (b : List (ℤ × ℤ)) (col : ℕ) (cut : ℤ) (why : Why) (before mid after : ℕ)
-    (x y z : Found) (left right : PlainOpen) (stop : Option BudgetWhat) → d ≤ l.depth → IsSplit m l.pivots b col cut why
-    → IsGrown m l (d + 1) (below b col cut) (before + 2) mid x y left None → IsGrown m l (d + 1) (above b col cut) mid after y z right stop
-    → IsGrown m l d b before after x z (split col cut why left right) stop
-halves_grown m l d b col cut why before mid after x y z left right stop deep halved first second =
-    record {
-      places = halves_places m l d b col cut why left right before mid after y z deep halved first.places second.places
-          (no_worse m y z first.sound second.sound second.improves);
-      ends = halves_end l d b col cut why left right after stop first.ends second.ends;
-      stuck = (let p = first.stuck in let q = second.stuck in omega arith);
-      sound = second.sound;
-      improves = improves_on x y z first.improves second.improves;
-    }
-
-no_worse_self : (m : Parts) (x : Option (List ℤ)) → IsNoWorse m x x
-no_worse_self m None = tt
-no_worse_self m (Some x) = omega (arith, ints)
-
-pub no_stop : (stop : Option BudgetWhat) → false ≡ is_some stop → stop ≡ None
-no_stop None e = refl
-no_stop (Some what) e = absurd cc
-
--- what was found before is no better
-pub grown_from : (m : Parts) (l : Limits) (d : ℕ) (b : List (ℤ × ℤ)) (before after : ℕ) (e x y : Found) (t : PlainOpen)
-    (stop : Option BudgetWhat) → Improves e x → IsGrown m l d b before after x y t stop → IsGrown m l d b before after e y t stop
-grown_from m l d b before after e x y t stop better g =
-    record { places = g.places; ends = g.ends; stuck = g.stuck; sound = g.sound; improves = improves_on e x y better g.improves }
-
--- the search stopped in the first half
-pub first_grown : (m : Parts) (l : Limits) (d : ℕ) (b : List (ℤ × ℤ)) (col : ℕ) (cut : ℤ) (why : Why) (before after : ℕ) (x y : Found)
-    (left : PlainOpen) (stop : Option BudgetWhat) → d < l.depth → IsSome stop → IsSplit m l.pivots b col cut why
-    → IsGrown m l (d + 1) (below b col cut) (before + 2) after x y left stop
-    → IsGrown m l d b before after x y (split col cut why left (leaf pending)) stop
-first_grown m l d b col cut why before after x y left None deep some halved first = absurd cc
-first_grown m l d b col cut why before after x y left (Some what) deep some halved first =
-    record {
-      places = halves_places m l d b col cut why left (leaf pending) before after after y y (omega arith) halved first.places
-          (pending_places m l (d + 1) (above b col cut) after y (omega arith) first.places.room) (no_worse_self m (point_of y));
-      ends = first_half_ends l d b col cut why left after what first.ends;
-      stuck = (let p = first.stuck in omega arith);
-      sound = first.sound;
-      improves = first.improves;
     }
 
 -- ---- the whole search
@@ -307,26 +186,12 @@ answer_has_none t best (Empty p whys) made = tt
 answer_has_none t None (Budget what grown b) made = absurd made
 answer_has_none t (Some x) (Budget what grown b) made = absurd made
 
--- ---- steps
-
--- both halves were grown: the steps of the node and of its halves
-pub halves_counted : (l : Limits) (t left right nodes other before mid far after : ℕ) → before + t * l.pivots ≤ mid
-    → mid ≤ before + l.pivots → IsCounted l left nodes mid far → IsCounted l right other far after
-    → IsCounted l (t + (left + right)) (suc (nodes + other)) before after
-halves_counted l t left right nodes other before mid far after least most first second =
-    let p = first.least in
-    let q = second.least in
-    let r = first.most in
-    let s = second.most in
-    record {
-      least = omega (arith, add-mul t (left + right) l.pivots, add-mul left right l.pivots);
-      most = omega (arith, add-mul nodes other l.pivots);
-    }
-
--- the search stopped in the first half, and visited nothing of the second
-pub first_half_counted : (l : Limits) (t left nodes before mid after : ℕ) → before + t * l.pivots ≤ mid → mid ≤ before + l.pivots
-    → IsCounted l left nodes mid after → IsCounted l (t + (left + 0)) (suc (nodes + 1)) before after
-first_half_counted l t left nodes before mid after least most first =
-    let p = first.least in
-    let r = first.most in
-    record { least = omega (arith, add-mul t left l.pivots); most = omega (arith, add-mul nodes 1 l.pivots) }
+-- an answer by a tree whose splits bound all went best bound first
+pub answer_first : (m : Parts) (t : PlainOpen) (best : Option (List ℤ)) (o : Outcome) → IsDone t
+    → Each (λ p. IsBestNode m p.box p.node) (places m t) → IsAnswerOf t best o → IsBestFirst m o
+answer_first m t None (Empty p whys) done h made = rw (made.tree_is, made.reasons_are) (done_best m 0 (box_of m) t done h)
+answer_first m t (Some x) (Best p whys) done h made = rw (made.tree_is, made.reasons_are) (done_best m 0 (box_of m) t done h)
+answer_first m t None (Best p whys) done h made = absurd made
+answer_first m t None (Budget what grown b) done h made = absurd made
+answer_first m t (Some x) (Empty p whys) done h made = absurd made
+answer_first m t (Some x) (Budget what grown b) done h made = absurd made

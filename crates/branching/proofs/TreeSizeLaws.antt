@@ -10,7 +10,7 @@ use Rattle.proof_tree.proofs.LabelledTreeLaws.{leaves_counted}
 use Rattle.proof_tree.specs.LabelledTrees.{leaf, split, node_count, depth, leaves, splits_over}
 use Rattle.proof_tree.specs.Trees.{PlainTree}
 use Rattle.branching.specs.Sizes.{point_count, most_nodes, TreesAreSmall}
-use Rattle.branching.specs.Splits.{IsProper}
+use Rattle.node_bounds.specs.Splits.{IsProper}
 use Rattle.branching.proofs.BoxSizeLaws.{proper_open, points_split, has_point, below_narrower, above_narrower, width_of}
 use Rattle.ip_defs.proofs.ListLaws.{each_left, each_right}
 use Rattle.ip_defs.specs.Lists.{Each}

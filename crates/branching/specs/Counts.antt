@@ -1,26 +1,13 @@
 -- How many nodes the tree of an outcome has, and how many of its splits were made without the answer of a linear program.
-use Rattle.std.specs.Prelude.{ℕ, ◌+◌, ◌*◌, ◌≤◌, if◌then◌else◌, Bool, true, false}
+use Rattle.std.specs.Prelude.{ℕ, ◌+◌, ◌*◌, ◌≤◌}
 use Rattle.std.specs.List.{count_by}
 use Rattle.proof_tree.specs.LabelledTrees.{leaf, split, node_count, split_labels}
 use Rattle.proof_tree.specs.Trees.{plain}
 use Rattle.branching.specs.declared.budgets.Limits.{Limits}
 use Rattle.branching.specs.declared.outcomes.Outcome.{Outcome}
 use Rattle.branching.specs.declared.outcomes.Outcome.TheVariants.{Best, Empty, Budget}
-use Rattle.branching.specs.declared.reasons.Why.{Why}
-use Rattle.branching.specs.declared.reasons.Why.TheVariants.{Fractional, Stopped, Wide}
-use Rattle.branching.specs.OpenTrees.{PlainOpen, stuck, plain_open}
-
--- a split for this reason went without the answer of a linear program
-abbrev pub is_skipped : Why → Bool
-is_skipped (Fractional x c) = false
-is_skipped Stopped = true
-is_skipped Wide = true
-
--- the linear program of the node was stopped
-abbrev pub is_stopped : Why → Bool
-is_stopped (Fractional x c) = false
-is_stopped Stopped = true
-is_stopped Wide = false
+use Rattle.node_bounds.specs.Stops.{is_skipped, is_stopped, stops}
+use Rattle.open_nodes.specs.OpenTrees.{PlainOpen, stuck, plain_open}
 
 -- how many nodes the tree of an outcome has
 abbrev pub nodes_of : Outcome → ℕ
@@ -40,9 +27,6 @@ pub record AreCountsWithin (l : Limits) (o : Outcome) : Type 0 where
   pub skipped : skipped_of o ≤ l.nodes
 
 -- how many nodes of a tree are split, or stuck, since their linear program was stopped
-abbrev pub stops : Why → ℕ
-stops why = if is_stopped why then 1 else 0
-
 abbrev pub stopped_in : PlainOpen → ℕ
 stopped_in (leaf (stuck why)) = stops why
 stopped_in (leaf e) = 0

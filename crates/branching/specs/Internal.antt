@@ -1,3 +1,3 @@
 -- What only the contracts of private functions and the proofs of this crate speak of.
-pub mod Relaxed
 pub mod Search
+pub mod Growth

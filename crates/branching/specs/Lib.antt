@@ -1,7 +1,5 @@
 pub mod Counts
-pub mod OpenTrees
+pub mod BestFirst
 pub mod Outcomes
-pub mod Reasons
 pub mod Sizes
-pub mod Splits
 pub mod Internal

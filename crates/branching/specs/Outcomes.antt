@@ -1,5 +1,5 @@
 -- Right outcomes of a search: proofs that are proved, and stops that have their cause.
-use Rattle.std.specs.Prelude.{◌≡◌, ◌⊎◌, ℕ, ◌+◌, ◌^◌, ◌<◌, ◌≤◌, List, [], ◌∷◌, length, Option, Some, None, IfSome, ℤ}
+use Rattle.std.specs.Prelude.{◌≡◌, ℕ, ◌+◌, ◌^◌, ◌<◌, ◌≤◌, List, [], ◌∷◌, length, Option, Some, None, IfSome, ℤ}
 use Rattle.std.specs.Int.RustNames.{unsigned_abs}
 use Rattle.ip_defs.specs.declared.certificates.Bound.{Bound}
 use Rattle.ip_defs.specs.declared.certificates.Bound.TheVariants.{Infinite}
@@ -18,15 +18,10 @@ use Rattle.branching.specs.declared.budgets.BudgetWhat.{BudgetWhat}
 use Rattle.branching.specs.declared.budgets.BudgetWhat.TheVariants.{Nodes, Depth}
 use Rattle.branching.specs.declared.outcomes.Outcome.{Outcome}
 use Rattle.branching.specs.declared.outcomes.Outcome.TheVariants.{Best, Empty, Budget}
-use Rattle.branching.specs.declared.reasons.Why.{Why}
-use Rattle.branching.specs.OpenTrees.{stuck, ended, OpenNode, OpenPlace, places, plain_open, stuck_count}
-use Rattle.branching.specs.Reasons.{IsReasoned, IsStuckFor}
+use Rattle.node_bounds.specs.declared.reasons.Why.{Why}
+use Rattle.open_nodes.specs.OpenTrees.{stuck, ended, OpenNode, OpenPlace, SomeOf, places, plain_open, stuck_count}
+use Rattle.node_bounds.specs.Reasons.{IsReasoned, IsStuckFor}
 use Rattle.ip_defs.specs.Lists.{Each}
-
--- some element of a list is so
-abbrev pub SomeOf : {A : Type 0} → (A → Type 0) → List A → Type 0
-SomeOf P [] = ⊥
-SomeOf P (x ∷ xs) = P x ⊎ SomeOf P xs
 
 -- two lists of the same length, whose elements agree pair by pair
 abbrev pub Pairwise : {A B : Type 0} → (A → B → Type 0) → List A → List B → Type 0

@@ -9,7 +9,7 @@ use Rattle.branching.specs.declared.budgets.Limits.{Limits}
 use Rattle.branching.specs.declared.outcomes.Outcome.{Outcome}
 use Rattle.branching.specs.declared.outcomes.Outcome.TheVariants.{Best, Empty, Budget}
 use Rattle.branching.specs.Outcomes.{IsRightOutcome}
-use Rattle.branching.specs.Splits.{IsProper}
+use Rattle.node_bounds.specs.Splits.{IsProper}
 use Rattle.ip_defs.specs.Lists.{Each}
 
 -- a number that is not negative, and 0 for a negative one

@@ -3,8 +3,9 @@ ghost use Rattle.std.specs.Prelude.{◌≡◌, ◌≤◌};
 ghost use Rattle.std.specs.List.{count_by};
 ghost use Rattle.proof_tree.specs.LabelledTrees.{node_count as nodes_in, split_labels};
 ghost use Rattle.proof_tree.specs.Trees.{plain};
-ghost use Rattle.branching.specs.Counts.{is_skipped as is_skipped_reason, nodes_of, skipped_of};
-ghost use Rattle.branching.specs.OpenTrees.{plain_open};
+ghost use Rattle.node_bounds.specs.Stops.{is_skipped as is_skipped_reason};
+ghost use Rattle.branching.specs.Counts.{nodes_of, skipped_of};
+ghost use Rattle.open_nodes.specs.OpenTrees.{plain_open};
 
 use crate::{OpenTree, Outcome, Why};
 use proof_tree::Tree;

@@ -2,7 +2,7 @@
 ghost use Rattle.std.specs.Prelude.{◌≡◌, ◌++◌, IfOk, OnOk};
 ghost use Rattle.proof_tree.specs.LabelledTrees.{split_labels};
 ghost use Rattle.proof_tree.specs.Trees.{plain};
-ghost use Rattle.branching.specs.OpenTrees.{IsDone, plain_open, tree_of};
+ghost use Rattle.open_nodes.specs.OpenTrees.{IsDone, plain_open, tree_of};
 
 use crate::{OpenTree, Whys};
 use ip_defs::Memory;

@@ -1,5 +1,5 @@
 use Rattle.proof_tree.specs.LabelledTrees.{node_count}
-use Rattle.branching.specs.OpenTrees.{plain_open}
+use Rattle.open_nodes.specs.OpenTrees.{plain_open}
 use Rattle.branching.proofs.counts.+open_skips.Given as goal
 
 abbrev pub decreases-open_skips : goal.decreases-open_skips

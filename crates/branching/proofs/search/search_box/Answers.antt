@@ -1,61 +1,104 @@
-use Rattle.std.proofs.Common.{arith, rules}
 use Rattle.std.proofs.lemmas.Result.{IfOk-weaker}
-use Rattle.branching.specs.Outcomes.{HasOneStuck, IsRightOutcome}
+use Rattle.open_nodes.specs.OpenTrees.{plain_open}
+use Rattle.branching.specs.BestFirst.{IsBestFirst}
 use Rattle.branching.specs.Counts.{nodes_of, stopped_of, IsCounted}
-use Rattle.branching.specs.OpenTrees.{plain_open}
+use Rattle.branching.specs.Outcomes.{HasOneStuck, IsRightOutcome}
 use Rattle.branching.specs.Internal.Search.{IsAnswerOf, point_of}
-use Rattle.branching.proofs.CountLaws.{answer_counted}
-use Rattle.branching.proofs.SearchLaws.{answer_has_none, end_is_right, stop_is_right}
-use Rattle.branching.proofs.LeafLaws.{whole_area}
+use Rattle.branching.proofs.LoopLaws.{ended_counted, ended_done, ended_first, ended_ready, ended_right}
+use Rattle.branching.proofs.LoopLaws.{stopped_counted, stopped_first, stopped_once, stopped_right}
+use Rattle.branching.proofs.SearchLaws.{answer_has_none}
 use Rattle.branching.proofs.search.search_box.Goals as goal
 
-pub grow-requires : goal.grow-requires
-grow-requires g c =
+pub grow-requires-clause-growing : goal.grow-requires-clause-growing
+grow-requires-clause-growing g c =
+    let begun = c.args.steps.now in
+    (begun, c.in_ok-search.ensures.growing c.args.limits c.requires.nodes begun)
+
+pub assemble-requires : goal.assemble-requires
+assemble-requires g c =
+    let begun = c.args.steps.now in
+    let ended = c.in_ok-stop.ensures.ended begun (c.in_ok-search.ensures.growing c.args.limits c.requires.nodes begun) in
     record {
-      node = record {
-        limits = c.in_ok-area.ensures.limits;
-        uncrossed = c.requires.uncrossed;
-        area = rw c.in_ok-area.ensures.sides (whole_area c.args.model.now c.in_ok-area.ensures.limits);
-        depth = omega arith;
-        nodes = omega arith;
-        sound = tt;
-        room = search rules;
-      };
+      frontier = ended_ready c.args.model.now c.args.limits c.grow.new.search.found c.grow.new.search.open begun c.grow.new.steps
+          c.in_ok-stop.stop ended;
     }
+
+pub answer-requires : goal.answer-requires
+answer-requires g c =
+    let begun = c.args.steps.now in
+    let ended = c.in_ok-stop.ensures.ended begun (c.in_ok-search.ensures.growing c.args.limits c.requires.nodes begun) in
+    ended_done c.args.model.now c.args.limits c.grow.new.search.found c.grow.new.search.open (plain_open c.in_ok-tree.tree)
+    c.in_ok-tree.ensures.tree begun c.grow.new.steps (rw c.in-None.is at ended)
 
 pub returns-in-None-clause-right : goal.returns-in-None-clause-right
 returns-in-None-clause-right g c =
     let m = c.args.model.now in
     let l = c.args.limits in
-    let grown = rw (c.in_ok-area.ensures.sides, c.in-None.is) at c.in_ok-grown.ensures.grown in
-    let made = rw c.best_point-best.ensures at c.answer.ensures in
-    let t = plain_open c.in_ok-grown.grown.tree in
+    let begun = c.args.steps.now in
     let found = c.grow.new.search.found in
+    let t = plain_open c.in_ok-tree.tree in
+    let ended = c.in_ok-stop.ensures.ended begun (c.in_ok-search.ensures.growing l c.requires.nodes begun) in
+    let made = rw c.best_point-best.ensures at c.answer.ensures in
     IfOk-weaker c.answer.result (IsAnswerOf t (point_of found)) (IsRightOutcome m l)
-    (λ o. end_is_right m l t c.grow.new.search.nodes found o c.in_ok-area.ensures.limits c.requires.most c.requires.depth grown) made
+    (λ o own. ended_right m l found c.grow.new.search.open t c.in_ok-tree.ensures.tree begun c.grow.new.steps (rw c.in-None.is at ended) o
+    own c.in_ok-search.ensures.limits c.requires.most c.requires.depth) made
 
-pub returns-clause-right : goal.returns-clause-right
-returns-clause-right g c =
+pub returns-in-None-clause-first : goal.returns-in-None-clause-first
+returns-in-None-clause-first g c =
     let m = c.args.model.now in
     let l = c.args.limits in
-    let grown = rw (c.in_ok-area.ensures.sides, c.in-Some.is) at c.in_ok-grown.ensures.grown in
-    rw c.best_point-best.ensures (stop_is_right m l (plain_open c.in_ok-grown.grown.tree) c.grow.new.search.nodes c.grow.new.search.found
-    c.in-Some.what grown)
+    let begun = c.args.steps.now in
+    let found = c.grow.new.search.found in
+    let t = plain_open c.in_ok-tree.tree in
+    let ended = c.in_ok-stop.ensures.ended begun (c.in_ok-search.ensures.growing l c.requires.nodes begun) in
+    let made = rw c.best_point-best.ensures at c.answer.ensures in
+    IfOk-weaker c.answer.result (IsAnswerOf t (point_of found)) (IsBestFirst m)
+    (λ o own. ended_first m l found c.grow.new.search.open t c.in_ok-tree.ensures.tree begun c.grow.new.steps (rw c.in-None.is at ended) o
+    own) made
 
 pub returns-in-None-clause-stuck : goal.returns-in-None-clause-stuck
 returns-in-None-clause-stuck g c =
-    let t = plain_open c.in_ok-grown.grown.tree in
+    let t = plain_open c.in_ok-tree.tree in
     IfOk-weaker c.answer.result (IsAnswerOf t c.best_point-best.result) HasOneStuck (answer_has_none t c.best_point-best.result)
     c.answer.ensures
 
-pub returns-clause-stuck : goal.returns-clause-stuck
-returns-clause-stuck g c = (rw c.in-Some.is at c.in_ok-grown.ensures.grown).stuck
-
 pub returns-in-None-clause-counted : goal.returns-in-None-clause-counted
 returns-in-None-clause-counted g c =
+    let m = c.args.model.now in
     let l = c.args.limits in
-    let t = plain_open c.in_ok-grown.grown.tree in
-    let best = c.best_point-best.result in
-    let done = (rw c.in-None.is at c.in_ok-grown.ensures.grown).ends in
-    IfOk-weaker c.answer.result (IsAnswerOf t best) (λ o. IsCounted l (stopped_of o) (nodes_of o) c.args.steps.now c.grow.new.steps)
-    (λ o. answer_counted l t best o c.args.steps.now c.grow.new.steps done c.in_ok-grown.ensures.counted) c.answer.ensures
+    let begun = c.args.steps.now in
+    let found = c.grow.new.search.found in
+    let t = plain_open c.in_ok-tree.tree in
+    let ended = c.in_ok-stop.ensures.ended begun (c.in_ok-search.ensures.growing l c.requires.nodes begun) in
+    let made = rw c.best_point-best.ensures at c.answer.ensures in
+    IfOk-weaker c.answer.result (IsAnswerOf t (point_of found)) (λ o. IsCounted l (stopped_of o) (nodes_of o) begun c.grow.new.steps)
+    (λ o own. ended_counted m l found c.grow.new.search.open t c.in_ok-tree.ensures.tree begun c.grow.new.steps (rw c.in-None.is at ended)
+    o own) made
+
+pub returns-clause-right : goal.returns-clause-right
+returns-clause-right g c =
+    let begun = c.args.steps.now in
+    let ended = c.in_ok-stop.ensures.ended begun (c.in_ok-search.ensures.growing c.args.limits c.requires.nodes begun) in
+    rw c.best_point-best.ensures (stopped_right c.args.model.now c.args.limits c.grow.new.search.found c.grow.new.search.open
+    (plain_open c.in_ok-tree.tree) c.in_ok-tree.ensures.tree begun c.grow.new.steps c.in-Some.what (rw c.in-Some.is at ended))
+
+pub returns-clause-first : goal.returns-clause-first
+returns-clause-first g c =
+    let begun = c.args.steps.now in
+    let ended = c.in_ok-stop.ensures.ended begun (c.in_ok-search.ensures.growing c.args.limits c.requires.nodes begun) in
+    rw c.best_point-best.ensures (stopped_first c.args.model.now c.args.limits c.grow.new.search.found c.grow.new.search.open
+    (plain_open c.in_ok-tree.tree) c.in_ok-tree.ensures.tree begun c.grow.new.steps c.in-Some.what (rw c.in-Some.is at ended))
+
+pub returns-clause-stuck : goal.returns-clause-stuck
+returns-clause-stuck g c =
+    let begun = c.args.steps.now in
+    let ended = c.in_ok-stop.ensures.ended begun (c.in_ok-search.ensures.growing c.args.limits c.requires.nodes begun) in
+    stopped_once c.args.model.now c.args.limits c.grow.new.search.found c.grow.new.search.open (plain_open c.in_ok-tree.tree)
+    c.in_ok-tree.ensures.tree begun c.grow.new.steps c.in-Some.what (rw c.in-Some.is at ended)
+
+pub returns-clause-counted : goal.returns-clause-counted
+returns-clause-counted g c =
+    let begun = c.args.steps.now in
+    let ended = c.in_ok-stop.ensures.ended begun (c.in_ok-search.ensures.growing c.args.limits c.requires.nodes begun) in
+    stopped_counted c.args.model.now c.args.limits c.grow.new.search.found c.grow.new.search.open (plain_open c.in_ok-tree.tree)
+    c.in_ok-tree.ensures.tree begun c.grow.new.steps c.in-Some.what (rw c.in-Some.is at ended)

@@ -1,5 +1,0 @@
-use Rattle.branching.proofs.HalvingLaws.{IsWidestBelow}
-use Rattle.branching.proofs.boxes.widest_column.Given as goal
-
-abbrev pub invariant-loop-j : goal.invariant-loop-j
-invariant-loop-j l = IsWidestBelow l.area l.j l.widest l.most

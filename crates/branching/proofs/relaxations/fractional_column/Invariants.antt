@@ -1,5 +1,0 @@
-use Rattle.branching.proofs.WholeLaws.{IsBrokenAt}
-use Rattle.branching.proofs.relaxations.fractional_column.Given as goal
-
-abbrev pub invariant-loop-j : goal.invariant-loop-j
-invariant-loop-j l = IsBrokenAt l.point l.j l.nearest

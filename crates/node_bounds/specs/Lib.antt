@@ -1,0 +1,9 @@
+pub mod Areas
+pub mod Certificates
+pub mod Cuts
+pub mod Nodes
+pub mod Reasons
+pub mod Splits
+pub mod Stops
+pub mod Workspaces
+pub mod Internal

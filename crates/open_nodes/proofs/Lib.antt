@@ -1,0 +1,9 @@
+mod RenewLaws
+mod ForestLaws
+mod OrderLaws
+mod FrontierLaws
+mod SplitLaws
+mod TakeLaws
+mod AssembleLaws
+mod NewLaws
+mod PathExamples

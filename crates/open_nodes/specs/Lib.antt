@@ -1,0 +1,4 @@
+pub mod OpenTrees
+pub mod Nodes
+pub mod Frontiers
+pub mod Internal

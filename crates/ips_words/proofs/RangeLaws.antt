@@ -213,7 +213,8 @@ is_in_range Trial ws e =
     omega arith
 
 -- and it is built
-pub is_request_built : (c : OwnCommand) (ws : List Word) → are_plain_for (command_row c) ws ≡ true → IsBuilt (request_by (command_row c) ws)
+pub is_request_built : (c : OwnCommand) (ws : List Word) → are_plain_for (command_row c) ws ≡ true
+    → IsBuilt (request_by (command_row c) ws)
 is_request_built Solve ws e =
     (built_of solve ws e, (named_file tree_choice solve.choices (drop 1 ws) (λ v t. t) (options_of solve ws e)).1)
 is_request_built Check ws e = built_of check ws e

@@ -1,72 +1,54 @@
 -- Requests of words, computed.
-use Rattle.std.specs.Prelude.{◌≡◌, [], ◌∷◌, codes, refl, None, Some, pos}
-use Rattle.ips_words.specs.Commands.{request_of, commands}
-use Rattle.ips_words.specs.declared.requests.Request.TheVariants.{Solve, Show}
+use Rattle.std.specs.Prelude.{◌≡◌, List, [], ◌∷◌, map, codes, refl, Option, None, Some, pos}
+use Rattle.ips_words.specs.Commands.{Word, request_of, commands}
+use Rattle.ips_words.specs.declared.requests.Request.{Request}
+use Rattle.ips_words.specs.declared.requests.Request.TheVariants.{Solve, Check, Show}
 
-pub plain_solve : request_of (codes "solve" ∷ codes "m" ∷ []) ≡ Some (Solve (codes "m") None 100000 800 5000 0 None)
-unfolding commands
-plain_solve = refl
+-- what words ask for
+abbrev AskFor : List (List Word × Option Request) → Type 0
+AskFor cases = map (λ c. request_of c.0) cases ≡ map (λ c. c.1) cases
 
-pub with_limits : request_of (codes "solve" ∷ codes "m" ∷ codes "--pivots" ∷ codes "0" ∷ codes "--nodes" ∷ codes "5" ∷ codes "--depth" ∷
-    codes "7" ∷ []) ≡ Some (Solve (codes "m") None 5 7 0 0 None)
-unfolding commands
-with_limits = refl
+-- the words after `solve m`
+abbrev solve_m : List Word → List Word
+solve_m ws = codes "solve" ∷ codes "m" ∷ ws
 
-pub no_nodes : request_of (codes "solve" ∷ codes "m" ∷ codes "--nodes" ∷ codes "0" ∷ []) ≡ None
+pub requests : AskFor (
+    (solve_m [], Some (Solve (codes "m") None 100000 800 5000 0 None))
+    ∷ (
+      solve_m (codes "--pivots" ∷ codes "0" ∷ codes "--nodes" ∷ codes "5" ∷ codes "--depth" ∷ codes "7" ∷ []),
+      Some (Solve (codes "m") None 5 7 0 0 None),
+    )
+    ∷ (
+      solve_m (codes "--box" ∷ codes "5" ∷ codes "--digits" ∷ codes "2" ∷ []),
+      Some (Solve (codes "m") None 100000 800 5000 2 (Some (pos 5))),
+    )
+    ∷ (solve_m (codes "--tree" ∷ codes "t" ∷ []), Some (Solve (codes "m") (Some (codes "t")) 100000 800 5000 0 None))
+    ∷ (
+      codes "check" ∷ codes "m" ∷ codes "t" ∷ codes "--digits" ∷ codes "2" ∷ [],
+      Some (Check (codes "m") (codes "t") 2 None),
+    )
+    ∷ (codes "show" ∷ codes "m" ∷ [], Some (Show (codes "m") 0 None))
+    ∷ (codes "show" ∷ codes "m" ∷ codes "--box" ∷ codes "16777216" ∷ [], Some (Show (codes "m") 0 (Some (pos 16777216))))
+    -- a number out of its range, or with a leading zero
+    ∷ (solve_m (codes "--nodes" ∷ codes "0" ∷ []), None)
+    ∷ (solve_m (codes "--digits" ∷ codes "10" ∷ []), None)
+    ∷ (solve_m (codes "--digits" ∷ codes "01" ∷ []), None)
+    ∷ (solve_m (codes "--box" ∷ codes "16777217" ∷ []), None)
+    -- an option and its value in one word, without a value, or twice
+    ∷ (solve_m (codes "--nodes=5" ∷ []), None)
+    ∷ (solve_m (codes "--digits" ∷ []), None)
+    ∷ (solve_m (codes "--digits" ∷ codes "2" ∷ codes "--digits" ∷ codes "2" ∷ []), None)
+    -- no search is made to show a model
+    ∷ (codes "show" ∷ codes "m" ∷ codes "--nodes" ∷ codes "5" ∷ [], None)
+    -- one operand of two, a search for a check, and a command that is not built
+    ∷ (codes "check" ∷ codes "m" ∷ [], None)
+    ∷ (codes "check" ∷ codes "m" ∷ codes "t" ∷ codes "--depth" ∷ codes "5" ∷ [], None)
+    ∷ (codes "ask" ∷ codes "m" ∷ codes "t" ∷ codes "q" ∷ [], None)
+    -- a name that begins with a minus, an empty name, and no words
+    ∷ (solve_m (codes "--tree" ∷ codes "-t" ∷ []), None)
+    ∷ (codes "solve" ∷ codes "-m" ∷ [], None)
+    ∷ (codes "solve" ∷ [] ∷ [], None)
+    ∷ ([], None)
+    ∷ [])
 unfolding commands
-no_nodes = refl
-
-pub with_an_equals_sign : request_of (codes "solve" ∷ codes "m" ∷ codes "--nodes=5" ∷ []) ≡ None
-unfolding commands
-with_an_equals_sign = refl
-
--- no search is made to show a model
-pub shown_with_limits : request_of (codes "show" ∷ codes "m" ∷ codes "--nodes" ∷ codes "5" ∷ []) ≡ None
-unfolding commands
-shown_with_limits = refl
-
-pub dash : request_of (codes "solve" ∷ codes "-m" ∷ []) ≡ None
-unfolding commands
-dash = refl
-
-pub empty_name : request_of (codes "solve" ∷ [] ∷ []) ≡ None
-unfolding commands
-empty_name = refl
-
-pub no_words : request_of [] ≡ None
-unfolding commands
-no_words = refl
-
-pub with_both : request_of (codes "solve" ∷ codes "m" ∷ codes "--box" ∷ codes "5" ∷ codes "--digits" ∷ codes "2" ∷ [])
-    ≡ Some (Solve (codes "m") None 100000 800 5000 2 (Some (pos 5)))
-unfolding commands
-with_both = refl
-
-pub twice : request_of (codes "solve" ∷ codes "m" ∷ codes "--digits" ∷ codes "2" ∷ codes "--digits" ∷ codes "2" ∷ []) ≡ None
-unfolding commands
-twice = refl
-
-pub ten_digits : request_of (codes "solve" ∷ codes "m" ∷ codes "--digits" ∷ codes "10" ∷ []) ≡ None
-unfolding commands
-ten_digits = refl
-
-pub large_box : request_of (codes "solve" ∷ codes "m" ∷ codes "--box" ∷ codes "16777217" ∷ []) ≡ None
-unfolding commands
-large_box = refl
-
-pub largest_box : request_of (codes "show" ∷ codes "m" ∷ codes "--box" ∷ codes "16777216" ∷ [])
-    ≡ Some (Show (codes "m") 0 (Some (pos 16777216)))
-unfolding commands
-largest_box = refl
-
-pub leading_zero : request_of (codes "solve" ∷ codes "m" ∷ codes "--digits" ∷ codes "01" ∷ []) ≡ None
-unfolding commands
-leading_zero = refl
-
-pub no_value : request_of (codes "solve" ∷ codes "m" ∷ codes "--digits" ∷ []) ≡ None
-unfolding commands
-no_value = refl
-
-pub plain_show : request_of (codes "show" ∷ codes "m" ∷ []) ≡ Some (Show (codes "m") 0 None)
-unfolding commands
-plain_show = refl
+requests = refl

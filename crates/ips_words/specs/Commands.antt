@@ -103,7 +103,7 @@ command word operands choices built request =
 
 -- the files in which a proof is saved
 abbrev pub tree_choice : Choice
-tree_choice = choice (codes "--tree") Name false
+tree_choice = choice (codes "--tree") Name true
 
 abbrev pub proof_choice : Choice
 proof_choice = choice (codes "--proof") Name false
@@ -126,7 +126,7 @@ abbrev pub solve : Command
 solve = command (codes "solve") (Name ∷ []) (tree_choice ∷ search_choices) true solve_request
 
 abbrev pub check : Command
-check = command (codes "check") (Name ∷ Name ∷ []) reading_choices false check_request
+check = command (codes "check") (Name ∷ Name ∷ []) reading_choices true check_request
 
 abbrev pub ask : Command
 ask = command (codes "ask") (Name ∷ Name ∷ Name ∷ []) reading_choices false ask_request

@@ -39,7 +39,7 @@ pub enum Command {
 const TREE: Choice = Choice {
     word: "--tree",
     value: Kind::Name,
-    built: false,
+    built: true,
 };
 
 const PROOF: Choice = Choice {
@@ -137,10 +137,8 @@ impl Command {
         ensures { result ≡ (command_row self).built }
     {
         match self {
-            Command::Solve | Command::Show => true,
-            Command::Check | Command::Ask | Command::Sweep | Command::Recheck | Command::Trial => {
-                false
-            }
+            Command::Solve | Command::Check | Command::Show => true,
+            Command::Ask | Command::Sweep | Command::Recheck | Command::Trial => false,
         }
     }
 }

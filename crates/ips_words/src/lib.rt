@@ -8,8 +8,6 @@ mod options;
 mod parser;
 mod plain;
 mod requests;
-#[cfg(test)]
-mod tests;
 mod usage;
 mod words;
 

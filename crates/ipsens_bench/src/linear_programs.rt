@@ -1,12 +1,15 @@
 //! Linear programs: the relaxation of a model file over the model's own box.
-ghost use Rattle.std.specs.Prelude.{◌≡◌, ◌<◌};
+ghost use Rattle.std.specs.Prelude.{◌≡◌, ◌<◌, None, false, length};
+ghost use Rattle.std.specs.Bool.{OnTrue};
 ghost use Rattle.std.specs.List.{list_any};
 ghost use Rattle.ip_defs.specs.Certificates.{is_empty_side};
+ghost use Rattle.ip_model.specs.Sizes.{first_crossed};
 
 use crate::BenchError;
+use crate::requests::Solving;
 use frac128::Frac;
 use ip_defs::Area;
-use ip_model::{IntModel, box_of, crossed};
+use ip_model::{IntModel, box_of, crossed, has_empty_column};
 use ips_io::{FileShelf, read_all};
 use mps_defs::How;
 use mps_reader::read;
@@ -41,29 +44,16 @@ fn model_of<R: Files + Drop>(
     }
 }
 
-/// Whether some column has no integer between its bounds.
-fn has_empty_column(area: &[(i64, i64)]) -> bool
-    ensures { result ≡ list_any is_empty_side area.now }
+/// Whether a model can be solved over a box: it has a pair of bounds for each column, no column is empty and no row is crossed.
+fn can_solve(model: &IntModel, area: &Area) -> bool
+    ensures size { OnTrue result (length area.now ≡ length model.now.columns) }
+    ensures proper { OnTrue result (list_any is_empty_side area.now ≡ false) }
+    ensures uncrossed { OnTrue result (first_crossed model.now ≡ None) }
 {
-    area.iter().any(|side| side.1 < side.0)
-}
-
-/// The answer for a model over its box, where no column is empty and no row is crossed.
-fn solve_once<L: Ledger>(
-    alloc: Global,
-    model: &IntModel,
-    area: &Area,
-    pivots: u32,
-    steps: &mut Steps<L>,
-) -> Result<LpAnswer, BenchError> {
     let columns = model.parts().columns.as_slice().len();
-    if has_empty_column(area.as_slice())
-        || crossed(model).is_some()
-        || area.as_slice().len() != columns
-    {
-        return Err(BenchError::NoModel);
-    }
-    Ok(solve_lp(alloc, model, area, pivots, steps)?)
+    area.as_slice().len() == columns
+        && !has_empty_column(area.as_slice())
+        && crossed(model).is_none()
 }
 
 /// The last of a number of equal answers, none for the number 0.
@@ -80,9 +70,12 @@ fn solve_often<L: Ledger>(
 {
     let mut steps = Steps::<L>::new(blank);
     let area = box_of(alloc, model)?;
+    if !can_solve(model, &area) {
+        return Err(BenchError::NoModel);
+    }
     let mut answer = None;
     for _ in 0..count {
-        answer = Some(solve_once(alloc, model, &area, pivots, &mut steps)?);
+        answer = Some(solve_lp(alloc, model, &area, pivots, &mut steps)?);
     }
     Ok(answer)
 }
@@ -133,10 +126,8 @@ fn solved(
 pub fn answer_after<R: Files + Drop>(
     alloc: Global,
     shelf: &mut FileShelf<R>,
-    file: &str,
-    steps: u32,
-    count: u32,
+    solving: Solving,
 ) -> Result<String, BenchError> {
-    let model = model_of(alloc, shelf, file)?;
-    solved(alloc, &model, steps, count, Blank::new(1))
+    let model = model_of(alloc, shelf, solving.file)?;
+    solved(alloc, &model, solving.steps, solving.count, Blank::new(1))
 }

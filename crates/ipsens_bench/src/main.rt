@@ -11,14 +11,14 @@ mod requests;
 use fractions::Kind;
 use ip_defs::Memory;
 use ips_io::{FileShelf, file_shelf};
-use requests::{Request, parsed};
+use requests::{Request, Solving, parsed};
 use sample_models::SampleError;
 use std::alloc::{AllocError, Global};
-use std::error::Error;
 use std::fs::Files;
 use std::process::ExitCode;
 use std::rt::Env;
-use std::{env, fmt, io};
+use std::{env, io};
+use thiserror::Error;
 
 const USAGE: &str = "usage:
   ipsens_bench fractions whole|small|long COUNT    products and differences of fractions
@@ -28,37 +28,26 @@ const USAGE: &str = "usage:
   ipsens_bench all FILE STEPS COUNT                each of them, a line for each";
 
 /// Why nothing was timed.
-#[derive(Clone, Copy, Debug)]
+#[derive(Clone, Copy, Debug, Error)]
 pub enum BenchError {
-    /// Out of memory.
+    #[error("out of memory")]
     Memory,
     /// The file is not the file of a model, or the model is not within its limits.
+    #[error("no model within the limits can be read")]
     NoModel,
-    /// A pivot cannot be made.
+    #[error("a pivot cannot be made")]
     NoPivot,
 }
 
-impl fmt::Display for BenchError {
-    fn fmt<W: fmt::Write>(&self, f: &mut fmt::Formatter<W>) -> fmt::Result {
-        match self {
-            BenchError::Memory => write!(f, "out of memory"),
-            BenchError::NoModel => write!(f, "no model within the limits can be read"),
-            BenchError::NoPivot => write!(f, "a pivot cannot be made"),
-        }
-    }
-}
-
-impl Error for BenchError {}
-
 impl From<AllocError> for BenchError {
-    fn from(_error: AllocError) -> BenchError {
-        BenchError::Memory
+    fn from(error: AllocError) -> BenchError {
+        BenchError::from(SampleError::from(error))
     }
 }
 
 impl From<Memory> for BenchError {
-    fn from(_error: Memory) -> BenchError {
-        BenchError::Memory
+    fn from(error: Memory) -> BenchError {
+        BenchError::from(SampleError::from(error))
     }
 }
 
@@ -84,14 +73,12 @@ fn words_of<R: Env + AllocGlobal>(rt: &R) -> Result<Vec<String>, io::Error> {
 fn all_texts<R: Files + Drop>(
     alloc: Global,
     shelf: &mut FileShelf<R>,
-    file: &str,
-    steps: u32,
-    count: u32,
+    solving: Solving,
 ) -> Result<String, BenchError> {
-    let sum = fractions::checksum_after(Kind::Long, count);
-    let bound = certificates::bound_after(alloc, count)?;
-    let pivots = pivots::checksum_after(alloc, count)?;
-    let answer = linear_programs::answer_after(alloc, shelf, file, steps, count)?;
+    let sum = fractions::checksum_after(Kind::Long, solving.count);
+    let bound = certificates::bound_after(alloc, solving.count)?;
+    let pivots = pivots::checksum_after(alloc, solving.count)?;
+    let answer = linear_programs::answer_after(alloc, shelf, solving)?;
     Ok(format!(in alloc; "{sum}\n{bound:?}\n{pivots}\n{answer}")?)
 }
 
@@ -114,10 +101,8 @@ fn text_of<R: Files + Drop>(
             let sum = pivots::checksum_after(alloc, count)?;
             Ok(format!(in alloc; "{sum}")?)
         }
-        Request::LinearPrograms { file, steps, count } => {
-            linear_programs::answer_after(alloc, shelf, file, steps, count)
-        }
-        Request::All { file, steps, count } => all_texts(alloc, shelf, file, steps, count),
+        Request::LinearPrograms(solving) => linear_programs::answer_after(alloc, shelf, solving),
+        Request::All(solving) => all_texts(alloc, shelf, solving),
     }
 }
 

@@ -45,9 +45,9 @@ fn checksum(tableau: &Tableau) -> u64 {
 
 /// The checksum after a number of pivots, in turn there and back.
 fn pivot_often<L: Ledger>(
+    blank: Blank,
     tableau: &mut Tableau,
     count: u32,
-    blank: Blank,
 ) -> Result<u64, BenchError>
     requires name { blank.name ≡ L.name }
     requires parts { blank.parts ≡ L.parts }
@@ -74,7 +74,7 @@ fn pivoted(alloc: Global, count: u32, blank: Blank) -> Result<u64, BenchError>
         return Err(BenchError::NoModel);
     }
     let mut tableau = start(alloc, &model, &area)?;
-    pivot_often::<Brand>(&mut tableau, count, blank)
+    pivot_often::<Brand>(blank, &mut tableau, count)
 }
 
 /// The checksum of the model's tableau after a number of pivots.

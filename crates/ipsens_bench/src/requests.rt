@@ -2,29 +2,22 @@
 
 use crate::fractions::Kind;
 
+/// A linear program that is solved a number of times, within a number of steps each.
+#[derive(Clone, Copy)]
+pub struct Solving<'a> {
+    pub file: &'a str,
+    pub steps: u32,
+    pub count: u32,
+}
+
 /// What is timed, and how often.
 #[derive(Clone, Copy)]
 pub enum Request<'a> {
-    Fractions {
-        kind: Kind,
-        count: u32,
-    },
-    Certificates {
-        count: u32,
-    },
-    Tableau {
-        count: u32,
-    },
-    LinearPrograms {
-        file: &'a str,
-        steps: u32,
-        count: u32,
-    },
-    All {
-        file: &'a str,
-        steps: u32,
-        count: u32,
-    },
+    Fractions { kind: Kind, count: u32 },
+    Certificates { count: u32 },
+    Tableau { count: u32 },
+    LinearPrograms(Solving<'a>),
+    All(Solving<'a>),
 }
 
 /// The request of the words of a command line, if they are one.
@@ -36,12 +29,10 @@ pub fn parsed<'a>(words: &'a [String]) -> Option<Request<'a>> {
             count: number(count)?,
         }),
         [command, file, steps, count] => {
-            by_file(
-                command.as_str(),
-                file.as_str(),
-                number(steps)?,
-                number(count)?,
-            )
+            let file = file.as_str();
+            let steps = number(steps)?;
+            let count = number(count)?;
+            by_file(command.as_str(), Solving { file, steps, count })
         }
         _ => None,
     }
@@ -68,10 +59,10 @@ fn by_count<'a>(command: &str, count: u32) -> Option<Request<'a>> {
     }
 }
 
-fn by_file<'a>(command: &str, file: &'a str, steps: u32, count: u32) -> Option<Request<'a>> {
+fn by_file<'a>(command: &str, solving: Solving<'a>) -> Option<Request<'a>> {
     match command {
-        "linear-programs" => Some(Request::LinearPrograms { file, steps, count }),
-        "all" => Some(Request::All { file, steps, count }),
+        "linear-programs" => Some(Request::LinearPrograms(solving)),
+        "all" => Some(Request::All(solving)),
         _ => None,
     }
 }

@@ -1,6 +1,9 @@
 pub mod AnswerExamples
+pub mod CheckLaws
+pub mod FeedLaws
 pub mod ReadLaws
 pub mod RunLaws
+pub mod SendLaws
 pub mod ShowLaws
 pub mod SolveLaws
 pub mod TextLaws

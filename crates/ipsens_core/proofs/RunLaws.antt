@@ -1,12 +1,10 @@
 -- What the outside of a call shows, from what reading, answering and writing say.
-use Rattle.std.specs.declared.alloc.Global.{Global}
-use Rattle.std.specs.Prelude.{◌≡◌, ◌⊎◌, ℕ, ◌<◌, ◌≤◌, nat_lt, Bool, true, false, List, [], ◌∷◌, length, take, Vec, Option, Some, None}
+use Rattle.std.specs.Prelude.{◌≡◌, ◌≢◌, ◌⊎◌, ℕ, ◌<◌, ◌≤◌, nat_lt, Bool, true, false, List, [], ◌∷◌, length, Option, Some, None}
 use Rattle.std.specs.Prelude.{Result, Ok, Err, IfOk, codes}
 use Rattle.std.specs.Option.{MatchOption}
 use Rattle.std.specs.Bool.{MatchBool}
 use Rattle.std.proofs.Common.{refl, arith, ap, sym, ◌∙◌, subst, inl, inr}
 use Rattle.std.proofs.lemmas.Bool.Decides.{nat_tests}
-use Rattle.std.proofs.Math.Seq.{take-length}
 use Rattle.ip_defs.specs.declared.programs.Parts.{Parts}
 use Rattle.ips_io.specs.Causes.{Rose}
 use Rattle.ips_io.specs.Files.{Began, BeganFirst, Files, Keeps, Names}
@@ -22,9 +20,11 @@ use Rattle.ipsens_core.specs.Models.{ReadsModel, longest_model, refuses_model}
 use Rattle.ipsens_core.specs.Reads.{Reads, Agrees}
 use Rattle.ipsens_core.specs.RefusalTexts.{refusal_text}
 use Rattle.ipsens_core.specs.Runs.{Outside, shows, IsOwed, IsAnswered, IsCutOff, IsRunOf, RunMeets, AnswersRequest, files_asked}
-use Rattle.ipsens_core.specs.Runs.{files_named}
+use Rattle.ipsens_core.specs.Runs.{HasCauses, IsUntouched, OneRose, files_named}
 use Rattle.ipsens_core.specs.Internal.Made.{IsWritten, IsMade, IsModelRead, IsModelText, IsModelFile, IsFileRefused, IsRefusalOf}
-use Rattle.ipsens_core.specs.Internal.Writes.{Writes, IsSent}
+use Rattle.ipsens_core.specs.Internal.Made.{IsPrepared, answer_of}
+use Rattle.ipsens_core.specs.Internal.Writes.{Delivers, IsSent, IsStill, Writes}
+use Rattle.ipsens_core.specs.declared.answers.Made.{Made}
 use Rattle.ipsens_core.specs.declared.answers.Stop.{Stop}
 use Rattle.ipsens_core.specs.declared.answers.Stop.TheVariants as Stops
 use Rattle.ipsens_core.specs.declared.models.NoModel.{NoModel}
@@ -32,14 +32,14 @@ use Rattle.ipsens_core.specs.declared.models.NoModel.TheVariants as No
 use Rattle.ipsens_core.specs.declared.statuses.Status.{Status}
 use Rattle.ipsens_core.specs.declared.statuses.Status.TheVariants.{Answered, NotProved, Usage, Refused, Budget, Wide, ReadFault}
 use Rattle.ipsens_core.specs.declared.statuses.Status.TheVariants.{WriteFault, Memory}
-use Rattle.ipsens_core.proofs.ReadLaws.{none_read, HasLongFile}
+use Rattle.ipsens_core.proofs.ReadLaws.{agrees_more, began_whole, none_read, HasLongFile}
 
 -- ---- the model file
 
-is_above : (n m : ℕ) → n < m → nat_lt n m ≡ true
+pub is_above : (n m : ℕ) → n < m → nat_lt n m ≡ true
 is_above n m h = grind (arith, nat_tests)
 
-is_within : (n m : ℕ) → m ≤ n → nat_lt n m ≡ false
+pub is_within : (n m : ℕ) → m ≤ n → nat_lt n m ≡ false
 is_within n m h = grind (arith, nat_tests)
 
 -- what is owed where the model file is refused is owed whatever a command owes to models
@@ -101,21 +101,22 @@ text_read name bytes how before after (Err (No.Refused text)) agrees short is =
 text_read name bytes how before after (Err No.ReadFault) agrees short is = tt
 text_read name bytes how before after (Err No.Memory) agrees short is = tt
 
--- what a command owes to the model of its one file is owed to the file
-pub model_owed : (name : List ℕ) (how : How) (Owed : Parts → Answer → Type 0) (before after : Option Files) (m : Parts) (a : Answer)
-    → IsModelRead before after name how m → Owed m a → IsOwed (ReadsModel name how (λ n. ReadsNoMore (Owed n))) before after a
-model_owed name how Owed before after m a read owed =
+-- what a command owes to the model and to the files after it is owed to the model file and those
+pub model_owed : (name : List ℕ) (how : How) (Rest : Parts → Reads → Answer → Type 0) (before mid after : Option Files) (m : Parts) (a : Answer)
+    → IsModelRead before mid name how m → IsOwed (Rest m) mid after a → IsOwed (ReadsModel name how Rest) before after a
+model_owed name how Rest before mid after m a read owed =
     record {
-      reads = (name, read.bytes) ∷ [];
-      agrees = read.agrees;
+      reads = (name, read.bytes) ∷ owed.reads;
+      agrees = agrees_more before mid after (name, read.bytes) owed.reads read.agrees owed.agrees;
       run = (
         refl,
-        rw (is_within longest_model (length read.bytes) read.short) (rw read.sound (
-          refl,
-          subst (λ n. Owed n a) read.model owed,
-        )),
+        rw (is_within longest_model (length read.bytes) read.short) (rw read.sound (subst (λ n. Rest n owed.reads a) read.model owed.run)),
       );
     }
+
+-- what is owed where no further file is read
+pub no_more_owed : (Owed : Answer → Type 0) (table : Option Files) (a : Answer) → Owed a → IsOwed (ReadsNoMore Owed) table table a
+no_more_owed Owed table a owed = record { reads = []; agrees = none_read table; run = (refl, owed) }
 
 -- an error that is not want of memory is the first fault
 pub named_first : (o : Option MpsError) (e : MpsError) → IsFirst o e → (e ≡ Out.Memory → ⊥) → o ≡ Some e
@@ -141,102 +142,120 @@ named_first o Out.NoEnd h some = h
 named_first o (Out.Digits a) h some = h
 named_first o Out.Memory h some = absurd (some refl)
 
--- ---- written answers
+-- ---- delivered answers
 
 -- statuses at which a whole answer is shown
 abbrev IsShownAt : Status → Type 0
 IsShownAt status = (status ≡ Usage) ⊎ IsWritten status
 
 shown_whole : (P : Reads → Answer → Type 0) (o : Outside) (status : Status) → IsShownAt status → IsAnswered P o status → RunMeets P o status
-shown_whole P o status (inl e) all = subst (RunMeets P o) (sym e) (subst (IsAnswered P o) e all)
-shown_whole P o status (inr (inl e)) all = subst (RunMeets P o) (sym e) (subst (IsAnswered P o) e all)
-shown_whole P o status (inr (inr (inl e))) all = subst (RunMeets P o) (sym e) (subst (IsAnswered P o) e all)
-shown_whole P o status (inr (inr (inr e))) all = subst (RunMeets P o) (sym e) (subst (IsAnswered P o) e all)
+shown_whole P o Answered shown all = all
+shown_whole P o NotProved shown all = all
+shown_whole P o Usage shown all = all
+shown_whole P o Refused shown all = all
+shown_whole P o Budget shown all = all
+shown_whole P o Wide shown all = all
+shown_whole P o ReadFault (inl e) all = absurd (cc e)
+shown_whole P o ReadFault (inr w) all = absurd w
+shown_whole P o WriteFault (inl e) all = absurd (cc e)
+shown_whole P o WriteFault (inr w) all = absurd w
+shown_whole P o Memory (inl e) all = absurd (cc e)
+shown_whole P o Memory (inr w) all = absurd w
 
--- an answer whose text is written, whole or cut off
-meets : (P : Reads → Answer → Type 0) (before after : Option Files) (taken taken' : Option (List ℕ)) (f f' : ℕ) (status : Status)
-    (text : List ℕ) (result : Status)
-    → IsShownAt status → IsOwed P before after (says status text) → Writes taken taken' f f' status text result →
+-- an answer that is delivered, whole or cut off
+meets : (P : Reads → Answer → Type 0) (before read after : Option Files) (taken taken' : Option (List ℕ)) (a : Answer) (result : Status)
+    → IsShownAt a.status → IsOwed P before read a → Delivers (shows read after taken taken') a result →
     RunMeets P (shows before after taken taken') result
-meets P before after taken taken' f f' status text result shown owed' (inl w) =
-    subst (RunMeets P (shows before after taken taken')) (sym w.0)
-    (shown_whole P (shows before after taken taken') status shown (record {
-      answer = says status text;
-      read = after;
+meets P before read after taken taken' a result shown owed' (inl d) =
+    let o = shows before after taken taken' in
+    subst (RunMeets P o) (sym d.0) (shown_whole P o a.status shown (record {
+      answer = a;
+      read = read;
       owed = owed';
       status_is = refl;
-      text = w.2;
-      saved = refl;
+      text = d.1;
+      saved = d.2;
     }))
-meets P before after taken taken' f f' status text result shown owed' (inr w) =
-    subst (RunMeets P (shows before after taken taken')) (sym w.0) (record {
-      answer = says status text;
-      read = after;
+meets P before read after taken taken' a result shown owed' (inr d) =
+    subst (RunMeets P (shows before after taken taken')) (sym d.0) (record {
+      answer = a;
+      read = read;
       owed = owed';
-      most = w.2.0;
-      text = w.2.1;
-      saved = refl;
+      most = d.1.0;
+      text = d.1.1;
+      saved = d.2;
     })
 
--- ---- answers that were made and sent
+-- nothing is delivered
+still_meets : (P : Reads → Answer → Type 0) (before read after : Option Files) (taken taken' : Option (List ℕ)) (why result : Status)
+    → Keeps before read → IsStill (shows read after taken taken') why result
+    → (IsUntouched (shows before after taken taken') → RunMeets P (shows before after taken taken') why)
+    → RunMeets P (shows before after taken taken') result
+still_meets P before read after taken taken' why result keeps still as_untouched =
+    subst (RunMeets P (shows before after taken taken')) (sym still.status_is) (as_untouched (record {
+      files = subst (Keeps before) (sym still.files) keeps;
+      taken = still.taken;
+    }))
 
-pub sent_meets : (P : Reads → Answer → Type 0) (before after : Option Files) (taken taken' : Option (List ℕ)) (f f' : ℕ)
-    (made : Result (Status × Vec ℕ Global) Stop) (result : Status)
-    → IfOk made (IsMade P before after) → Keeps before after → IsSent taken taken' f f' made result →
+pub sent_meets : (P : Reads → Answer → Type 0) (before read after : Option Files) (taken taken' : Option (List ℕ)) (f f' s s' : ℕ)
+    (made : Result Made Stop) (result : Status)
+    → IsPrepared P before read f f' s s' made → IsSent (shows read after taken taken') made result →
     RunMeets P (shows before after taken taken') result
-sent_meets P before after taken taken' f f' (Ok r) result made keeps sent =
-    meets P before after taken taken' f f' r.0 r.1.items result (inr made.written) made.owed sent
-sent_meets P before after taken taken' f f' (Err Stops.ReadFault) result made keeps sent =
-    subst (RunMeets P (shows before after taken taken')) (sym sent.0) (record { files = keeps; taken = sent.2 })
-sent_meets P before after taken taken' f f' (Err Stops.Memory) result made keeps sent =
-    subst (RunMeets P (shows before after taken taken')) (sym sent.0) (record { files = keeps; taken = sent.2 })
+sent_meets P before read after taken taken' f f' s s' (Ok r) result ready sent =
+    meets P before read after taken taken' (answer_of r) result (inr ready.made.written) ready.made.owed sent
+sent_meets P before read after taken taken' f f' s s' (Err Stops.ReadFault) result ready sent =
+    still_meets P before read after taken taken' ReadFault result ready.keeps sent (λ u. u)
+sent_meets P before read after taken taken' f f' s s' (Err Stops.Memory) result ready sent =
+    still_meets P before read after taken taken' Memory result ready.keeps sent (λ u. u)
 
--- a written status is none of the others
-not_fault : (status : Status) → IsWritten status → status ≡ ReadFault → ⊥
-not_fault status (inl e) is = let both : Answered ≡ ReadFault = sym e ∙ is in cc
-not_fault status (inr (inl e)) is = let both : Refused ≡ ReadFault = sym e ∙ is in cc
-not_fault status (inr (inr e)) is = let both : Budget ≡ ReadFault = sym e ∙ is in cc
+-- an answer that was made has a written status
+pub made_written : (P : Reads → Answer → Type 0) (before read : Option Files) (f f' s s' : ℕ) (made : Result Made Stop)
+    → IsPrepared P before read f f' s s' made → IfOk made (λ r. IsWritten r.status)
+made_written P before read f f' s s' (Ok r) ready = ready.made.written
+made_written P before read f f' s s' (Err e) ready = tt
 
-not_write_fault : (status : Status) → IsWritten status → status ≡ WriteFault → ⊥
-not_write_fault status (inl e) is = let both : Answered ≡ WriteFault = sym e ∙ is in cc
-not_write_fault status (inr (inl e)) is = let both : Refused ≡ WriteFault = sym e ∙ is in cc
-not_write_fault status (inr (inr e)) is = let both : Budget ≡ WriteFault = sym e ∙ is in cc
+-- the failures of making an answer and of sending it
+pub sent_causes : (P : Reads → Answer → Type 0) (before read : Option Files) (f f' f'' s s' s'' w w' : ℕ) (made : Result Made Stop)
+    (result : Status)
+    → IsPrepared P before read f f' s s' made → (result ≡ ReadFault → made ≡ Err Stops.ReadFault)
+    → (result ≢ ReadFault → made ≢ Err Stops.ReadFault) → (result ≡ WriteFault → OneRose s' s'' w w')
+    → (result ≢ WriteFault → (s'' ≡ s') × (w' ≡ w)) → f'' ≡ f' → HasCauses f f'' s s'' w w' result
+sent_causes P before read f f' f'' s s' s'' w w' made result ready fault no_fault write_fault no_write_fault same = record {
+  read_fault = λ is. same ∙ ready.fault (fault is);
+  no_read_fault = λ not. same ∙ ready.no_fault (no_fault not);
+  write_fault = λ is. subst (λ n. OneRose n s'' w w') ready.saves (write_fault is);
+  no_write_fault = λ not. let n = no_write_fault not in (n.0 ∙ ready.saves, n.1);
+}
 
-not_usage : (status : Status) → IsWritten status → status ≡ Usage → ⊥
-not_usage status (inl e) is = let both : Answered ≡ Usage = sym e ∙ is in cc
-not_usage status (inr (inl e)) is = let both : Refused ≡ Usage = sym e ∙ is in cc
-not_usage status (inr (inr e)) is = let both : Budget ≡ Usage = sym e ∙ is in cc
+-- ---- prepared answers
 
--- the causes of a status
-pub sent_read : (P : Reads → Answer → Type 0) (before after : Option Files) (taken taken' : Option (List ℕ)) (f f' g g' : ℕ)
-    (made : Result (Status × Vec ℕ Global) Stop) (result : Status)
-    → IfOk made (IsMade P before after) → (made ≡ Err Stops.ReadFault → Rose g g') → IsSent taken taken' f f' made result →
-    result ≡ ReadFault → Rose g g'
-sent_read P before after taken taken' f f' g g' (Ok r) result made cause (inl w) is = absurd (not_fault r.0 made.written (sym w.0 ∙ is))
-sent_read P before after taken taken' f f' g g' (Ok r) result made cause (inr w) is = let both : WriteFault ≡ ReadFault = sym w.0 ∙ is in
-    absurd (cc both)
-sent_read P before after taken taken' f f' g g' (Err Stops.ReadFault) result made cause sent is = cause refl
-sent_read P before after taken taken' f f' g g' (Err Stops.Memory) result made cause sent is =
-    let both : Memory ≡ ReadFault = sym sent.0 ∙ is in absurd (cc both)
+-- the answer that a file is owed
+pub made_prepared : (P : Reads → Answer → Type 0) (before after : Option Files) (f f' s s' : ℕ) (made : Made) → IsWritten made.status
+    → IsOwed P before after (answer_of made) → Keeps before after → f' ≡ f → s' ≡ s → IsPrepared P before after f f' s s' (Ok made)
+made_prepared P before after f f' s s' made written owed keeps same saves = record {
+  made = record { written = written; owed = owed };
+  keeps = keeps;
+  fault = λ is. absurd (cc is);
+  no_fault = λ not. same;
+  saves = saves;
+}
 
-pub sent_write : (P : Reads → Answer → Type 0) (before after : Option Files) (taken taken' : Option (List ℕ)) (f f' : ℕ)
-    (made : Result (Status × Vec ℕ Global) Stop) (result : Status)
-    → IfOk made (IsMade P before after) → IsSent taken taken' f f' made result → result ≡ WriteFault → Rose f f'
-sent_write P before after taken taken' f f' (Ok r) result made (inl w) is = absurd (not_write_fault r.0 made.written (sym w.0 ∙ is))
-sent_write P before after taken taken' f f' (Ok r) result made (inr w) is = w.1
-sent_write P before after taken taken' f f' (Err Stops.ReadFault) result made sent is =
-    let both : ReadFault ≡ WriteFault = sym sent.0 ∙ is in absurd (cc both)
-sent_write P before after taken taken' f f' (Err Stops.Memory) result made sent is = let both : Memory ≡ WriteFault = sym sent.0 ∙ is in
-    absurd (cc both)
-
-pub sent_usage : (P : Reads → Answer → Type 0) (before after : Option Files) (taken taken' : Option (List ℕ)) (f f' : ℕ)
-    (made : Result (Status × Vec ℕ Global) Stop) (result : Status)
-    → IfOk made (IsMade P before after) → IsSent taken taken' f f' made result → result ≡ Usage → ⊥
-sent_usage P before after taken taken' f f' (Ok r) result made (inl w) is = not_usage r.0 made.written (sym w.0 ∙ is)
-sent_usage P before after taken taken' f f' (Ok r) result made (inr w) is = let both : WriteFault ≡ Usage = sym w.0 ∙ is in cc both
-sent_usage P before after taken taken' f f' (Err Stops.ReadFault) result made sent is = let both : ReadFault ≡ Usage = sym sent.0 ∙ is in
-    cc both
-sent_usage P before after taken taken' f f' (Err Stops.Memory) result made sent is = let both : Memory ≡ Usage = sym sent.0 ∙ is in cc both
+-- the model file was read, then an answer to the model was made of the files after it
+pub prepared_more : (name : List ℕ) (how : How) (Rest : Parts → Reads → Answer → Type 0) (before mid after : Option Files)
+    (f f' f'' s s' s'' : ℕ) (m : Parts) (result : Result Made Stop)
+    → IsModelRead before mid name how m → Keeps before mid → f' ≡ f → s' ≡ s → IsPrepared (Rest m) mid after f' f'' s' s'' result
+    → IsPrepared (ReadsModel name how Rest) before after f f'' s s'' result
+prepared_more name how Rest before mid after f f' f'' s s' s'' m result read keeps same saves ready = record {
+  made = by result ready.made;
+  keeps = λ t known. keeps t (ready.keeps t known);
+  fault = λ is. subst (λ n. Rose n f'') same (ready.fault is);
+  no_fault = λ not. ready.no_fault not ∙ same;
+  saves = ready.saves ∙ saves;
+}
+  where
+    by : (r : Result Made Stop) → IfOk r (IsMade (Rest m) mid after) → IfOk r (IsMade (ReadsModel name how Rest) before after)
+    by (Ok made) is = record { written = is.written; owed = model_owed name how Rest before mid after m (answer_of made) read is.owed }
+    by (Err e) is = tt
 
 -- ---- from a request to the words of it
 
@@ -265,7 +284,7 @@ cut_more P Q o h a = record {
   saved = a.saved;
 }
 
-pub meets_more : (P Q : Reads → Answer → Type 0) (o : Outside) (s : Status) → ((rs : Reads) (a : Answer) → P rs a → Q rs a) →
+meets_more : (P Q : Reads → Answer → Type 0) (o : Outside) (s : Status) → ((rs : Reads) (a : Answer) → P rs a → Q rs a) →
     RunMeets P o s → RunMeets Q o s
 meets_more P Q o Answered h m = answered_more P Q o Answered h m
 meets_more P Q o NotProved h m = answered_more P Q o NotProved h m
@@ -278,24 +297,37 @@ meets_more P Q o WriteFault h m = cut_more P Q o h m
 meets_more P Q o Memory h m = m
 
 -- the run of words with this request
-pub request_run : (words : List Word) (q : Request) (rs : Reads) (a : Answer) → request_of words ≡ Some q → AnswersRequest q rs a →
+request_run : (words : List Word) (q : Request) (rs : Reads) (a : Answer) → request_of words ≡ Some q → AnswersRequest q rs a →
     IsRunOf words rs a
 request_run words q rs a e h = rw e h
 
--- all files of the request were begun, which are those that its words name
+-- what a command shows for its request it shows for the words of it
+pub asked_meets : (words : List Word) (q : Request) (o : Outside) (s : Status) → request_of words ≡ Some q → RunMeets (AnswersRequest q) o s
+    → RunMeets (IsRunOf words) o s
+asked_meets words q o s e = meets_more (AnswersRequest q) (IsRunOf words) o s (λ rs a h. request_run words q rs a e h)
+
+-- the first files of the request were begun, which are those that its words name
+pub began_first_asked : (words : List Word) (q : Request) (before after : Option Names) → request_of words ≡ Some q
+    → BeganFirst before after (files_named q) → BeganFirst before after (files_asked words)
+began_first_asked words q before after is began = rw is began
+
+-- and so were all of them
 pub began_asked : (words : List Word) (q : Request) (before after : Option Names) → request_of words ≡ Some q →
     Began before after (files_named q) → BeganFirst before after (files_asked words)
 began_asked words q before after is began =
-    let all : take (length (files_named q)) (files_asked words) ≡ files_named q = rw is (take-length (files_named q)) in
-    (length (files_named q), subst (Began before after) (sym all) began)
+    began_first_asked words q before after is (began_whole before after (files_named q) began)
 
 -- words that are no request
 pub usage_meets : (words : List Word) (files : Option Files) (taken taken' : Option (List ℕ)) (f f' : ℕ) (result : Status) →
     request_of words ≡ None
     → Writes taken taken' f f' Usage usage_text result → RunMeets (IsRunOf words) (shows files files taken taken') result
 usage_meets words files taken taken' f f' result none writes =
-    meets (IsRunOf words) files files taken taken' f f' Usage usage_text result (inl refl) (record {
+    meets (IsRunOf words) files files files taken taken' (says Usage usage_text) result (inl refl) (record {
       reads = [];
       agrees = none_read files;
       run = rw none (refl, refl);
-    }) writes
+    }) (by writes)
+  where
+    by : Writes taken taken' f f' Usage usage_text result → Delivers (shows files files taken taken') (says Usage usage_text) result
+    by (inl w) = inl (w.0, w.2, refl)
+    by (inr w) = inr (w.0, w.2, refl)

@@ -1,3 +1,4 @@
 -- What only the contracts of private functions and the proofs of this crate speak of.
 pub mod Made
 pub mod Writes
+pub mod TreeFiles

@@ -6,5 +6,8 @@ pub mod Answers
 pub mod Models
 pub mod Solve
 pub mod Show
+pub mod TreeTexts
+pub mod Trees
+pub mod Check
 pub mod Runs
 pub mod Internal

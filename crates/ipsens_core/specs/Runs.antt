@@ -1,10 +1,11 @@
 -- The run relation, between words, the files that are read and the answer; and what the shelf and the sink show of it.
-use Rattle.std.specs.Prelude.{◌≡◌, ◌⊎◌, ℕ, List, [], ◌∷◌, take, Option, None, Some}
+use Rattle.std.specs.Prelude.{◌≡◌, ◌≢◌, ◌⊎◌, ℕ, List, [], ◌∷◌, take, Option, None, Some}
 use Rattle.std.specs.Option.{MatchOption, ForSome, option_map_or}
 use Rattle.ips_io.specs.Causes.{Rose}
 use Rattle.ips_io.specs.Files.{Files, Names, file_of, Keeps, Takes, KeepsOthers}
 use Rattle.ipsens_core.specs.Answers.{Answer, says, ReadsNoMore}
 use Rattle.ipsens_core.specs.Reads.{Reads, Agrees}
+use Rattle.ipsens_core.specs.Check.{AnswersCheck}
 use Rattle.ipsens_core.specs.Show.{AnswersShow}
 use Rattle.ipsens_core.specs.Solve.{AnswersSolve}
 use Rattle.ips_words.specs.Commands.{Word, request_of}
@@ -19,11 +20,9 @@ use Rattle.ipsens_core.specs.declared.statuses.Status.TheVariants.{WriteFault, M
 
 -- what is owed to a request: a line for each command that is built. No words ask for the others
 abbrev pub AnswersRequest : Request → Reads → Answer → Type 0
-AnswersRequest (Solve model tree nodes depth pivots digits box_side) = AnswersSolve model (record {
-  digits = digits;
-  box_side = box_side;
-}) nodes depth pivots
-AnswersRequest (Check model tree digits box_side) = λ rs a. ⊥
+AnswersRequest (Solve model tree nodes depth pivots digits box_side) =
+    AnswersSolve model tree (record { digits = digits; box_side = box_side }) nodes depth pivots
+AnswersRequest (Check model tree digits box_side) = AnswersCheck model tree (record { digits = digits; box_side = box_side })
 AnswersRequest (Ask model tree questions digits box_side) = λ rs a. ⊥
 AnswersRequest (Sweep model sweep proof nodes depth pivots digits box_side) = λ rs a. ⊥
 AnswersRequest (Recheck model sweep proof digits box_side) = λ rs a. ⊥
@@ -54,6 +53,13 @@ files_asked words = option_map_or files_named (request_of words) []
 abbrev pub OneRose : ℕ → ℕ → ℕ → ℕ → Type 0
 OneRose saves saves_after faults faults_after = (Rose saves saves_after × (faults_after ≡ faults))
     ⊎ ((saves_after ≡ saves) × Rose faults faults_after)
+
+-- a failure ends a run exactly where one was counted: of reading by the shelf, of writing by the shelf as it saved or by the sink
+pub record HasCauses (faults faults_after saves saves_after writes writes_after : ℕ) (status : Status) : Type 0 where
+  pub read_fault : status ≡ ReadFault → Rose faults faults_after
+  pub no_read_fault : status ≢ ReadFault → faults_after ≡ faults
+  pub write_fault : status ≡ WriteFault → OneRose saves saves_after writes writes_after
+  pub no_write_fault : status ≢ WriteFault → (saves_after ≡ saves) × (writes_after ≡ writes)
 
 -- ---- what the outside shows
 

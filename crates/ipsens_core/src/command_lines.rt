@@ -1,12 +1,12 @@
 //! The top call: the words are read, and the command that they ask for is run.
 
 ghost use Rattle.std.specs.Prelude.{◌≡◌, ◌≢◌, ◌⊎◌, None, map, string_bytes};
-ghost use Rattle.ips_io.specs.Causes.{Rose};
 ghost use Rattle.ips_io.specs.Files.{BeganFirst};
-ghost use Rattle.ipsens_core.specs.Runs.{IsRunOf, OneRose, RunMeets, files_asked, shows};
+ghost use Rattle.ipsens_core.specs.Runs.{HasCauses, IsRunOf, RunMeets, files_asked, shows};
 ghost use Rattle.ips_words.specs.Commands.{request_of};
 
 use crate::answers::finish;
+use crate::check::check_at;
 use crate::show::show_at;
 use crate::solve::solve_at;
 use crate::statuses::Status;
@@ -15,20 +15,17 @@ use ips_words::{Request, USAGE, WordsError, request};
 use std::alloc::Global;
 
 /// Runs the command of the words over a shelf of files and a sink of output: the words are read, then the files of the command, then the
-/// whole text is made, then it is written. No failure of the shelf or the sink is hidden: each ends the run with its status. No file is
-/// begun but those that the words name, in their order.
+/// whole text and the bytes to save are made, then these are saved, and then the text is written. No failure of the shelf or the sink is
+/// hidden: each ends the run with its status. No file is begun but those that the words name, in their order.
 pub fn run<S: Shelf, K: Sink>(alloc: Global, words: &[String], shelf: &mut S, out: &mut K) -> Status
     ensures answer { RunMeets (IsRunOf (map string_bytes words.now)) (shows (S.files shelf.old) (S.files shelf.new) (K.taken out.old)
         (K.taken out.new)) result }
     ensures usage { result ≡ Status.Usage → request_of (map string_bytes words.now) ≡ None }
     ensures no_request { request_of (map string_bytes words.now) ≡ None → (result ≡ Status.Usage) ⊎ ((result ≡ Status.WriteFault) ⊎
         (result ≡ Status.Memory)) }
-    ensures read_cause { result ≡ Status.ReadFault → Rose (S.faults shelf.old) (S.faults shelf.new) }
-    ensures no_read_fault { result ≢ Status.ReadFault → S.faults shelf.new ≡ S.faults shelf.old }
-    ensures write_cause { result ≡ Status.WriteFault → OneRose (S.save_faults shelf.old) (S.save_faults shelf.new) (K.faults out.old)
-        (K.faults out.new) }
-    ensures no_write_fault { result ≢ Status.WriteFault → (S.save_faults shelf.new ≡ S.save_faults shelf.old) × (K.faults out.new ≡
-        K.faults out.old) }
+    ensures causes { HasCauses (S.faults shelf.old) (S.faults shelf.new) (S.save_faults shelf.old) (S.save_faults shelf.new) (K.faults
+        out.old) (K.faults out.new) result }
+    ensures unsaved { S.save_faults shelf.new ≢ S.save_faults shelf.old → K.taken out.new ≡ K.taken out.old }
     ensures begun { BeganFirst (S.begun_names shelf.old) (S.begun_names shelf.new) (files_asked (map string_bytes words.now)) }
 {
     let request = match request(alloc, words) {
@@ -38,6 +35,7 @@ pub fn run<S: Shelf, K: Sink>(alloc: Global, words: &[String], shelf: &mut S, ou
     };
     match &request {
         Request::Solve { .. } => solve_at(alloc, &request, shelf, out),
+        Request::Check { .. } => check_at(alloc, &request, shelf, out),
         Request::Show { .. } => show_at(alloc, &request, shelf, out),
         _ => unreachable!(),
     }

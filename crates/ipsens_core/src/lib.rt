@@ -2,15 +2,17 @@
 #![tactic(auto)]
 
 mod answers;
+mod check;
 mod command_lines;
 mod models;
 mod printed_texts;
 mod show;
 mod solve;
 mod statuses;
-#[cfg(test)]
-mod tests;
+mod tree_texts;
+mod trees;
 
+pub use check::check_at;
 pub use command_lines::run;
 pub use ips_words::{Request, WordsError, request};
 pub use show::show_at;

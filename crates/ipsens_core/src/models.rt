@@ -8,7 +8,7 @@ ghost use Rattle.mps_defs.specs.TextModels.{IsHow};
 ghost use Rattle.ipsens_core.specs.RefusalTexts.{refusal_text};
 ghost use Rattle.ipsens_core.specs.Internal.Made.{IsModelFile, IsModelText, IsRefusalOf, IsWithoutModel};
 
-use crate::answers::{Made, Stop};
+use crate::answers::{Made, Stop, says};
 use crate::printed_texts::{TOO_LONG, refusal_line};
 use crate::statuses::Status;
 use ip_defs::Name;
@@ -93,11 +93,11 @@ pub fn read_model<S: Shelf>(
 }
 
 /// The answer of a command without a model: the refusal, or why there is none.
-pub fn without_model(no_model: NoModel) -> Result<Made, Stop>
+pub fn without_model<'a>(no_model: NoModel) -> Result<Made<'a>, Stop>
     ensures { IsWithoutModel no_model result }
 {
     match no_model {
-        NoModel::Refused(text) => Ok((Status::Refused, text)),
+        NoModel::Refused(text) => Ok(says(Status::Refused, text)),
         NoModel::ReadFault => Err(Stop::ReadFault),
         NoModel::Memory => Err(Stop::Memory),
     }

@@ -6,12 +6,11 @@ ghost use Rattle.std.specs.Option.{ForSome};
 ghost use Rattle.mps_defs.specs.Numbers.{decimal_text};
 ghost use Rattle.branching.specs.Outcomes.{IsTrueOutcome};
 ghost use Rattle.ip_defs.specs.Program.{cost as cost_of};
-ghost use Rattle.ipsens_core.specs.Answers.{says};
 ghost use Rattle.mps_defs.specs.CanonicalText.{value_text as amount_text};
 ghost use Rattle.branching.specs.Counts.{nodes_of, skipped_of};
 ghost use Rattle.ipsens_core.specs.AnswerTexts.{best_lines, count_lines, value_lines};
 ghost use Rattle.mps_defs.specs.CanonicalText.{newline};
-ghost use Rattle.ipsens_core.specs.Solve.{claimed, limit_word, outcome_answer};
+ghost use Rattle.ipsens_core.specs.Solve.{claimed, limit_word, outcome_lines, outcome_status as status_of_outcome};
 ghost use Rattle.ipsens_core.specs.RefusalTexts.{on_column, refusal_text, refused_model, side_text, what_text};
 ghost use Rattle.ipsens_core.specs.AnswerTexts.{optimum_lines, value_line};
 
@@ -186,31 +185,28 @@ fn answer_text(
     Ok(text)
 }
 
-/// The text of an outcome, and whether it is an answer or a stop.
-pub fn outcome_text(
-    alloc: Global,
-    model: &IntModel,
-    outcome: &Outcome,
-) -> Result<(Status, String), Memory>
+/// Whether an outcome is an answer or a stop.
+pub fn outcome_status(outcome: &Outcome) -> Status
+    ensures { result ≡ status_of_outcome outcome.now }
+{
+    match outcome {
+        Outcome::Best { .. } | Outcome::Empty { .. } => Status::Answered,
+        Outcome::Budget { .. } => Status::Budget,
+    }
+}
+
+/// The text of an outcome.
+pub fn outcome_text(alloc: Global, model: &IntModel, outcome: &Outcome) -> Result<String, Memory>
     requires holds { IsTrueOutcome model.now outcome.now }
     requires nodes { nodes_of outcome.now ≤ 1000000 }
     requires skipped { skipped_of outcome.now ≤ 1000000 }
-    ensures { IfOk result (λ r. says r.0 (string_bytes r.1) ≡ outcome_answer model.now outcome.now) }
+    ensures { IfOk result (λ s. string_bytes s ≡ outcome_lines model.now outcome.now) }
 {
     let counts = counts_text(alloc, outcome)?;
     match outcome {
-        Outcome::Best { proof, .. } => {
-            let text = answer_text(alloc, model, &proof.claim, counts.as_str())?;
-            Ok((Status::Answered, text))
-        }
-        Outcome::Empty { .. } => {
-            let text = answer_text(alloc, model, &Claim::Empty, counts.as_str())?;
-            Ok((Status::Answered, text))
-        }
-        Outcome::Budget { what, best, .. } => {
-            let text = stop_text(alloc, model, *what, counts.as_str(), best)?;
-            Ok((Status::Budget, text))
-        }
+        Outcome::Best { proof, .. } => answer_text(alloc, model, &proof.claim, counts.as_str()),
+        Outcome::Empty { .. } => answer_text(alloc, model, &Claim::Empty, counts.as_str()),
+        Outcome::Budget { what, best, .. } => stop_text(alloc, model, *what, counts.as_str(), best),
     }
 }
 

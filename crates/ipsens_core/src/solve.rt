@@ -1,24 +1,22 @@
-//! The command `solve`: a model file is read, searched for a cheapest plan, and answered.
+//! The command `solve`: a model file is read, searched for a cheapest plan, and answered; the proof of an answer may be saved.
 
-ghost use Rattle.std.specs.Prelude.{◌≡◌, ◌≢◌, ◌∷◌, [], ◌<◌, ◌≤◌, IfOk};
+ghost use Rattle.std.specs.Prelude.{◌≡◌, ◌≢◌, ◌<◌, ◌≤◌, IfOk, Some, option_map};
+ghost use Rattle.branching.specs.BestFirst.{IsBestFirst};
 ghost use Rattle.branching.specs.Counts.{AreCountsWithin};
 ghost use Rattle.branching.specs.Outcomes.{IsRightOutcome, IsTrueOutcome};
 ghost use Rattle.branching.specs.Sizes.{AreAmple, IsAnswer};
 ghost use Rattle.ip_model.specs.Sizes.{allowance as most_nodes_of, first_crossed};
-ghost use Rattle.ips_io.specs.Causes.{Rose};
-ghost use Rattle.ips_io.specs.Files.{Began, Keeps};
-ghost use Rattle.mps_defs.specs.TextModels.{IsHow};
+ghost use Rattle.ips_io.specs.Files.{Began};
 ghost use Rattle.ips_words.specs.Requests.{AreLimits};
-ghost use Rattle.ipsens_core.specs.Answers.{says};
-ghost use Rattle.ipsens_core.specs.Internal.Made.{IsMade};
-ghost use Rattle.ipsens_core.specs.Runs.{AnswersRequest, OneRose, RunMeets, files_named, shows};
-ghost use Rattle.ipsens_core.specs.Solve.{AnswersSolve, HasOutcome, IsSolve, limits_for};
+ghost use Rattle.ipsens_core.specs.Internal.Made.{answer_of, file_saved, IsPrepared};
+ghost use Rattle.ipsens_core.specs.Runs.{AnswersRequest, HasCauses, RunMeets, files_named, shows};
+ghost use Rattle.ipsens_core.specs.Solve.{HasOutcome, IsProofSpelled, IsSolve, IsSpelled, limits_for, saved_outcome, saved_proof};
 
-use crate::answers::{Made, Stop, send};
+use crate::answers::{Made, Saved, Stop, send};
 use crate::models::{read_model, without_model};
-use crate::printed_texts::outcome_text;
+use crate::printed_texts::{outcome_status, outcome_text};
 use crate::statuses::Status;
-use branching::{Limits, Outcome, Steps, solve};
+use branching::{Limits, Outcome, Proof, Steps, solve};
 use ip_defs::{Memory, Name};
 use ip_model::{IntModel, allowance};
 use ips_io::{Shelf, Sink};
@@ -27,6 +25,7 @@ use mps_defs::How;
 use std::alloc::Global;
 use std::marker::Brand;
 use std::sync::ledger::{Blank, Ledger};
+use tree_format::encode;
 
 /// Searches a model for a cheapest plan, with a counter of steps that stands at 0.
 fn searched<L: Ledger>(
@@ -45,18 +44,54 @@ fn searched<L: Ledger>(
     ensures right { IfOk result (IsRightOutcome model.now limits) }
     ensures holds { IfOk result (IsTrueOutcome model.now) }
     ensures ends { IfOk result (λ o. AreAmple model.now limits → IsAnswer o) }
+    ensures first { IfOk result (IsBestFirst model.now) }
     ensures counts { IfOk result (AreCountsWithin limits) }
 {
     let mut steps = Steps::<L>::new(blank);
     solve(alloc, model, limits, &mut steps)
 }
 
-/// Searches a model within the limits that were asked for, and makes the text of the outcome.
-fn solved(alloc: Global, model: &IntModel, asked: Limits) -> Result<Made, Memory>
+/// The file of a proof, under a name.
+fn saved<'a>(alloc: Global, name: &'a Name, proof: &Proof) -> Result<Saved<'a>, Memory>
+    requires { IsProofSpelled proof.now }
+    ensures { IfOk result (λ file. Some (file_saved file) ≡ saved_proof (Some name.now) proof.now) }
+{
+    let bytes = encode(alloc, proof)?;
+    Ok(Saved { name, bytes })
+}
+
+/// The file of an outcome that is no stop, where a name is given.
+fn saved_of<'a>(
+    alloc: Global,
+    tree: &'a Option<Name>,
+    outcome: &Outcome,
+) -> Result<Option<Saved<'a>>, Memory>
+    requires { IsSpelled outcome.now }
+    ensures { IfOk result (λ file. option_map file_saved file ≡ saved_outcome tree.now outcome.now) }
+{
+    match tree {
+        Some(name) => match outcome {
+            Outcome::Best { proof, .. } | Outcome::Empty { proof, .. } => {
+                let file = saved(alloc, name, proof)?;
+                Ok(Some(file))
+            }
+            Outcome::Budget { .. } => Ok(None),
+        },
+        None => Ok(None),
+    }
+}
+
+/// Searches a model within the limits that were asked for, and makes the text of the outcome and the file of its proof.
+fn solved<'a>(
+    alloc: Global,
+    model: &IntModel,
+    asked: Limits,
+    tree: &'a Option<Name>,
+) -> Result<Made<'a>, Memory>
     requires limits { AreLimits asked.nodes asked.depth asked.pivots }
     requires uncrossed { first_crossed model.now ≡ None }
-    ensures outcome { IfOk result (λ r. HasOutcome model.now (limits_for model.now asked.nodes asked.depth asked.pivots) (says r.0
-        r.1.items)) }
+    ensures outcome { IfOk result (λ made. HasOutcome model.now (limits_for model.now asked.nodes asked.depth asked.pivots) tree.now
+        (answer_of made)) }
 {
     let parts = model.parts();
     let limits = Limits {
@@ -64,65 +99,35 @@ fn solved(alloc: Global, model: &IntModel, asked: Limits) -> Result<Made, Memory
         ..asked
     };
     let outcome = searched::<Brand>(alloc, model, limits, Blank::new(1))?;
-    let (status, text) = outcome_text(alloc, model, &outcome)?;
-    Ok((status, text.into_bytes()))
+    let text = outcome_text(alloc, model, &outcome)?;
+    let saved = saved_of(alloc, tree, &outcome)?;
+    Ok(Made {
+        status: outcome_status(&outcome),
+        text: text.into_bytes(),
+        saved,
+    })
 }
 
 /// Reads the model file, and makes the answer.
-fn answer<S: Shelf>(
+fn answer<'a, S: Shelf>(
     alloc: Global,
-    name: &Name,
-    how: How,
-    asked: Limits,
+    request: &'a Request,
     shelf: &mut S,
-) -> Result<Made, Stop>
-    requires how { IsHow how }
-    requires limits { AreLimits asked.nodes asked.depth asked.pivots }
-    ensures made { IfOk result (IsMade (AnswersSolve name.now how asked.nodes asked.depth asked.pivots) (S.files shelf.old) (S.files
-        shelf.new)) }
-    ensures keeps { Keeps (S.files shelf.old) (S.files shelf.new) }
-    ensures names { Began (S.begun_names shelf.old) (S.begun_names shelf.new) (name.now ∷ []) }
-    ensures saves { S.save_faults shelf.new ≡ S.save_faults shelf.old }
-    ensures fault { result ≡ Err Stop.ReadFault → Rose (S.faults shelf.old) (S.faults shelf.new) }
-    ensures no_fault { result ≢ Err Stop.ReadFault → S.faults shelf.new ≡ S.faults shelf.old }
-{
-    match read_model(alloc, name, how, shelf) {
-        Ok(model) => match solved(alloc, &model, asked) {
-            Ok(made) => Ok(made),
-            Err(Memory) => Err(Stop::Memory),
-        },
-        Err(no_model) => without_model(no_model),
-    }
-}
-
-/// Answers a request to solve: the model file is read, the whole text is made, and then it is written.
-pub fn solve_at<S: Shelf, K: Sink>(
-    alloc: Global,
-    request: &Request,
-    shelf: &mut S,
-    out: &mut K,
-) -> Status
-    requires command { IsSolve request.now }
-    ensures answer { RunMeets (AnswersRequest request.now) (shows (S.files shelf.old) (S.files shelf.new) (K.taken out.old) (K.taken
-        out.new)) result }
-    ensures read_cause { result ≡ Status.ReadFault → Rose (S.faults shelf.old) (S.faults shelf.new) }
-    ensures no_read_fault { result ≢ Status.ReadFault → S.faults shelf.new ≡ S.faults shelf.old }
-    ensures write_cause { result ≡ Status.WriteFault → OneRose (S.save_faults shelf.old) (S.save_faults shelf.new) (K.faults out.old)
-        (K.faults out.new) }
-    ensures no_write_fault { result ≢ Status.WriteFault → (S.save_faults shelf.new ≡ S.save_faults shelf.old) × (K.faults out.new ≡
-        K.faults out.old) }
-    ensures begun { Began (S.begun_names shelf.old) (S.begun_names shelf.new) (files_named request.now) }
-    ensures no_usage { result ≡ Status.Usage → ⊥ }
+) -> Result<Made<'a>, Stop>
+    requires { IsSolve request.now }
+    ensures prepared { IsPrepared (AnswersRequest request.now) (S.files shelf.old) (S.files shelf.new) (S.faults shelf.old)
+        (S.faults shelf.new) (S.save_faults shelf.old) (S.save_faults shelf.new) result }
+    ensures names { Began (S.begun_names shelf.old) (S.begun_names shelf.new) (files_named request.now) }
 {
     match request {
         Request::Solve {
             model,
+            tree,
             nodes,
             depth,
             pivots,
             digits,
             box_side,
-            ..
         } => {
             let how = How {
                 digits: *digits,
@@ -133,9 +138,32 @@ pub fn solve_at<S: Shelf, K: Sink>(
                 depth: *depth,
                 pivots: *pivots,
             };
-            let made = answer(alloc, model, how, asked, shelf);
-            send(out, made)
+            match read_model(alloc, model, how, shelf) {
+                Ok(model) => Ok(solved(alloc, &model, asked, tree)?),
+                Err(no_model) => without_model(no_model),
+            }
         }
         _ => unreachable!(),
     }
+}
+
+/// Answers a request to solve: the model file is read, the whole text and the bytes of the proof are made, then the proof is saved, and
+/// then the text is written.
+pub fn solve_at<S: Shelf, K: Sink>(
+    alloc: Global,
+    request: &Request,
+    shelf: &mut S,
+    out: &mut K,
+) -> Status
+    requires command { IsSolve request.now }
+    ensures answer { RunMeets (AnswersRequest request.now) (shows (S.files shelf.old) (S.files shelf.new) (K.taken out.old) (K.taken
+        out.new)) result }
+    ensures causes { HasCauses (S.faults shelf.old) (S.faults shelf.new) (S.save_faults shelf.old) (S.save_faults shelf.new) (K.faults
+        out.old) (K.faults out.new) result }
+    ensures unsaved { S.save_faults shelf.new ≢ S.save_faults shelf.old → K.taken out.new ≡ K.taken out.old }
+    ensures begun { Began (S.begun_names shelf.old) (S.begun_names shelf.new) (files_named request.now) }
+    ensures no_usage { result ≢ Status.Usage }
+{
+    let made = answer(alloc, request, shelf);
+    send(shelf, out, made)
 }

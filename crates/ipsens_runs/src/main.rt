@@ -9,7 +9,7 @@ use std::alloc::{AllocError, Global};
 use std::io;
 
 /// Each command line, without the program's name. The models are in `data`.
-const COMMANDS: [&str; 11] = [
+const COMMANDS: [&str; 16] = [
     "solve three.mps",
     "solve odd.mps --nodes 50",
     "solve odd.mps --depth 0",
@@ -21,6 +21,11 @@ const COMMANDS: [&str; 11] = [
     "show long.mps",
     "show missing.mps",
     "solve three.mps --nodes",
+    "solve three.mps --tree saved.tree",
+    "check three.mps saved.tree",
+    "check dearer.mps saved.tree",
+    "check halves.mps saved.tree",
+    "check three.mps three.mps",
 ];
 
 /// The words of a line.

@@ -1,4 +1,4 @@
-use Rattle.leaf_cert.specs.Room.{FitsScratch}
+use Rattle.leaf_cert.specs.Scratches.{FitsScratch}
 use Rattle.ipsens_bench.proofs.certificates.bound_after.Given as goal
 
 abbrev pub invariant-loop : goal.invariant-loop

@@ -1,17 +1,19 @@
-use Rattle.std.proofs.Common.{subst, sym}
-use Rattle.ipsens_core.specs.Runs.{AnswersRequest, RunMeets, shows}
-use Rattle.ipsens_core.specs.Show.{AnswersShow}
-use Rattle.ipsens_core.proofs.RunLaws.{sent_meets}
+use Rattle.std.proofs.Common.{sym, ◌∙◌}
+use Rattle.ipsens_core.proofs.RunLaws.{made_written, sent_causes, sent_meets}
 use Rattle.ipsens_core.proofs.show.show_at.Goals as goal
 
+pub send-requires : goal.send-requires
+send-requires g c = made_written _ _ _ _ _ _ _ _ c.answer-made.ensures.prepared
+
 pub returns-clause-answer : goal.returns-clause-answer
-returns-clause-answer g c =
-    let files = g.S.Shelf.files c.args.shelf.now in
-    let files_after = g.S.Shelf.files c.answer-made.new.shelf in
-    let taken = g.K.Sink.taken c.args.out.now in
-    let taken_after = g.K.Sink.taken c.send.new.out in
-    let owed = AnswersShow c.in-Show.model (record { digits = c.in-Show.digits; box_side = c.in-Show.box_side }) in
-    let meets = sent_meets owed files files_after taken taken_after (g.K.Sink.faults c.args.out.now) (g.K.Sink.faults c.send.new.out)
-    c.answer-made.result c.send.result
-    c.answer-made.ensures.made c.answer-made.ensures.keeps c.send.ensures.sent in
-    subst (λ q. RunMeets (AnswersRequest q) (shows files files_after taken taken_after) c.send.result) (sym c.in-Show.is) meets
+returns-clause-answer g c = sent_meets _ _ _ _ _ _ _ _ _ _ _ _ c.answer-made.ensures.prepared c.send.ensures.sent
+
+pub returns-clause-causes : goal.returns-clause-causes
+returns-clause-causes g c = sent_causes _ _ _ _ _ _ _ _ _ _ _ _ _ c.answer-made.ensures.prepared c.send.ensures.read_fault
+    c.send.ensures.no_read_fault c.send.ensures.write_fault c.send.ensures.no_write_fault c.send.ensures.faults
+
+pub returns-clause-unsaved : goal.returns-clause-unsaved
+returns-clause-unsaved g c = λ not. c.send.ensures.unsaved (λ same. not (same ∙ c.answer-made.ensures.prepared.saves))
+
+pub returns-clause-begun : goal.returns-clause-begun
+returns-clause-begun g c = λ now is. c.answer-made.ensures.names now (sym c.send.ensures.names ∙ is)

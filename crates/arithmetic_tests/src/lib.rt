@@ -1,0 +1,7 @@
+//! Tests of the exact numbers, in a crate of their own: a crate that holds its tests is proved once more with them.
+#![tactic(auto)]
+
+#[cfg(test)]
+mod fractions;
+#[cfg(test)]
+mod numerals;

@@ -1,0 +1,11 @@
+//! Tests of model files, shelves and command lines, in a crate of their own: a crate that holds its tests is proved once more with them.
+#![tactic(auto)]
+
+#[cfg(test)]
+mod printing;
+#[cfg(test)]
+mod reading;
+#[cfg(test)]
+mod requests;
+#[cfg(test)]
+mod shelves;

@@ -1,0 +1,14 @@
+//! Tests of models, their certificates, trees, files of trees and verdicts, in a crate of their own: a crate that holds its tests is proved
+//! once more with them.
+#![tactic(auto)]
+
+#[cfg(test)]
+mod encodings;
+#[cfg(test)]
+mod leaf_bounds;
+#[cfg(test)]
+mod models;
+#[cfg(test)]
+mod trees;
+#[cfg(test)]
+mod verdicts;

@@ -34,7 +34,7 @@ use Rattle.mps_reader.specs.Internal.Progress.{upper_said, AreApart, Stands, Sec
 use Rattle.mps_reader.specs.Internal.Progress.{ColumnStands, BoundsStand}
 use Rattle.mps_reader.proofs.StayLaws.{first_lines_stay, column_names_stay, sections_stay, rows_stand_stay, entries_stay}
 use Rattle.mps_reader.proofs.StayLaws.{columns_stand_stay}
-use Rattle.mps_reader.proofs.PlaceLaws.{place_of_name}
+use Rattle.text_lines.proofs.NameLaws.{place_of_name}
 use Rattle.ip_defs.proofs.ListLaws.{filter-append}
 use Rattle.std.proofs.lemmas.Bool.{true≢false}
 use Rattle.mps_defs.proofs.FaultLaws.{faults-add}

@@ -51,7 +51,8 @@ coefs_above (p ∷ ps) =
 
 column_same : (p : ℕ × Column) → column_limits (p.0, clamped_column p.1) ≡ column_limits p
 column_same p =
-    ap (λ t. limit_at (is_long p.1.name) Name p.0 ++ limit_at t Cost p.0 ++ limit_at (exceeds (2 ^ 24) (clamped p.1.lo)) Lower p.0 ++ limit_at
+    ap (λ t. limit_at (is_long p.1.name) Name p.0 ++ limit_at t Cost p.0
+    ++ limit_at (exceeds (2 ^ 24) (clamped p.1.lo)) Lower p.0 ++ limit_at
     (exceeds (2 ^ 24) (clamped p.1.hi)) Upper p.0) (clamp_above (2 ^ 40) p.1.cost (omega arith))
     ∙ ap (λ t. limit_at (is_long p.1.name) Name p.0 ++ limit_at (exceeds (2 ^ 40) p.1.cost) Cost p.0 ++ limit_at t Lower p.0 ++ limit_at
     (exceeds (2 ^ 24) (clamped p.1.hi)) Upper p.0) (clamp_above (2 ^ 24) p.1.lo (omega arith))

@@ -5,7 +5,6 @@ pub mod ColumnLineLaws
 pub mod CountLaws
 pub mod EntryLaws
 pub mod FaultLaws
-pub mod FieldLaws
 pub mod ModelListLaws
 pub mod GrowthLaws
 pub mod LimitedLaws

@@ -9,6 +9,7 @@ use Rattle.std.proofs.Common.{String, Global, sym, ◌∙◌, ap, arith}
 use Rattle.std.proofs.lemmas.Slice.Eq.{bytes_eq-Decides}
 use Rattle.mps_defs.specs.Lists.{is_among, last_of}
 use Rattle.mps_reader.specs.Internal.Progress.{AreApart}
+use Rattle.text_lines.proofs.NameLaws.{place_of_name}
 use Rattle.std.proofs.lemmas.List.{map-append}
 use Rattle.mps_defs.proofs.ListLaws.{any_of_map}
 use Rattle.mps_defs.proofs.PlaceLaws.{position_cons, position_append, place_where_any, no_place}
@@ -34,36 +35,11 @@ apart_more names name apart new i other there =
     (position_cons (bytes_eq name) name [] ∙ ap (λ t. if t then Some 0 else None) ((bytes_eq-Decides name name).1 refl))
     ∙ ap Some (omega (arith, e)))
 
--- where a set of names finds one
-pub place_of_name : (keys : List (String Global)) (name : List ℕ)
-    → position (λ k. bytes_eq name (string_bytes k)) keys ≡ position (bytes_eq name) (map string_bytes keys)
-place_of_name [] name = refl
-place_of_name (k ∷ keys) name =
-    position_cons (λ s. bytes_eq name (string_bytes s)) k keys
-    ∙ ap (λ o. if bytes_eq name (string_bytes k) then Some 0 else option_map suc o) (place_of_name keys name)
-    ∙ sym (position_cons (bytes_eq name) (string_bytes k) (map string_bytes keys))
-
 -- so does it for a name that is the same
 pub placed : (keys : List (String Global)) (name other : List ℕ) (o : Option ℕ) → other ≡ name
     → o ≡ position (λ k. bytes_eq name (string_bytes k)) keys → position (bytes_eq other) (map string_bytes keys) ≡ o
 placed keys name other o same at =
     ap (λ n. position (bytes_eq n) (map string_bytes keys)) same ∙ sym (place_of_name keys name) ∙ sym at
-
--- a set of names takes a new one at its end
-pub name_added : (keys : List (String Global)) (s : String Global) (name : List ℕ) → string_bytes s ≡ name
-    → position (λ k. bytes_eq name (string_bytes k)) keys ≡ None
-    → map string_bytes (if list_any (string_eq s) keys then keys else keys ++ s ∷ []) ≡ map string_bytes keys ++ name ∷ []
-name_added keys s name is none =
-    ap (λ t. map string_bytes (if t then keys else keys ++ s ∷ [])) absent
-    ∙ map-append string_bytes keys (s ∷ [])
-    ∙ ap (λ n. map string_bytes keys ++ n ∷ []) is
-  where
-    absent : list_any (string_eq s) keys ≡ false
-    absent =
-        any_of_map (bytes_eq (string_bytes s)) string_bytes keys
-        ∙ ap (λ n. list_any (bytes_eq n) (map string_bytes keys)) is
-        ∙ sym (place_where_any (bytes_eq name) (map string_bytes keys))
-        ∙ ap is_some (sym (place_of_name keys name) ∙ none)
 
 -- the last element by its number
 pub last_by_number : {A : Type 0} (xs : List A) → last_of xs ≡ slice_get xs (length xs - 1)

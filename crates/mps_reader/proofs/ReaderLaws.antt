@@ -74,13 +74,15 @@ field_when t p = when t (first_field p)
 pub words_are : (ps : List (ℕ × List ℕ)) → words_of (lines_by ps) ≡ map first_field (filter is_section_line ps)
 words_are ps = by_last (λ qs. words_of (lines_by qs) ≡ map first_field (filter is_section_line qs)) refl more ps
   where
-    by : (qs : List (ℕ × List ℕ)) (p : ℕ × List ℕ) (t : Bool) → is_section_line p ≡ t → words_of (lines_by qs) ≡ map first_field (filter is_section_line qs)
+    by : (qs : List (ℕ × List ℕ)) (p : ℕ × List ℕ) (t : Bool) → is_section_line p ≡ t
+        → words_of (lines_by qs) ≡ map first_field (filter is_section_line qs)
         → words_of (lines_by qs ++ line_of (qs, p) ∷ []) ≡ map first_field (filter is_section_line qs) ++ field_when t p
     by qs p true e h =
         words_grow (lines_by qs) (line_of (qs, p)) (ap not e)
         ∙ ap (λ w. words_of (lines_by qs) ++ w ∷ []) (last_word-add qs p ∙ ap (λ t. if t then first_field p else last_word qs) e)
         ∙ ap (λ ws. ws ++ first_field p ∷ []) h
-    by qs p false e h = words_stay (lines_by qs) (line_of (qs, p)) (ap not e) ∙ h ∙ sym (append-nil (map first_field (filter is_section_line qs)))
+    by qs p false e h = words_stay (lines_by qs) (line_of (qs, p)) (ap not e) ∙ h
+        ∙ sym (append-nil (map first_field (filter is_section_line qs)))
 
     one : (p : ℕ × List ℕ) (t : Bool) → field_when t p ≡ map first_field (cond t (p ∷ []) [])
     one p true = refl
@@ -98,7 +100,8 @@ words_are ps = by_last (λ qs. words_of (lines_by qs) ≡ map first_field (filte
 -- the word of the last section is that of the last section line
 pub last_word_of : (ps : List (ℕ × List ℕ)) → last_section (words_of (lines_by ps)) ≡ last_word ps
 last_word_of ps =
-    ap last_section (words_are ps) ∙ ap (λ o. unwrap_or o []) (last_of_map first_field (filter is_section_line ps)) ∙ by (last_of (filter is_section_line ps))
+    ap last_section (words_are ps) ∙ ap (λ o. unwrap_or o []) (last_of_map first_field (filter is_section_line ps))
+    ∙ by (last_of (filter is_section_line ps))
   where
     by : (o : Option (ℕ × List ℕ)) → unwrap_or (option_map first_field o) [] ≡ option_map_or first_field o []
     by None = refl
@@ -131,7 +134,8 @@ item_line ps p e =
     made : Bool → List ℕ → Line
     made t word = record { number = p.0; is_item = t; section = word; fields = fields_of p.1 }
 
-opening_line : (ps : List (ℕ × List ℕ)) (p : ℕ × List ℕ) → is_section_line p ≡ true → line_of (ps, p) ≡ opening p.0 (fields_of p.1) (first_field p)
+opening_line : (ps : List (ℕ × List ℕ)) (p : ℕ × List ℕ) → is_section_line p ≡ true
+    → line_of (ps, p) ≡ opening p.0 (fields_of p.1) (first_field p)
 opening_line ps p e =
     ap (λ t. made (not t) (last_word (ps ++ p ∷ []))) e
     ∙ ap (made false) (last_word-add ps p ∙ ap (λ t. if t then first_field p else last_word ps) e)

@@ -22,7 +22,8 @@ use Rattle.mps_reader.proofs.StayLaws.{column_lines_stay, sections_stay, columns
 use Rattle.mps_reader.proofs.StayLaws.{column_names_stay}
 use Rattle.mps_reader.proofs.SectionLaws.{later_is_empty}
 use Rattle.ip_defs.proofs.ListLaws.{none_append}
-use Rattle.mps_reader.proofs.PlaceLaws.{apart_more, place_of_name, get_of_more}
+use Rattle.mps_reader.proofs.PlaceLaws.{apart_more, get_of_more}
+use Rattle.text_lines.proofs.NameLaws.{place_of_name}
 use Rattle.mps_defs.proofs.FaultLaws.{faults-add}
 use Rattle.mps_defs.proofs.LineLaws.{items_of-append, items_stay}
 use Rattle.mps_defs.proofs.ListLaws.{by_last}

@@ -6,8 +6,6 @@ use Rattle.std.specs.List.{list_any, slice_split, enumerate_from}
 use Rattle.std.proofs.Common.{sym, ◌∙◌, ap, subst, arith, get_or}
 use Rattle.std.proofs.lemmas.List.{take_more, take-append-drop, length-map, length-take-le, append-nil, append_assoc, map-append}
 use Rattle.std.proofs.lemmas.Option.{slice_get_within, slice_get-map, slice_get-get_or, get_or_from_slice_get}
-use Rattle.std.proofs.lemmas.List.Splits.{length-slice_split}
-use Rattle.std.proofs.lemmas.List.Sums.{count_by-le-length}
 use Rattle.std.proofs.lemmas.List.Folds.{list_any-append}
 use Rattle.ip_defs.specs.Lists.{first_of, when}
 use Rattle.mps_defs.specs.Lists.{with_earlier, after_those, through_first}
@@ -218,7 +216,8 @@ next_refused xs i n x new r e next is =
 pub next_goes_on : (xs : List (List ℕ)) (i n : ℕ) (x : List ℕ) (new : Draft) (r : Result Bool MpsError) (ended : Bool)
     → NextTaken xs i n x new r
     → r ≡ Ok ended → ended ≡ false
-    → (n + 1 ≡ i + 1) × (list_any is_end_line (read_from 1 (take (i + 1) xs)) ≡ false) × Stands (lines_by (read_from 1 (take (i + 1) xs))) new
+    → (n + 1 ≡ i + 1) × (list_any is_end_line (read_from 1 (take (i + 1) xs)) ≡ false)
+    × Stands (lines_by (read_from 1 (take (i + 1) xs))) new
 next_goes_on xs i n x new r ended next is on =
     let here : IsLineTaken (read_from 1 (take i xs)) (i + 1, without_return x) new (Ok ended) =
     subst (λ k. IsLineTaken (read_from 1 (take i xs)) (k + 1, without_return x) new (Ok ended)) next.1
@@ -229,7 +228,3 @@ next_goes_on xs i n x new r ended next is on =
           (goes_on (read_from 1 (take i xs)) (i + 1, without_return x) next.2 (sym here.0 ∙ on)),
       subst (λ ps. Stands (lines_by ps) new) more here.1,
     )
-
--- a text has at most one line more than it has bytes
-pub few_lines : (text : List ℕ) → length (slice_split is_line_end text) ≤ length text + 1
-few_lines text = omega (arith, length-slice_split is_line_end text, count_by-le-length is_line_end text)

@@ -8,7 +8,6 @@ mod column_rules;
 mod columns;
 mod draft;
 mod entries;
-mod fields;
 mod kept_sets;
 mod lines;
 mod models;

@@ -13,8 +13,7 @@ ghost use Rattle.mps_reader.specs.Internal.Reading.{IsDraftOf, IsLineTaken, last
 use crate::bounds::take_bound_line;
 use crate::columns::take_column_line;
 use crate::draft::{Draft, Taken};
-use crate::fields::fields_of;
-use crate::lines::{cut_return, is_comment, is_indented, lines_in};
+use crate::lines::is_indented;
 use crate::models::model_of;
 use crate::right_sides::take_set_line;
 use crate::rows::take_row_line;
@@ -22,6 +21,7 @@ use crate::sections::{Section, last_section, take_section};
 use ip_model::IntModel;
 use mps_defs::{How, MpsError};
 use std::alloc::Global;
+use text_lines::{cut_return, fields_of, is_comment, lines_in};
 
 /// Takes a data line, which belongs to the last section. `SectionOrder` comes where ROWS is missing; the other faults are those of its
 /// section.

@@ -1,6 +1,6 @@
 use Rattle.std.specs.Prelude.{map, string_bytes}
 use Rattle.std.proofs.Common.{◌∙◌, ap, rules}
-use Rattle.mps_reader.proofs.PlaceLaws.{name_added}
+use Rattle.text_lines.proofs.NameLaws.{name_added}
 use Rattle.mps_reader.proofs.columns.add_column.Goals as goal
 
 pub returns-clause-added : goal.returns-clause-added

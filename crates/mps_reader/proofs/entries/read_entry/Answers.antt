@@ -4,7 +4,7 @@ use Rattle.ip_defs.specs.Lists.{first_of, when}
 use Rattle.mps_defs.specs.Lists.{is_among}
 use Rattle.mps_defs.specs.Numbers.{is_number}
 use Rattle.mps_defs.specs.declared.reading.MpsError.TheVariants as Out
-use Rattle.mps_reader.proofs.PlaceLaws.{place_of_name}
+use Rattle.text_lines.proofs.NameLaws.{place_of_name}
 use Rattle.mps_reader.proofs.TakingLaws.{met, not_met, where_none}
 use Rattle.mps_defs.proofs.PlaceLaws.{unknown, known}
 use Rattle.mps_reader.proofs.entries.read_entry.Goals as goal

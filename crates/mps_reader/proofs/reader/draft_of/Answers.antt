@@ -7,7 +7,8 @@ use Rattle.mps_defs.specs.Records.{is_line_end, is_end_line}
 use Rattle.mps_defs.specs.Faults.{all_line_faults}
 use Rattle.mps_reader.specs.Internal.Progress.{Stands, IsFirstFault}
 use Rattle.mps_reader.specs.Internal.Reading.{lines_by}
-use Rattle.mps_reader.proofs.TextLaws.{all_read, few_lines, next_ended, next_goes_on, next_refused, next_taken, read_from, said_by}
+use Rattle.text_lines.proofs.CountLaws.{few_lines}
+use Rattle.mps_reader.proofs.TextLaws.{all_read, next_ended, next_goes_on, next_refused, next_taken, read_from, said_by}
 use Rattle.mps_reader.proofs.reader.draft_of.Goals as goal
 
 pub overflow_add-number : goal.overflow_add-number

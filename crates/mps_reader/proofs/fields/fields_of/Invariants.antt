@@ -1,7 +1,0 @@
-use Rattle.std.proofs.Common.{◌≡◌, take}
-use Rattle.std.specs.Prelude.{map, flat_map}
-use Rattle.mps_reader.proofs.FieldLaws.{parts_of}
-use Rattle.mps_reader.proofs.fields.fields_of.Given as goal
-
-abbrev pub invariant-loop-word : goal.invariant-loop-word
-invariant-loop-word l = map (λ x. x.now) l.fields.items ≡ flat_map parts_of (map (λ x. x.now) (take l.word-index l.word-items))

@@ -1,0 +1,9 @@
+pub mod AnswerLaws
+pub mod DirectionLaws
+pub mod DistinctLaws
+pub mod FollowLaws
+pub mod LineLaws
+pub mod MadeLaws
+pub mod OpenLaws
+pub mod SweepLaws
+pub mod TakingLaws

@@ -1,0 +1,4 @@
+pub mod Internal
+pub mod Lines
+pub mod QuestionFiles
+pub mod SweepFiles

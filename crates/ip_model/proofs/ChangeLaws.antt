@@ -1,7 +1,7 @@
 -- A program in which the number at a place is changed: it keeps its shape, and all limits but that on the count of coefficients, where
 -- the new number keeps to its own; and what is changed by f is replaced by what f makes of the number there.
-use Rattle.std.specs.Prelude.{◌≡◌, ◌≢◌, ℕ, zero, suc, ◌^◌, ◌<◌, ◌≤◌, ◌==◌, nat_lt, Bool, true, false, List, [], ◌∷◌, length, map, Option, Some}
-use Rattle.std.specs.Prelude.{None, option_map, option_and_then, slice_get, slice_set, ℤ, pos, negsuc, ◌+ℤ◌, cond, sum_by}
+use Rattle.std.specs.Prelude.{◌≡◌, ◌≢◌, ℕ, zero, suc, ◌^◌, ◌<◌, ◌≤◌, ◌==◌, nat_lt, Bool, true, false, List, [], ◌∷◌, length, map}
+use Rattle.std.specs.Prelude.{Option, Some, None, option_map, option_and_then, slice_get, slice_set, ℤ, pos, negsuc, ◌+ℤ◌, cond, sum_by}
 use Rattle.std.specs.Int.RustNames.{unsigned_abs}
 use Rattle.std.specs.Option.{ForSome}
 use Rattle.std.proofs.Common.{arith, refl, ap, sym, subst, ◌∙◌}
@@ -203,12 +203,16 @@ same_side : (f : ℤ → ℤ) (o : Option ℤ) → option_map f o ≡ option_map
 same_side f None = refl
 same_side f (Some z) = refl
 
-pub replaced : (m : Parts) (place : Place) (f : ℤ → ℤ) → IsWithinLimits m → changed m place f ≡ changed m place (λ old. f (number_of m place))
-replaced m (Cost j) f limits = ap (with_columns m) (changed_alike (with_cost f) (with_cost (λ old. f (at (costs_of m) j))) m.columns j (λ c g.
+pub replaced : (m : Parts) (place : Place) (f : ℤ → ℤ) → IsWithinLimits m
+    → changed m place f ≡ changed m place (λ old. f (number_of m place))
+replaced m (Cost j) f limits = ap (with_columns m)
+    (changed_alike (with_cost f) (with_cost (λ old. f (at (costs_of m) j))) m.columns j (λ c g.
     ap (λ z. record { name = c.name; cost = f z; lo = c.lo; hi = c.hi }) (sym (cost_of_column m j c g))))
-replaced m (Lower j) f limits = ap (with_columns m) (changed_alike (with_lower f) (with_lower (λ old. f (low_at (box_of m) j))) m.columns j (λ c g.
+replaced m (Lower j) f limits = ap (with_columns m)
+    (changed_alike (with_lower f) (with_lower (λ old. f (low_at (box_of m) j))) m.columns j (λ c g.
     ap (λ s. record { name = c.name; cost = c.cost; lo = f s.0; hi = c.hi }) (sym (side_at m j c g))))
-replaced m (Upper j) f limits = ap (with_columns m) (changed_alike (with_upper f) (with_upper (λ old. f (high_at (box_of m) j))) m.columns j (λ c g.
+replaced m (Upper j) f limits = ap (with_columns m)
+    (changed_alike (with_upper f) (with_upper (λ old. f (high_at (box_of m) j))) m.columns j (λ c g.
     ap (λ s. record { name = c.name; cost = c.cost; lo = c.lo; hi = f s.1 }) (sym (side_at m j c g))))
 replaced m (Low i) f limits = ap (with_rows m) (changed_alike (with_low f)
     (with_low (λ old. f (or_zero (option_and_then (λ (r : Row). r.low) (slice_get m.rows i))))) m.rows i (λ r g.
@@ -217,7 +221,8 @@ replaced m (Low i) f limits = ap (with_rows m) (changed_alike (with_low f)
 replaced m (High i) f limits = ap (with_rows m) (changed_alike (with_high f)
     (with_high (λ old. f (or_zero (option_and_then (λ (r : Row). r.high) (slice_get m.rows i))))) m.rows i (λ r g.
     ap (λ o. record { name = r.name; decimals = r.decimals; coefs = r.coefs; low = r.low; high = o })
-    (same_side f r.high ∙ ap (λ (o : Option Row). option_map (λ old. f (or_zero (option_and_then (λ (q : Row). q.high) o))) r.high) (sym g))))
+    (same_side f r.high
+    ∙ ap (λ (o : Option Row). option_map (λ old. f (or_zero (option_and_then (λ (q : Row). q.high) o))) r.high) (sym g))))
 replaced m (Coef i j) f limits = ap (with_rows m) (changed_alike (with_coef j f)
     (with_coef j (λ old. f (number_of m (Coef i j)))) m.rows i (λ r g.
     ap (λ ps. record { name = r.name; decimals = r.decimals; coefs = ps; low = r.low; high = r.high })
@@ -226,11 +231,17 @@ replaced m (Coef i j) f limits = ap (with_rows m) (changed_alike (with_coef j f)
 
 -- ---- what stays of the limits
 
--- other columns of the same count
-columns_within : (m : Parts) (f : Column → Column) (j : ℕ) → IsWithinLimits m → ((c : Column) → slice_get m.columns j ≡ Some c → IsColumn (f c))
-    → IsWithinLimits (with_columns m (changed_at f j m.columns))
-columns_within m f j limits own =
-    let size = length_changed f m.columns j in
+-- other columns of the same count, and another constant
+pub other_columns_within : (m : Parts) (constant : ℤ) (cs : List Column) → IsWithinLimits m → length cs ≡ length m.columns
+    → unsigned_abs constant ≤ 2 ^ 62
+    → ((j : ℕ) (c : Column) → slice_get cs j ≡ Some c → IsColumn c) → IsWithinLimits (record {
+      objective = m.objective;
+      cost_decimals = m.cost_decimals;
+      constant = constant;
+      columns = cs;
+      rows = m.rows;
+    })
+other_columns_within m constant cs limits size small each =
     let count = limits.column_count in
     record {
       shape = record {
@@ -242,10 +253,16 @@ columns_within m f j limits own =
       row_count = limits.row_count;
       entry_count = limits.entry_count;
       objective = limits.objective;
-      constant = limits.constant;
-      columns = changed_each IsColumn f m.columns j own limits.columns;
+      constant = small;
+      columns = each;
       rows = limits.rows;
     }
+
+columns_within : (m : Parts) (f : Column → Column) (j : ℕ) → IsWithinLimits m
+    → ((c : Column) → slice_get m.columns j ≡ Some c → IsColumn (f c))
+    → IsWithinLimits (with_columns m (changed_at f j m.columns))
+columns_within m f j limits own = other_columns_within m m.constant (changed_at f j m.columns) limits (length_changed f m.columns j)
+    limits.constant (changed_each IsColumn f m.columns j own limits.columns)
 
 -- other rows of the same count
 rows_within : (m : Parts) (f : Row → Row) (i : ℕ) → IsWithinLimits m

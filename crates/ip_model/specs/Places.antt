@@ -1,6 +1,6 @@
 -- Places of a program: the number at a place, its limit, and the program in which that number alone is changed.
-use Rattle.std.specs.Prelude.{ℕ, zero, suc, ◌^◌, ◌<◌, ◌≢◌, ◌==◌, nat_lt, if◌then◌else◌, List, [], ◌∷◌, length, Option, Some, None, slice_get}
-use Rattle.std.specs.Prelude.{option_map, option_and_then, ℤ, pos, negsuc, ◌+ℤ◌}
+use Rattle.std.specs.Prelude.{ℕ, zero, suc, ◌^◌, ◌<◌, ◌≢◌, ◌==◌, nat_lt, if◌then◌else◌, List, [], ◌∷◌, length}
+use Rattle.std.specs.Prelude.{Option, Some, None, slice_get, option_map, option_and_then, ℤ, pos, negsuc, ◌+ℤ◌}
 use Rattle.ip_defs.specs.Program.{at, box_of, costs_of, low_at, high_at}
 use Rattle.ip_defs.specs.Certificates.{coefficient_of}
 use Rattle.ip_defs.specs.declared.programs.Column.{Column}

@@ -24,10 +24,10 @@ drop_at (y ∷ ys) (suc i) x e = drop_at ys i x e ∙ ap (λ k. x ∷ drop k (y 
 pub none_made : (m : Parts) (es : List Edit) → IsWithinLimits m → AreMade m es 0 0 m
 none_made m es limits = record { counted = refl; limits = limits; left = refl }
 
-pub one_made : (m : Parts) (es : List Edit) (i number : ℕ) (now next : Parts) (e : Edit) → AreMade m es i number now
+pub one_made : {m : Parts} {es : List Edit} {i number : ℕ} {now next : Parts} {e : Edit} → AreMade m es i number now
     → slice_get es i ≡ Some e
     → edited now (number + 1) e ≡ Ok next → AreMade m es (i + 1) (number + 1) next
-one_made m es i number now next e before at is = record {
+one_made {es = es} {i = i} {number = number} {now = now} {next = next} {e = e} before at is = record {
   counted = let same = before.counted in omega arith;
   limits = edited_within now (number + 1) e next before.limits is;
   left = before.left ∙ ap (edited_from (number + 1) now) (drop_at es i e at)
@@ -39,13 +39,17 @@ refused : (m : Parts) (es : List Edit) (i number : ℕ) (now : Parts) (e : Edit)
 refused m es i number now e error before at is = before.left ∙ ap (edited_from (number + 1) now) (drop_at es i e at)
     ∙ ap (λ r. unless_refused r (λ n. edited_from (number + 1 + 1) n (drop (i + 1) es))) is
 
-pub one_refused : (m : Parts) (es : List Edit) (i number : ℕ) (now : Parts) (e : Edit) (error : EditError) → AreMade m es i number now
+pub one_refused : {m : Parts} {es : List Edit} {i number : ℕ} {now : Parts} {e : Edit} (error : EditError) → AreMade m es i number now
     → slice_get es i ≡ Some e → Answers (edited now (number + 1) e) (Err error) → Answers (edited_by m es) (Err error)
-one_refused m es i number now e (Refused.UnknownName k) before at is = refused m es i number now e (Refused.UnknownName k) before at is
-one_refused m es i number now e (Refused.OffGrid k) before at is = refused m es i number now e (Refused.OffGrid k) before at is
-one_refused m es i number now e (Refused.Limit k) before at is = refused m es i number now e (Refused.Limit k) before at is
-one_refused m es i number now e (Refused.NoSide k) before at is = refused m es i number now e (Refused.NoSide k) before at is
-one_refused m es i number now e Refused.Memory before at is = tt
+one_refused {m = m} {es = es} {i = i} {number = number} {now = now} {e = e} (Refused.UnknownName k) before at is =
+    refused m es i number now e (Refused.UnknownName k) before at is
+one_refused {m = m} {es = es} {i = i} {number = number} {now = now} {e = e} (Refused.OffGrid k) before at is =
+    refused m es i number now e (Refused.OffGrid k) before at is
+one_refused {m = m} {es = es} {i = i} {number = number} {now = now} {e = e} (Refused.Limit k) before at is =
+    refused m es i number now e (Refused.Limit k) before at is
+one_refused {m = m} {es = es} {i = i} {number = number} {now = now} {e = e} (Refused.NoSide k) before at is =
+    refused m es i number now e (Refused.NoSide k) before at is
+one_refused Refused.Memory before at is = tt
 
 pub all_made : (m : Parts) (es : List Edit) (i number : ℕ) (now : Parts) → AreMade m es i number now → length es ≤ i
     → edited_by m es ≡ Ok now

@@ -1,17 +1,19 @@
 -- Lines of models: one more column of a line of costs, one more side of a line of sides, and the limits of the models.
-use Rattle.std.specs.Prelude.{◌≡◌, ℕ, zero, suc, ◌+◌, ◌≤◌, ◌^◌, Bool, true, false, cond, List, [], ◌∷◌, ◌++◌, length, take}
-use Rattle.std.specs.Prelude.{position, option_map, Option, Some, None, slice_get, Ok, Err, ℤ, ◌+ℤ◌}
+use Rattle.std.specs.Prelude.{◌≡◌, ℕ, zero, suc, ◌+◌, ◌<◌, ◌≤◌, ◌^◌, Bool, true, false, cond, List, [], ◌∷◌, ◌++◌, length, take}
+use Rattle.std.specs.Prelude.{position, option_map, Option, Some, None, slice_get, Ok, Err, ℤ, pos, ◌+ℤ◌}
 use Rattle.std.specs.Prelude.{◌*ℤ◌}
 use Rattle.std.specs.Int.RustNames.{unsigned_abs}
 use Rattle.std.proofs.Common.{arith, refl, ap, sym, ◌∙◌, subst}
 use Rattle.std.proofs.lemmas.Bool.{ltb-false}
 use Rattle.std.proofs.lemmas.List.{take_more, take_all}
 use Rattle.std.proofs.lemmas.Option.{get_or_from_slice_get, slice_get_within}
-use Rattle.ip_defs.specs.Limits.{IsWithinLimits, IsColumn, AreOrdered, exceeds}
+use Rattle.ip_defs.specs.Limits.{IsWithinLimits, IsColumn, exceeds}
 use Rattle.ip_defs.proofs.ListLaws.{unmapped}
+use Rattle.ip_defs.proofs.OrderLaws.{lt_true, lt_false}
 use Rattle.ip_defs.specs.Program.{at}
 use Rattle.ip_defs.specs.declared.programs.Column.{Column}
 use Rattle.ip_defs.specs.declared.programs.Parts.{Parts}
+use Rattle.ip_model.proofs.ChangeLaws.{other_columns_within}
 use Rattle.ip_model.specs.Places.{with_cost}
 use Rattle.perturbation.specs.declared.edits.LineError.{LineError}
 use Rattle.perturbation.specs.declared.edits.LineError.TheVariants.{Limit, Memory}
@@ -84,25 +86,27 @@ pub record AreMoved (cs : List Column) (ds : List ℤ) (p q : ℤ) (j : ℕ) (mo
   pub columns : moved ≡ take j (columns_at cs ds p q)
   pub small : first_large_cost moved ≡ None
 
-pub one_moved : (cs : List Column) (ds : List ℤ) (p q : ℤ) (j : ℕ) (moved : List Column) (c : Column) → AreMoved cs ds p q j moved
-    → length ds ≡ length cs → slice_get cs j ≡ Some c → exceeds (2 ^ 40) (q *ℤ c.cost +ℤ p *ℤ at ds j) ≡ false
-    → AreMoved cs ds p q (j + 1) (moved ++ with_cost (λ old. q *ℤ c.cost +ℤ p *ℤ at ds j) c ∷ [])
-one_moved cs ds p q j moved c before size here few =
-    let next = with_cost (λ old. q *ℤ c.cost +ℤ p *ℤ at ds j) c in
-    let found = moved_at cs ds p q j c size here in
+-- one more column, whose cost z was computed
+pub one_moved : {cs : List Column} {ds : List ℤ} {p q : ℤ} {j : ℕ} {moved : List Column} {c : Column} {z : ℤ} → AreMoved cs ds p q j moved
+    → length ds ≡ length cs → slice_get cs j ≡ Some c → z ≡ q *ℤ c.cost +ℤ p *ℤ at ds j → unsigned_abs z ≤ 2 ^ 40
+    → AreMoved cs ds p q (j + 1) (moved ++ with_cost (λ old. z) c ∷ [])
+one_moved {cs = cs} {ds = ds} {p = p} {q = q} {j = j} {moved = moved} {c = c} {z = z} before size here is small =
+    let next = with_cost (λ old. z) c in
+    let found = moved_at cs ds p q j c size here ∙ ap (λ (y : ℤ). Some (with_cost (λ old. y) c)) (sym is) in
     let within = slice_get_within (columns_at cs ds p q) j next found in
     let more = take_more (columns_at cs ds p q) j next within in
     let read = get_or_from_slice_get (columns_at cs ds p q) j next next found in
     record {
       columns = ap (λ k. k ++ next ∷ []) before.columns ∙ sym (more ∙ ap (λ x. take j (columns_at cs ds p q) ++ x ∷ []) read);
-      small = none_more (λ (k : Column). exceeds (2 ^ 40) k.cost) moved next before.small few;
+      small = none_more (λ (k : Column). exceeds (2 ^ 40) k.cost) moved next before.small (lt_false (2 ^ 40) (unsigned_abs z) small);
     }
 
-pub one_large : (cs : List Column) (ds : List ℤ) (p q : ℤ) (j : ℕ) (moved : List Column) (c : Column) → AreMoved cs ds p q j moved
-    → length ds ≡ length cs → slice_get cs j ≡ Some c → exceeds (2 ^ 40) (q *ℤ c.cost +ℤ p *ℤ at ds j) ≡ true
+pub one_large : {cs : List Column} {ds : List ℤ} {p q : ℤ} {j : ℕ} {moved : List Column} {c : Column} {z : ℤ} → AreMoved cs ds p q j moved
+    → length ds ≡ length cs → slice_get cs j ≡ Some c → z ≡ q *ℤ c.cost +ℤ p *ℤ at ds j → 2 ^ 40 < unsigned_abs z
     → unless_large (first_large_cost (columns_at cs ds p q)) (columns_at cs ds p q) ≡ Err (Limit j)
-one_large cs ds p q j moved c before size here many =
+one_large {cs = cs} {ds = ds} {p = p} {q = q} {j = j} {c = c} {z = z} before size here is large =
     let none = ap first_large_cost (sym before.columns) ∙ before.small in
+    let many = ap (exceeds (2 ^ 40)) (sym is) ∙ lt_true (2 ^ 40) (unsigned_abs z) large in
     ap (λ o. unless_large o (columns_at cs ds p q)) (first_here (λ (k : Column). exceeds (2 ^ 40) k.cost) (columns_at cs ds p q) j
     (with_cost (λ old. q *ℤ c.cost +ℤ p *ℤ at ds j) c) none (moved_at cs ds p q j c size here) many)
 
@@ -141,28 +145,13 @@ large_is m ds p q (Limit k) e = by (first_large_cost (columns_at m.columns ds p 
 pub cost_line_within : (m : Parts) (ds : List ℤ) (p q : ℤ) → IsWithinLimits m → first_large_cost (columns_at m.columns ds p q) ≡ None
     → IsWithinLimits (program_at m ds p q)
 cost_line_within m ds p q limits none =
-    let size = length_moved m.columns ds p q in
-    let count = limits.column_count in
-    record {
-      shape = record {
-        decimals = limits.shape.decimals;
-        rows = λ i r e. let s = limits.shape.rows i r e in
-            record { decimals = s.decimals; coefs = subst (λ (n : ℕ). AreOrdered n r.coefs) (sym size) s.coefs };
-      };
-      column_count = omega arith;
-      row_count = limits.row_count;
-      entry_count = limits.entry_count;
-      objective = limits.objective;
-      constant = omega arith;
-      columns = λ j n at.
-          let from = moved_from m.columns ds p q j n at in
-          let old = limits.columns j from.0 from.1 in
-          let few = none_passes (λ (k : Column). exceeds (2 ^ 40) k.cost) (columns_at m.columns ds p q) j n none at in
-          let now : IsColumn (with_cost (λ z. n.cost) from.0) =
-          record { name = old.name; cost = ltb-false (2 ^ 40) (unsigned_abs n.cost) few; lo = old.lo; hi = old.hi } in
-          subst IsColumn (sym from.2) now;
-      rows = limits.rows;
-    }
+    other_columns_within m (pos 0) (columns_at m.columns ds p q) limits (length_moved m.columns ds p q) (omega arith) (λ j n at.
+    let from = moved_from m.columns ds p q j n at in
+    let old = limits.columns j from.0 from.1 in
+    let few = none_passes (λ (k : Column). exceeds (2 ^ 40) k.cost) (columns_at m.columns ds p q) j n none at in
+    let now : IsColumn (with_cost (λ z. n.cost) from.0) =
+    record { name = old.name; cost = ltb-false (2 ^ 40) (unsigned_abs n.cost) few; lo = old.lo; hi = old.hi } in
+    subst IsColumn (sym from.2) now)
 
 -- the model that is made of the columns of a line
 pub cost_line_is : (m : Parts) (ds : List ℤ) (p q : ℤ) (columns : List Column) (n : Parts)

@@ -1,6 +1,7 @@
 //! The models along a direction of the costs.
 
-ghost use Rattle.std.specs.Prelude.{◌≡◌, ◌≤◌, ◌<◌, ◌^◌, ◌+ℤ◌, ◌*ℤ◌, ◌<ℤ◌, ℕ, IfOk, Some, length, pos, slice_get};
+ghost use Rattle.std.specs.Prelude.{◌≡◌, ◌≤◌, ◌<◌, ◌^◌, ◌+ℤ◌, ◌*ℤ◌, ◌<ℤ◌, ◌++◌, ◌∷◌, [], ℕ, IfOk, OnOk, Some, length, pos};
+ghost use Rattle.std.specs.Prelude.{slice_get};
 ghost use Rattle.std.specs.Int.RustNames.{unsigned_abs};
 ghost use Rattle.ip_defs.specs.declared.programs.Column.{Column as ColumnOf};
 ghost use Rattle.ip_defs.specs.Program.{at};
@@ -38,17 +39,23 @@ fn cost_at(cost: i64, step: i64, p: i128, q: i128) -> i128
     total_of(part(q, cost), part(p, step))
 }
 
-/// A copy of a column with another cost of at most 2^40 in absolute value.
-fn moved_column(alloc: Global, column: &Column, cost: i128) -> Result<Column, Memory>
+/// Appends a copy of a column with another cost of at most 2^40 in absolute value.
+fn push_column(
+    alloc: Global,
+    moved: &mut ColumnList,
+    column: &Column,
+    cost: i128,
+) -> Result<(), Memory>
     requires { unsigned_abs cost ≤ 2 ^ 40 }
-    ensures { IfOk result (λ c. c ≡ with_cost (λ old. cost) column.now) }
+    ensures { OnOk result (moved.new ≡ moved.old ++ with_cost (λ old. cost) column.now ∷ []) }
 {
-    Ok(Column {
+    moved.push(Column {
         name: copied_name(alloc, &column.name)?,
         cost: cost as i64,
         lo: column.lo,
         hi: column.hi,
-    })
+    })?;
+    Ok(())
 }
 
 /// Copies of the columns with their costs along a direction, or the first column whose cost exceeds the limit.
@@ -74,8 +81,7 @@ fn columns_at(
         if cost.unsigned_abs() > LARGEST_COST {
             return Err(LineError::Limit { column: j as u32 });
         }
-        let copy = moved_column(alloc, column, cost)?;
-        moved.push(copy)?;
+        push_column(alloc, &mut moved, column, cost)?;
     }
     Ok(moved)
 }

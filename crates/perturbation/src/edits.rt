@@ -6,7 +6,6 @@ ghost use Rattle.perturbation.specs.declared.edits.LineError.TheVariants as Stop
 
 use decimals::Number;
 use ip_defs::{Memory, Name};
-use std::alloc::{AllocError, AllocFailed};
 
 /// A number of a model by the names of its column and row. A name means the first column or row that has it.
 #[derive(Debug, Drop)]
@@ -86,22 +85,6 @@ impl From<Memory> for LineError {
     ghost from_gives = { λ _ e. e ≡ Stopped.Memory };
 
     fn from(_error: Memory) -> LineError {
-        LineError::Memory
-    }
-}
-
-impl From<AllocError> for LineError {
-    ghost from_gives = { λ _ e. e ≡ Stopped.Memory };
-
-    fn from(_error: AllocError) -> LineError {
-        LineError::Memory
-    }
-}
-
-impl<T: Drop> From<AllocFailed<T>> for LineError {
-    ghost from_gives = { λ _ e. e ≡ Stopped.Memory };
-
-    fn from(_error: AllocFailed<T>) -> LineError {
         LineError::Memory
     }
 }

@@ -1,9 +1,9 @@
 //! The place of a datum: its column and its row, by name.
 
-ghost use Rattle.std.specs.Prelude.{◌≡◌, ◌≤◌, length};
-ghost use Rattle.perturbation.specs.Edits.{at_side as at_side_of, both_found, column_named as column_named_of, found, found_side};
-ghost use Rattle.perturbation.specs.Edits.{located, located_in, row_named as row_named_of};
-ghost use Rattle.ip_model.specs.declared.places.Place.TheVariants as At;
+ghost use Rattle.std.specs.Prelude.{◌≡◌, ◌≤◌, ◌<◌, ◌^◌, IfSome, length};
+ghost use Rattle.perturbation.specs.Edits.{at_side as at_side_of, column_named as column_named_of, located, located_in};
+ghost use Rattle.perturbation.specs.Edits.{row_named as row_named_of};
+ghost use Rattle.perturbation.specs.Internal.Places.{number_found};
 
 use crate::edits::{Datum, PlaceError};
 use ip_defs::{Column, Name, Row};
@@ -26,35 +26,13 @@ fn row_named(rows: &[Row], name: &Name) -> Option<usize>
         .position(|row| row.name.as_str() == name.as_str())
 }
 
-/// The place of the cost of a column.
-fn cost_place(columns: &[Column], name: &Name) -> Result<Place, PlaceError>
-    requires { length columns.now ≤ 4096 }
-    ensures { result ≡ found At.Cost (column_named_of columns.now name.now) }
+/// The number of the column or row that was found.
+fn number(found: Option<usize>) -> Result<u32, PlaceError>
+    requires { IfSome found (λ k. k < 2 ^ 32) }
+    ensures { result ≡ number_found found }
 {
-    match column_named(columns, name) {
-        Some(j) => Ok(Place::Cost(j as u32)),
-        None => Err(PlaceError::UnknownName),
-    }
-}
-
-/// The place of the lower bound of a column.
-fn lower_place(columns: &[Column], name: &Name) -> Result<Place, PlaceError>
-    requires { length columns.now ≤ 4096 }
-    ensures { result ≡ found At.Lower (column_named_of columns.now name.now) }
-{
-    match column_named(columns, name) {
-        Some(j) => Ok(Place::Lower(j as u32)),
-        None => Err(PlaceError::UnknownName),
-    }
-}
-
-/// The place of the upper bound of a column.
-fn upper_place(columns: &[Column], name: &Name) -> Result<Place, PlaceError>
-    requires { length columns.now ≤ 4096 }
-    ensures { result ≡ found At.Upper (column_named_of columns.now name.now) }
-{
-    match column_named(columns, name) {
-        Some(j) => Ok(Place::Upper(j as u32)),
+    match found {
+        Some(k) => Ok(k as u32),
         None => Err(PlaceError::UnknownName),
     }
 }
@@ -69,45 +47,6 @@ fn at_side(place: Place, side: Option<i64>) -> Result<Place, PlaceError>
     }
 }
 
-/// The place of the low side of a row.
-fn low_place(rows: &[Row], name: &Name) -> Result<Place, PlaceError>
-    requires { length rows.now ≤ 1024 }
-    ensures { result ≡ found_side (λ r. r.low) At.Low rows.now (row_named_of rows.now name.now) }
-{
-    match row_named(rows, name) {
-        Some(i) => at_side(Place::Low(i as u32), rows[i].low),
-        None => Err(PlaceError::UnknownName),
-    }
-}
-
-/// The place of the high side of a row.
-fn high_place(rows: &[Row], name: &Name) -> Result<Place, PlaceError>
-    requires { length rows.now ≤ 1024 }
-    ensures { result ≡ found_side (λ r. r.high) At.High rows.now (row_named_of rows.now name.now) }
-{
-    match row_named(rows, name) {
-        Some(i) => at_side(Place::High(i as u32), rows[i].high),
-        None => Err(PlaceError::UnknownName),
-    }
-}
-
-/// The place of a coefficient.
-fn coef_place(
-    rows: &[Row],
-    columns: &[Column],
-    row: &Name,
-    column: &Name,
-) -> Result<Place, PlaceError>
-    requires rows { length rows.now ≤ 1024 }
-    requires columns { length columns.now ≤ 4096 }
-    ensures { result ≡ both_found (row_named_of rows.now row.now) (column_named_of columns.now column.now) }
-{
-    match (row_named(rows, row), column_named(columns, column)) {
-        (Some(i), Some(j)) => Ok(Place::Coef(i as u32, j as u32)),
-        _ => Err(PlaceError::UnknownName),
-    }
-}
-
 /// The place of a datum among columns and rows.
 pub fn place_in(columns: &[Column], rows: &[Row], datum: &Datum) -> Result<Place, PlaceError>
     requires columns { length columns.now ≤ 4096 }
@@ -115,12 +54,21 @@ pub fn place_in(columns: &[Column], rows: &[Row], datum: &Datum) -> Result<Place
     ensures { result ≡ located_in columns.now rows.now datum.now }
 {
     match datum {
-        Datum::Cost { column } => cost_place(columns, column),
-        Datum::Low { row } => low_place(rows, row),
-        Datum::High { row } => high_place(rows, row),
-        Datum::Coef { row, column } => coef_place(rows, columns, row, column),
-        Datum::Lower { column } => lower_place(columns, column),
-        Datum::Upper { column } => upper_place(columns, column),
+        Datum::Cost { column } => Ok(Place::Cost(number(column_named(columns, column))?)),
+        Datum::Lower { column } => Ok(Place::Lower(number(column_named(columns, column))?)),
+        Datum::Upper { column } => Ok(Place::Upper(number(column_named(columns, column))?)),
+        Datum::Low { row } => {
+            let i = number(row_named(rows, row))?;
+            at_side(Place::Low(i), rows[i as usize].low)
+        }
+        Datum::High { row } => {
+            let i = number(row_named(rows, row))?;
+            at_side(Place::High(i), rows[i as usize].high)
+        }
+        Datum::Coef { row, column } => {
+            let i = number(row_named(rows, row))?;
+            Ok(Place::Coef(i, number(column_named(columns, column))?))
+        }
     }
 }
 

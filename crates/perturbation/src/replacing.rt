@@ -1,11 +1,10 @@
 //! One number of a program: reading it, and putting another in its place.
 
-ghost use Rattle.std.specs.Prelude.{◌≡◌, ◌<◌, ◌≤◌, ℕ, IfOk, IsTrue, OnOk, length, option_map, slice_get};
+ghost use Rattle.std.specs.Prelude.{◌≡◌, ◌<◌, ◌≤◌, ℕ, IfErr, IfOk, OnOk, length, option_map};
 ghost use Rattle.ip_defs.specs.Limits.{AreOrdered, IsWithinLimits};
 ghost use Rattle.ip_defs.specs.Program.{coefficient};
 ghost use Rattle.ip_model.specs.Places.{Exists, changed, changed_at, changed_coefs, number_of, or_zero as or_zero_of};
-ghost use Rattle.ip_model.specs.Places.{with_coef as with_coef_of};
-ghost use Rattle.perturbation.specs.Internal.Coefs.{columns_before, is_column};
+ghost use Rattle.perturbation.specs.Internal.Coefs.{columns_before, place_in as place_in_of};
 ghost use Rattle.perturbation.specs.Internal.Places.{column_changed, row_changed};
 
 use ip_defs::{Coefs, Column, ColumnList, Memory, Parts, Row, RowList};
@@ -26,13 +25,26 @@ fn index_of(coefs: &[(u32, i64)], column: u32) -> usize
     coefs.len()
 }
 
+/// The index at which the coefficient of a column is listed, or as an error that at which it would be.
+fn find(coefs: &[(u32, i64)], column: u32) -> Result<usize, usize>
+    ensures place { result ≡ place_in_of column coefs.now }
+    ensures listed { IfOk result (λ k. k < length coefs.now) }
+    ensures within { IfErr result (λ k. k ≤ length coefs.now) }
+{
+    let k = index_of(coefs, column);
+    match coefs.get(k) {
+        Some(entry) => if entry.0 == column { Ok(k) } else { Err(k) },
+        None => Err(k),
+    }
+}
+
 /// The coefficient of a column, 0 where none is listed.
 fn coefficient_at(coefs: &[(u32, i64)], column: u32) -> i64
     ensures { (n : ℕ) → AreOrdered n coefs.now → result ≡ coefficient coefs.now column }
 {
-    match coefs.get(index_of(coefs, column)) {
-        Some(entry) => if entry.0 == column { entry.1 } else { 0 },
-        None => 0,
+    match find(coefs, column) {
+        Ok(k) => coefs[k].1,
+        Err(_) => 0,
     }
 }
 
@@ -93,55 +105,22 @@ fn other_side(old: Option<i64>, side: i64) -> Option<i64>
     }
 }
 
-/// Puts another side at a place of a row that has that side.
-fn set_side(row: &mut Row, place: Place, side: i64)
-    ensures { row.new ≡ row_changed place (λ old. side) row.old }
-{
-    match place {
-        Place::Low(_) => row.low = other_side(row.low, side),
-        Place::High(_) => row.high = other_side(row.high, side),
-        Place::Cost(_) | Place::Lower(_) | Place::Upper(_) | Place::Coef(_, _) => {}
-    }
-}
-
-/// Rows with another side at a place of one.
-fn with_side(rows: RowList, i: usize, place: Place, side: i64) -> RowList
-    requires { i < length rows }
-    ensures { result ≡ changed_at (row_changed place (λ old. side)) i rows }
-{
-    let mut items = rows.into_vec();
-    set_side(&mut items[i], place, side);
-    RowList::from_vec(items)
-}
-
-/// Whether the coefficient at an index is that of a column.
-fn is_listed(coefs: &[(u32, i64)], k: usize, column: u32) -> bool
-    ensures listed { result ≡ is_column column (slice_get coefs.now k) }
-    ensures within { IsTrue result → k < length coefs.now }
-{
-    match coefs.get(k) {
-        Some(entry) => entry.0 == column,
-        None => false,
-    }
-}
-
 /// Puts another coefficient of a column in its place. One that becomes 0 leaves the list, and one that was 0 comes into the list in the
 /// order of columns. If there is no memory for it, nothing is said of the list.
 fn put_coefficient(coefs: &mut Vec<(u32, i64)>, column: u32, value: i64) -> Result<(), Memory>
     ensures { OnOk result (coefs.new.items ≡ changed_coefs column (λ old. value) coefs.old.items) }
 {
-    let k = index_of(coefs.as_slice(), column);
-    match (is_listed(coefs.as_slice(), k, column), value == 0) {
-        (true, true) => {
+    match (find(coefs.as_slice(), column), value == 0) {
+        (Ok(k), true) => {
             coefs.remove(k);
             Ok(())
         }
-        (true, false) => {
+        (Ok(k), false) => {
             coefs[k] = (column, value);
             Ok(())
         }
-        (false, true) => Ok(()),
-        (false, false) => {
+        (Err(_), true) => Ok(()),
+        (Err(k), false) => {
             coefs.insert(k, (column, value))?;
             Ok(())
         }
@@ -157,21 +136,35 @@ fn with_coefficient(coefs: Coefs, column: u32, value: i64) -> Result<Coefs, Memo
     Ok(Coefs::from_vec(items))
 }
 
-/// Rows with another coefficient of one.
-fn with_coef(
+/// Puts another number at a place of a row; a side only where the row has it. If there is no memory for it, nothing is said of the row.
+fn set_row_number(alloc: Global, row: &mut Row, place: Place, value: i64) -> Result<(), Memory>
+    ensures { OnOk result (row.new ≡ row_changed place (λ old. value) row.old) }
+{
+    match place {
+        Place::Low(_) => row.low = other_side(row.low, value),
+        Place::High(_) => row.high = other_side(row.high, value),
+        Place::Coef(_, j) => {
+            let coefs = mem::replace(&mut row.coefs, Coefs::from_vec(Vec::new(alloc)));
+            row.coefs = with_coefficient(coefs, j, value)?;
+        }
+        Place::Cost(_) | Place::Lower(_) | Place::Upper(_) => {}
+    }
+    Ok(())
+}
+
+/// Rows with another number at a place of one.
+fn with_row_number(
     alloc: Global,
     rows: RowList,
     i: usize,
-    column: u32,
+    place: Place,
     value: i64,
 ) -> Result<RowList, Memory>
     requires { i < length rows }
-    ensures { IfOk result (λ r. r ≡ changed_at (with_coef_of column (λ old. value)) i rows) }
+    ensures { IfOk result (λ r. r ≡ changed_at (row_changed place (λ old. value)) i rows) }
 {
     let mut items = rows.into_vec();
-    let row = &mut items[i];
-    let coefs = mem::replace(&mut row.coefs, Coefs::from_vec(Vec::new(alloc)));
-    row.coefs = with_coefficient(coefs, column, value)?;
+    set_row_number(alloc, &mut items[i], place, value)?;
     Ok(RowList::from_vec(items))
 }
 
@@ -185,12 +178,8 @@ pub fn replaced(alloc: Global, parts: Parts, place: Place, value: i64) -> Result
             columns: with_number(parts.columns, j as usize, place, value),
             ..parts
         }),
-        Place::Low(i) | Place::High(i) => Ok(Parts {
-            rows: with_side(parts.rows, i as usize, place, value),
-            ..parts
-        }),
-        Place::Coef(i, j) => Ok(Parts {
-            rows: with_coef(alloc, parts.rows, i as usize, j, value)?,
+        Place::Low(i) | Place::High(i) | Place::Coef(i, _) => Ok(Parts {
+            rows: with_row_number(alloc, parts.rows, i as usize, place, value)?,
             ..parts
         }),
     }

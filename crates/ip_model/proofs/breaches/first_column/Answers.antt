@@ -25,4 +25,5 @@ loop-j-preserved c =
     let fits : SFits w64 (at x c.loop-j.j) = search rules in
     none_more (column_breach (box_of c.args.parts.now) x) c.loop-j.j c.loop-j.invariant
     (column_breach_read c.args.parts.now x c.as_slice-column-items.result.now c.loop-j.j c.column-item.result _ _
-    c.as_slice-column-items.ensures c.loop-j-test.true c.column-item.is (to_z-of_z w64 (at x c.loop-j.j) fits) (sym c.in_default.is ∙ c.breach_of_column.ensures))
+    c.as_slice-column-items.ensures c.loop-j-test.true c.column-item.is
+    (to_z-of_z w64 (at x c.loop-j.j) fits) (sym c.in_default.is ∙ c.breach_of_column.ensures))

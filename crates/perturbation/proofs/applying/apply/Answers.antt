@@ -32,15 +32,13 @@ pub returns-in-Err : goal.returns-in-Err
 returns-in-Err c =
     let edits = c.args.edits.now in
     let at = slice_get_read edits (length edits) c.loop-edit.edit-index c.edit-item.result refl c.loop-edit-test.true c.edit-item.is in
-    one_refused c.args.model.now edits c.loop-edit.edit-index c.loop-edit.number c.loop-edit.parts c.edit-item.result c.in-Err.error
-    c.loop-edit.invariant at c.in-Err.ensures
+    one_refused c.in-Err.error c.loop-edit.invariant at c.in-Err.ensures
 
 pub loop-edit-preserved : goal.loop-edit-preserved
 loop-edit-preserved c =
     let edits = c.args.edits.now in
     let at = slice_get_read edits (length edits) c.loop-edit.edit-index c.edit-item.result refl c.loop-edit-test.true c.edit-item.is in
-    one_made c.args.model.now edits c.loop-edit.edit-index c.loop-edit.number c.loop-edit.parts c.in-Ok.parts c.edit-item.result
-    c.loop-edit.invariant at c.in-Ok.ensures
+    one_made c.loop-edit.invariant at c.in-Ok.ensures
 
 pub made-requires : goal.made-requires
 made-requires c = c.loop-edit.invariant.limits

@@ -1,27 +1,18 @@
-use Rattle.std.proofs.Common.{rules, refl, sym, ◌∙◌, length}
+use Rattle.std.proofs.Common.{rules, sym, ◌∙◌, get_or, pos}
 use Rattle.std.specs.Int.{w64}
 use mir.Val.{SFits}
 use Rattle.std.proofs.lemmas.Int.{to_z-of_z}
-use Rattle.std.proofs.lemmas.Option.{slice_get_read}
-use Rattle.perturbation.proofs.CoefLaws.{number_listed, number_apart, number_past}
+use Rattle.std.proofs.lemmas.Option.{slice_get-get_or}
+use Rattle.perturbation.proofs.CoefLaws.{number_listed, number_unlisted}
 use Rattle.perturbation.proofs.replacing.coefficient_at.Goals as goal
 
-pub returns-then-entry-column : goal.returns-then-entry-column
-returns-then-entry-column c n o =
+pub returns-in-Ok : goal.returns-in-Ok
+returns-in-Ok c n o =
     let coefs = c.args.coefs.now in
-    let entry = c.in-Some.entry.now in
+    let entry = get_or coefs c.in-Ok.k (0, pos 0) in
     let fits : SFits w64 entry.1 = search rules in
-    let back = to_z-of_z w64 entry.1 fits in
-    let found = slice_get_read coefs (length coefs) c.index_of.result entry refl c.in-Some.ensures.lookup.3.0 c.in-Some.ensures.lookup.1 in
-    back ∙ sym (number_listed n c.args.column coefs c.index_of.result entry o c.index_of.ensures.index found c.if-entry-column.true)
+    to_z-of_z w64 entry.1 fits ∙ sym (number_listed n c.args.column coefs c.in-Ok.k entry o (sym c.in-Ok.ensures.place)
+    (slice_get-get_or coefs c.in-Ok.k (0, pos 0) c.in-Ok.ensures.listed))
 
-pub returns-else-entry-column : goal.returns-else-entry-column
-returns-else-entry-column c n o =
-    let coefs = c.args.coefs.now in
-    let entry = c.in-Some.entry.now in
-    let found = slice_get_read coefs (length coefs) c.index_of.result entry refl c.in-Some.ensures.lookup.3.0 c.in-Some.ensures.lookup.1 in
-    sym (number_apart n c.args.column coefs c.index_of.result entry o c.index_of.ensures.index found c.if-entry-column.false)
-
-pub returns-in-None : goal.returns-in-None
-returns-in-None c n o =
-    sym (number_past n c.args.column c.args.coefs.now c.index_of.result o c.index_of.ensures.index c.in-None.ensures.lookup.3)
+pub returns-in-Err : goal.returns-in-Err
+returns-in-Err c n o = sym (number_unlisted n c.args.column c.args.coefs.now c.in-Err.field-0 o (sym c.in-Err.ensures.place))

@@ -75,6 +75,10 @@ beaten_later m None y z better h = absurd h
 beaten_later m (Some p) None z better h = absurd better
 beaten_later m (Some p) (Some q) z better h = omega (arith, ints)
 
+pub improves_self : (found : Found) → Improves found found
+improves_self None = tt
+improves_self (Some p) = omega (arith, ints)
+
 -- ---- later points
 
 -- what is known of a node stays right
@@ -87,6 +91,33 @@ later_state m pivots x y b (States.Closed c) better h = (h.0, closed_by_later m 
 later_state m pivots x y b (States.Stuck why) better h = h
 later_state m pivots x y b (States.Split col cut why left right) better h = h
 
+-- ---- points that are covered
+
+pub some_same : {A : Type 0} (x y : A) → Some x ≡ Some y → x ≡ y
+some_same x y e = cc
+
+-- each point stays covered, where it does that the node at a key covers, and the other nodes stay
+covered_again : (m : Parts) (f h : Frontier) (key : ℕ) (e : Entry) (x y : Found) → entry_at f key ≡ Some e → Improves x y
+    → ((k : ℕ) (d : Entry) → k ≢ key → entry_at f k ≡ Some d → entry_at h k ≡ Some d)
+    → ((z : List ℤ) → IsFeasible m z → (bound : ℤ) → bound_of e.state ≡ Some bound → IsIn (box_at m e) z → bound ≤ℤ cost m z
+    → IsCovered m y h z)
+    → AreCovered m x f → AreCovered m y h
+covered_again m f h key e x y was better others own covered = λ z feasible. by z feasible (covered z feasible)
+  where
+    at_key : (z : List ℤ) (k : ℕ) (d : Entry) (bound : ℤ) → IsFeasible m z → entry_at f k ≡ Some d → bound_of d.state ≡ Some bound
+        → IsIn (box_at m d) z → bound ≤ℤ cost m z → (t : Bool) → (k == key) ≡ t → IsCovered m y h z
+    at_key z k d bound feasible is waits' inside less true eq =
+        let here : entry_at f key ≡ Some d = subst (λ (i : ℕ). entry_at f i ≡ Some d) (eqb-true k key eq) is in
+        let same : d ≡ e = some_same _ _ (sym here ∙ was) in
+        own z feasible bound (subst (λ (d' : Entry). bound_of d'.state ≡ Some bound) same waits')
+        (subst (λ (d' : Entry). IsIn (box_at m d') z) same inside) less
+    at_key z k d bound feasible is waits' inside less false eq =
+        waits k d bound (others k d (eqb-false k key eq) is) waits' inside less
+
+    by : (z : List ℤ) → IsFeasible m z → IsCovered m x f z → IsCovered m y h z
+    by z feasible (beaten b) = beaten (beaten_later m x y z better b)
+    by z feasible (waits k d bound is waits' inside less) = at_key z k d bound feasible is waits' inside less (k == key) refl
+
 -- ---- a node that changes its state
 
 -- the node at a key, which is known, has another state, and nothing else has changed
@@ -95,9 +126,6 @@ pub record Moves (old new : Frontier) (key : ℕ) (e : Entry) (s : State) : Type
   pub now : entry_at new key ≡ Some (with_state s e)
   pub others : (k : ℕ) → k ≢ key → entry_at new k ≡ entry_at old k
   pub sums : (g : State → ℕ) → sum_over g new + g e.state ≡ sum_over g old + g s
-
-pub some_same : {A : Type 0} (x y : A) → Some x ≡ Some y → x ≡ y
-some_same x y e = cc
 
 -- a node that is taken and then put into a state
 pub moves_through : (f g h : Frontier) (key : ℕ) (e : Entry) (s : State) → entry_at f key ≡ Some e → SetsState f g key States.Taken
@@ -132,21 +160,8 @@ module _ (m : Parts) (f h : Frontier) (key : ℕ) (e : Entry) (s : State) (moves
       → ((z : List ℤ) → IsFeasible m z → (bound : ℤ) → bound_of e.state ≡ Some bound → IsIn (box_at m e) z → bound ≤ℤ cost m z
       → IsCovered m y h z)
       → AreCovered m y h
-  moved_covered x y better covered own = λ z feasible. by z feasible (covered z feasible)
-    where
-      at_key : (z : List ℤ) (k : ℕ) (e' : Entry) (bound : ℤ) → IsFeasible m z → entry_at f k ≡ Some e' → bound_of e'.state ≡ Some bound
-          → IsIn (box_at m e') z → bound ≤ℤ cost m z → (t : Bool) → (k == key) ≡ t → IsCovered m y h z
-      at_key z k e' bound feasible is waits' inside less true eq =
-          let here : entry_at f key ≡ Some e' = subst (λ (i : ℕ). entry_at f i ≡ Some e') (eqb-true k key eq) is in
-          let same : e' ≡ e = some_same _ _ (sym here ∙ moves.was) in
-          own z feasible bound (subst (λ (d : Entry). bound_of d.state ≡ Some bound) same waits')
-          (subst (λ (d : Entry). IsIn (box_at m d) z) same inside) less
-      at_key z k e' bound feasible is waits' inside less false eq =
-          waits k e' bound (moves.others k (eqb-false k key eq) ∙ is) waits' inside less
-
-      by : (z : List ℤ) → IsFeasible m z → IsCovered m x f z → IsCovered m y h z
-      by z feasible (beaten b) = beaten (beaten_later m x y z better b)
-      by z feasible (waits k e' bound is waits' inside less) = at_key z k e' bound feasible is waits' inside less (k == key) refl
+  moved_covered x y better covered own =
+      covered_again m f h key e x y moves.was better (λ k e' differs is. moves.others k differs ∙ is) own covered
 
 -- ---- a node that is split
 
@@ -236,24 +251,12 @@ module _ (m : Parts) (f h : Frontier) (key : ℕ) (e : Entry) (col : ℕ) (cut :
   pub divided_covered : (found : Found) → col < length (box_at m e) → AreCovered m found f
       → ((z : List ℤ) → IsFeasible m z → (v : ℤ) → bound_of e.state ≡ Some v → IsIn (box_at m e) z → v ≤ℤ cost m z → bound ≤ℤ cost m z)
       → AreCovered m found h
-  divided_covered found within covered rise = λ z feasible. by z feasible (covered z feasible)
-    where
-      at_key : (z : List ℤ) (k : ℕ) (e' : Entry) (v : ℤ) → IsFeasible m z → entry_at f k ≡ Some e' → bound_of e'.state ≡ Some v
-          → IsIn (box_at m e') z → v ≤ℤ cost m z → (t : Bool) → (k == key) ≡ t → IsCovered m found h z
-      at_key z k e' v feasible is waits' inside less true eq =
-          let here : entry_at f key ≡ Some e' = subst (λ (i : ℕ). entry_at f i ≡ Some e') (eqb-true k key eq) is in
-          let same : e' ≡ e = some_same _ _ (sym here ∙ divides.was) in
-          let in_box = subst (λ (d : Entry). IsIn (box_at m d) z) same inside in
-          let risen = rise z feasible v (subst (λ (d : Entry). bound_of d.state ≡ Some v) same waits') in_box less in
-          in_half found z within in_box risen (lt_z cut (at z col)) refl
-      at_key z k e' v feasible is waits' inside less false eq =
-          let no_l = λ (same : k ≡ l). not_none f l k e' divides.left_was is (sym same) in
-          let no_r = λ (same : k ≡ r). not_none f r k e' divides.right_was is (sym same) in
-          waits k e' v (divides.others k (eqb-false k key eq) no_l no_r ∙ is) waits' inside less
-
-      by : (z : List ℤ) → IsFeasible m z → IsCovered m found f z → IsCovered m found h z
-      by z feasible (beaten b) = beaten b
-      by z feasible (waits k e' v is waits' inside less) = at_key z k e' v feasible is waits' inside less (k == key) refl
+  divided_covered found within covered rise =
+      covered_again m f h key e found found divides.was (improves_self found)
+      (λ k e' differs is. divides.others k differs (λ same. not_none f l k e' divides.left_was is (sym same))
+      (λ same. not_none f r k e' divides.right_was is (sym same)) ∙ is)
+      (λ z feasible v waits' inside less. in_half found z within inside (rise z feasible v waits' inside less) (lt_z cut (at z col)) refl)
+      covered
 
 -- ---- best bound first
 

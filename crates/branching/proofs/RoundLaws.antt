@@ -35,9 +35,9 @@ use Rattle.branching.specs.Internal.Growth.{IsAfter, IsGrowing, IsHalted, IsKept
 use Rattle.branching.specs.Internal.Growth as Growth
 use Rattle.branching.specs.Internal.Search.{Found, Improves, IsSound, MayNotSplit, cost_of, point_of}
 use Rattle.branching.proofs.GrowthLaws.{Divides, Moves, bounds_all, closed_beaten, divided_covered, divided_kept, divides_through}
-use Rattle.branching.proofs.GrowthLaws.{moved_covered, moved_kept, moves_through, none_below, own_at_most, some_same}
+use Rattle.branching.proofs.GrowthLaws.{improves_self, moved_covered, moved_kept, moves_through, none_below, own_at_most, some_same}
 use Rattle.branching.proofs.SearchLaws.{no_worse, no_worse_self}
-use Rattle.branching.proofs.VisitLaws.{closed_by, improves_self, whole_end, whole_improves, whole_sound}
+use Rattle.branching.proofs.VisitLaws.{closed_by, whole_end, whole_improves, whole_sound}
 
 -- ---- steps
 

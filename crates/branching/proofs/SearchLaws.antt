@@ -11,7 +11,7 @@ use Rattle.std.proofs.lemmas.List.{length-map}
 use Rattle.ip_defs.specs.declared.programs.Column.{Column}
 use Rattle.ip_defs.specs.declared.programs.Parts.{Parts}
 use Rattle.ip_defs.specs.Boxes.{below, above}
-use Rattle.ip_defs.specs.Limits.{IsWithinLimits}
+use Rattle.ip_defs.specs.Limits.{IsArea, IsWithinLimits}
 use Rattle.ip_defs.specs.Program.{box_of, high_at, low_at, IsFeasible}
 use Rattle.ip_defs.proofs.BoxLaws.{below_area, above_area}
 use Rattle.proof_tree.proofs.WithinLaws.{limits_are_exact}
@@ -72,29 +72,24 @@ part_cut b whole_box j lo hi within from to' part = λ k l. by k (k == j) refl (
         let is = get_or-set_other b j k (lo, hi) (pos 0, pos 0) (eqb-false k j e) in
         rw (ap (λ (s : ℤ × ℤ). s.0) is, ap (λ (s : ℤ × ℤ). s.1) is) (part k l)
 
+-- so with the sides of a half
+half_search : (m : Parts) (b : List (ℤ × ℤ)) (j : ℕ) (lo hi : ℤ) → IsSearchArea m b → j < length b → low_at b j ≤ℤ lo
+    → hi ≤ℤ high_at b j → IsArea (length m.columns) (set b j (lo, hi)) → IsSearchArea m (set b j (lo, hi))
+half_search m b j lo hi so within from to' area = record { area = area; part = part_cut b (box_of m) j lo hi within from to' so.part }
+
 pub below_search : (m : Parts) (pivots : ℕ) (b : List (ℤ × ℤ)) (j : ℕ) (z : ℤ) (why : Why) → IsSplit m pivots b j z why → IsSearchArea m b
     → IsSearchArea m (below b j z)
 below_search m pivots b j z why halved so =
     let proper = halved.reasoned.0 in
-    let from = cut_low b j z proper in
-    let to' = cut_high b j z proper in
-    record {
-      area = below_area (length m.columns) b j z proper.col from to' so.area;
-      part = part_cut b (box_of m) j (low_at b j) (int_min (high_at b j) z) proper.col (omega (arith, ints)) (omega (arith, ints, clamps))
-          so.part;
-    }
+    half_search m b j (low_at b j) (int_min (high_at b j) z) so proper.col (omega (arith, ints)) (omega (arith, ints, clamps))
+    (below_area (length m.columns) b j z proper.col (cut_low b j z proper) (cut_high b j z proper) so.area)
 
 pub above_search : (m : Parts) (pivots : ℕ) (b : List (ℤ × ℤ)) (j : ℕ) (z : ℤ) (why : Why) → IsSplit m pivots b j z why → IsSearchArea m b
     → IsSearchArea m (above b j z)
 above_search m pivots b j z why halved so =
     let proper = halved.reasoned.0 in
-    let from = cut_low b j z proper in
-    let to' = cut_high b j z proper in
-    record {
-      area = above_area (length m.columns) b j z proper.col from to' so.area;
-      part = part_cut b (box_of m) j (int_max (low_at b j) (z +ℤ pos 1)) (high_at b j) proper.col (omega (arith, ints, clamps))
-          (omega (arith, ints)) so.part;
-    }
+    half_search m b j (int_max (low_at b j) (z +ℤ pos 1)) (high_at b j) so proper.col (omega (arith, ints, clamps)) (omega (arith, ints))
+    (above_area (length m.columns) b j z proper.col (cut_low b j z proper) (cut_high b j z proper) so.area)
 
 -- ---- the whole search
 

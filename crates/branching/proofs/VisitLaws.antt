@@ -30,7 +30,3 @@ module _ (m : Parts) (b : List (ℤ × ℤ)) (x : List ℤ) (w : ℤ) (c : Cert)
   pub whole_improves : (found : Found) → IsWholeEnd m b (cost_of found) x w c → Improves found (Some (x, w))
   whole_improves None h = tt
   whole_improves (Some p) h = let less = h.better in omega (arith, ints)
-
-pub improves_self : (found : Found) → Improves found found
-improves_self None = tt
-improves_self (Some p) = omega (arith, ints)

@@ -24,7 +24,7 @@ use crate::rounds::{Place, Step, settle};
 use crate::{BudgetWhat, Limits, Outcome, Whys};
 use ip_defs::{Area, Memory, Point};
 use ip_model::{IntModel, box_of, set_box};
-use node_bounds::{Node, Workspace, box_bound, split_or_close, visit};
+use node_bounds::{Node, Proposer, Task, Workspace, box_bound, split_or_close, start, visit};
 use open_nodes::{Frontier, OpenTree, Solved, Taken};
 use proof_tree::{Claim, Proof};
 use simplex_exact::Steps;
@@ -40,18 +40,19 @@ pub struct Progress {
     pub open: Frontier,
     /// Memory for the box of a node.
     pub area: Area,
-    /// Memory, and what proposes the answers of linear programs.
+    /// Memory, and which columns to split.
     pub work: Workspace,
 }
 
 /// What is said of the box of a node that was taken: its linear program is solved, or it was solved before and the split that it asked for
 /// is looked at again.
-fn answered<L: Ledger>(
+fn answered<P: Proposer, L: Ledger>(
     alloc: Global,
     model: &IntModel,
     pivots: u32,
     key: usize,
     solved: Option<Solved>,
+    proposer: &mut P,
     search: &mut Progress,
     steps: &mut Steps<L>,
 ) -> Result<Node, Memory>
@@ -75,23 +76,29 @@ fn answered<L: Ledger>(
     set_box(model, &mut search.area);
     search.open.cut_to_node(key, &mut search.area);
     search.work.chooser.enter(key);
-    let area = &search.area;
     let cut_at = best_cost(&search.found);
+    let task = Task {
+        model,
+        area: &search.area,
+        pivots,
+        cut_at,
+    };
     let work = &mut search.work;
     match solved {
-        None => visit(alloc, model, pivots, area, cut_at, work, steps),
+        None => visit(alloc, &task, proposer, work, steps),
         Some(Solved { col, at, why }) => {
             let scratch = &mut work.scratch;
-            Ok(split_or_close(alloc, model, area, cut_at, col, at, why, scratch))
+            Ok(split_or_close(alloc, &task, col, at, why, scratch))
         }
     }
 }
 
 /// One round: the node with the least bound is taken and settled. Where no node waits, the search has ended.
-fn round<L: Ledger>(
+fn round<P: Proposer, L: Ledger>(
     alloc: Global,
     model: &IntModel,
     limits: Limits,
+    proposer: &mut P,
     search: &mut Progress,
     steps: &mut Steps<L>,
 ) -> Result<Step, Memory>
@@ -120,7 +127,16 @@ fn round<L: Ledger>(
         bound,
         solved: solved.is_some(),
     };
-    let node = answered(alloc, model, limits.pivots, key, solved, search, steps)?;
+    let node = answered(
+        alloc,
+        model,
+        limits.pivots,
+        key,
+        solved,
+        proposer,
+        search,
+        steps,
+    )?;
     let chooser = &mut search.work.chooser;
     let found = &mut search.found;
     settle(
@@ -135,10 +151,11 @@ fn round<L: Ledger>(
 }
 
 /// Grows the tree until no node waits, or a limit stops it.
-fn grow<L: Ledger>(
+fn grow<P: Proposer, L: Ledger>(
     alloc: Global,
     model: &IntModel,
     limits: Limits,
+    proposer: &mut P,
     search: &mut Progress,
     steps: &mut Steps<L>,
 ) -> Result<Option<BudgetWhat>, Memory>
@@ -152,7 +169,7 @@ fn grow<L: Ledger>(
     ensures rises { steps.old ≤ steps.new }
 {
     'rounds: loop {
-        let step = round(alloc, model, limits, search, steps)?;
+        let step = round(alloc, model, limits, proposer, search, steps)?;
         match step {
             Step::Went => {}
             Step::Ended(stop) => return Ok(stop),
@@ -203,11 +220,12 @@ fn begin(alloc: Global, model: &IntModel) -> Result<Progress, Memory>
     })
 }
 
-/// The right outcome of a search of the whole box.
-fn search_box<L: Ledger>(
+/// Solves a model with any proposer: the outcome is right, best bound first, whatever it proposes. See `solve`.
+pub fn solve_with<P: Proposer, L: Ledger>(
     alloc: Global,
     model: &IntModel,
     limits: Limits,
+    proposer: &mut P,
     steps: &mut Steps<L>,
 ) -> Result<Outcome, Memory>
     requires uncrossed { first_crossed model.now ≡ None }
@@ -221,7 +239,7 @@ fn search_box<L: Ledger>(
     ensures rises { steps.old ≤ steps.new }
 {
     let mut search = begin(alloc, model)?;
-    let stop = grow(alloc, model, limits, &mut search, steps)?;
+    let stop = grow(alloc, model, limits, proposer, &mut search, steps)?;
     let Progress { found, open, .. } = search;
     let tree = open.assemble(alloc)?;
     let best = best_point(found);
@@ -274,5 +292,6 @@ pub fn solve<L: Ledger>(
     ensures counted { IfOk result (λ o. IsCounted limits (stopped_of o) (nodes_of o) steps.old steps.new) }
     ensures rises { steps.old ≤ steps.new }
 {
-    search_box(alloc, model, limits, steps)
+    let mut tableau = start(alloc, model)?;
+    solve_with(alloc, model, limits, &mut tableau, steps)
 }

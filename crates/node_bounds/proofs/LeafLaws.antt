@@ -158,7 +158,8 @@ closed_end m b cut_at c v ok bound closes = record { cert = ok; closed = subst (
 -- so does one with the certificate without multipliers
 pub plain_end : (m : Parts) (b : List (ℤ × ℤ)) (cut_at : Option ℤ) (c : Cert) (v : Bound) → c ≡ plain_cert →
     v ≡ leaf_bound m b c → Closes cut_at v → IsEnd m b cut_at c
-plain_end m b cut_at c v is bound closes = closed_end m b cut_at c v (subst (IsCert (length m.rows)) (sym is) (plain_cert_ok (length m.rows)))
+plain_end m b cut_at c v is bound closes =
+    closed_end m b cut_at c v (subst (IsCert (length m.rows)) (sym is) (plain_cert_ok (length m.rows)))
     bound closes
 
 -- an infinite bound closes wherever the search cuts

@@ -5,5 +5,6 @@ pub mod Nodes
 pub mod Reasons
 pub mod Splits
 pub mod Stops
+pub mod Tasks
 pub mod Workspaces
 pub mod Internal

@@ -13,6 +13,7 @@ ghost use Rattle.node_bounds.specs.Internal.Leaves.{BreaksRow, ray_on};
 
 use crate::boxes::lowest_point;
 use crate::nodes::Node;
+use crate::tasks::Task;
 use ip_defs::{Area, Bound, Breach, Cert, Memory, Multipliers, Point};
 use ip_model::{IntModel, cost, first_breach};
 use leaf_cert::{Scratch, leaf_bound};
@@ -94,28 +95,29 @@ fn ray_of(
 /// ray closes the box.
 pub fn end_at_point(
     alloc: Global,
-    model: &IntModel,
-    area: &Area,
+    task: &Task,
     plain: Cert,
-    cut_at: Option<i128>,
     scratch: &mut Scratch,
 ) -> Result<Node, Memory>
-    requires limits { IsWithinLimits model.now }
-    requires area { IsSearchArea model.now area.now }
-    requires open { IsOpen area.now }
-    requires single { IsSingle area.now }
     requires plain { plain ≡ plain_cert_of }
-    requires below { IsBelow (Bound.At (box_sum model.now area.now)) cut_at }
-    requires room { FitsScratch model.now scratch.old }
-    ensures node { IfOk result (λ n. (pivots : ℕ) → IsNodeOf model.now pivots area.now cut_at n) }
+    requires single { IsSingle task.now.area.now }
+    requires limits { IsWithinLimits task.now.model.now }
+    requires area { IsSearchArea task.now.model.now task.now.area.now }
+    requires open { IsOpen task.now.area.now }
+    requires below { IsBelow (Bound.At (box_sum task.now.model.now task.now.area.now)) task.now.cut_at }
+    requires room { FitsScratch task.now.model.now scratch.old }
+    ensures node { IfOk result (λ n. (pivots : ℕ) → IsNodeOf task.now.model.now pivots task.now.area.now task.now.cut_at n) }
     ensures answered { IfOk result (λ n. stops_of n ≡ 0) }
     ensures room { column_count_of scratch.new ≡ column_count_of scratch.old }
 {
-    let point = lowest_point(alloc, area)?;
-    match broken_row(model, &point) {
-        Some(row) => Ok(Node::Closed(ray_of(alloc, model, area, row, scratch)?)),
+    let point = lowest_point(alloc, task.area)?;
+    match broken_row(task.model, &point) {
+        Some(row) => {
+            let ray = ray_of(alloc, task.model, task.area, row, scratch)?;
+            Ok(Node::Closed(ray))
+        }
         None => {
-            let cost = cost(model, &point);
+            let cost = cost(task.model, &point);
             Ok(Node::Whole {
                 point,
                 cost,

@@ -9,10 +9,14 @@ mod nodes;
 mod proposals;
 mod reasons;
 mod relaxations;
+mod tasks;
 mod workspaces;
 
 pub use choosers::Chooser;
+pub use dual_proposals::{DualTableau, Numerators, Proposal, Proposed, start};
 pub use nodes::{Branch, Node, box_bound, split_or_close, visit};
+pub use proposals::Proposer;
 pub use reasons::{Why, Whys};
 pub use simplex_exact::Fracs;
+pub use tasks::Task;
 pub use workspaces::Workspace;

@@ -1,23 +1,24 @@
 //! What is said of a node: its box is closed by a certificate, or a whole point is a least one of it, or it is split.
-ghost use Rattle.std.specs.Prelude.{◌≡◌, ◌+◌, ◌*◌, ◌≤◌, ◌<ℤ◌, ℕ, length, None, IfNone, IfOk, IfSome};
+ghost use Rattle.std.specs.Prelude.{◌≡◌, ◌+◌, ◌*◌, ◌≤◌, ◌<ℤ◌, ℕ, length, IfNone, IfOk, IfSome};
 ghost use Rattle.ip_defs.specs.Boxes.{IsOpen};
 ghost use Rattle.ip_defs.specs.Limits.{IsArea};
 ghost use Rattle.std.specs.Prelude.{List, ℤ, ◌≤ℤ◌};
 ghost use Rattle.ip_defs.specs.Program.{high_at, low_at, IsFeasible, IsIn, cost as cost_of};
-ghost use Rattle.ip_model.specs.Sizes.{first_crossed};
 ghost use Rattle.leaf_cert.specs.Scratches.{FitsScratch, column_count_of};
-ghost use Rattle.node_bounds.specs.Areas.{IsSearchArea};
 ghost use Rattle.ip_defs.specs.declared.certificates.Bound.TheVariants.{At};
 ghost use Rattle.node_bounds.specs.Cuts.{Closes, IsBelow};
 ghost use Rattle.node_bounds.specs.Nodes.{HasCert, IsNodeOf, IsSplit, KeepsReason, greater as greater_of, stops_of};
 ghost use Rattle.node_bounds.specs.Splits.{IsWidest};
 ghost use Rattle.node_bounds.specs.Stops.{stops};
+ghost use Rattle.node_bounds.specs.Tasks.{IsNodeFor, IsTask, RisesBy};
 ghost use Rattle.node_bounds.specs.Workspaces.{FitsWorkspace};
 
 use crate::Why;
 use crate::boxes::{middle, widest_column};
 use crate::leaves::{end_at_point, is_closed, plain_cert};
+use crate::proposals::{Proposer, accepted, proposal};
 use crate::relaxations::{Relaxed, relax};
+use crate::tasks::Task;
 use crate::workspaces::Workspace;
 use ip_defs::{Area, Bound, Cert, Memory, Point};
 use ip_model::IntModel;
@@ -80,31 +81,36 @@ fn below(cut_at: Option<i128>, bound: Bound) -> Option<i128>
 /// split, with its bound.
 pub fn split_or_close(
     alloc: Global,
-    model: &IntModel,
-    area: &Area,
-    cut_at: Option<i128>,
+    task: &Task,
     col: u32,
     at: i64,
     why: Why,
     scratch: &mut Scratch,
 ) -> Node
-    requires area { IsArea (length model.now.columns) area.now }
-    requires cert { HasCert (length model.now.rows) why }
-    requires room { FitsScratch model.now scratch.old }
-    ensures node { (pivots : ℕ) → IsSplit model.now pivots area.now col at why → IsNodeOf model.now pivots area.now cut_at result }
+    requires area { IsArea (length task.now.model.now.columns) task.now.area.now }
+    requires cert { HasCert (length task.now.model.now.rows) why }
+    requires room { FitsScratch task.now.model.now scratch.old }
+    ensures node { (pivots : ℕ) → IsSplit task.now.model.now pivots task.now.area.now col at why
+        → IsNodeOf task.now.model.now pivots task.now.area.now task.now.cut_at result }
     ensures stops { stops_of result ≤ stops why }
     ensures same { KeepsReason why result }
     ensures room { column_count_of scratch.new ≡ column_count_of scratch.old }
 {
     let plain = plain_cert(alloc);
-    let sum = match below(cut_at, leaf_bound(model, &plain, area, scratch)) {
+    let sum = match below(
+        task.cut_at,
+        leaf_bound(task.model, &plain, task.area, scratch),
+    ) {
         Some(sum) => sum,
         None => return Node::Closed(plain),
     };
     match why {
         Why::Fractional { point, cert } => {
-            let bound = greater(Bound::At(sum), leaf_bound(model, &cert, area, scratch));
-            match below(cut_at, bound) {
+            let bound = greater(
+                Bound::At(sum),
+                leaf_bound(task.model, &cert, task.area, scratch),
+            );
+            match below(task.cut_at, bound) {
                 Some(bound) => {
                     let why = Why::Fractional { point, cert };
                     Node::Split(Branch {
@@ -134,74 +140,70 @@ pub fn split_or_close(
 
 /// What is said of a box of more than one point that its sum does not close: its linear program closes it, or has a whole point, or it is
 /// split, by the linear program at a column with a fraction, or without its answer at the middle of the widest column.
-fn relax_or_split<L: Ledger>(
+fn relax_or_split<P: Proposer, L: Ledger>(
     alloc: Global,
-    model: &IntModel,
-    pivots: u32,
-    area: &Area,
-    cut_at: Option<i128>,
+    task: &Task,
     widest: u32,
+    proposer: &mut P,
     work: &mut Workspace,
     steps: &mut Steps<L>,
 ) -> Result<Node, Memory>
-    requires uncrossed { first_crossed model.now ≡ None }
-    requires area { IsSearchArea model.now area.now }
-    requires open { IsOpen area.now }
-    requires widest { IsWidest area.now widest }
-    requires wide { low_at area.now widest <ℤ high_at area.now widest }
-    requires room { FitsWorkspace model.now work.old }
-    ensures node { IfOk result (IsNodeOf model.now pivots area.now cut_at) }
-    ensures least { IfOk result (λ n. steps.old + stops_of n * pivots ≤ steps.new) }
-    ensures rises { steps.old ≤ steps.new }
-    ensures most { steps.new ≤ steps.old + pivots }
-    ensures room { FitsWorkspace model.now work.new }
+    requires task { IsTask task.now }
+    requires open { IsOpen task.now.area.now }
+    requires room { FitsWorkspace task.now.model.now work.old }
+    requires widest { IsWidest task.now.area.now widest }
+    requires wide { low_at task.now.area.now widest <ℤ high_at task.now.area.now widest }
+    ensures node { IfOk result (IsNodeFor task.now) }
+    ensures least { IfOk result (λ n. steps.old + stops_of n * task.now.pivots ≤ steps.new) }
+    ensures counted { RisesBy task.now.pivots steps.old steps.new }
+    ensures room { FitsWorkspace task.now.model.now work.new }
 {
-    match relax(alloc, model, pivots, area, cut_at, work, steps)? {
+    // The parts of a model are within the limits.
+    let _parts = task.model.parts();
+    let proposed = proposal(alloc, task, proposer)?;
+    let known = accepted(alloc, task, proposed, work)?;
+    match relax(alloc, task, known, work, steps)? {
         Relaxed::Closed(cert) => Ok(Node::Closed(cert)),
         Relaxed::Whole { point, cost, cert } => Ok(Node::Whole { point, cost, cert }),
         Relaxed::Between { col, at, why } => {
             let scratch = &mut work.scratch;
-            Ok(split_or_close(alloc, model, area, cut_at, col, at, why, scratch))
+            Ok(split_or_close(alloc, task, col, at, why, scratch))
         }
         Relaxed::Unanswered(why) => {
-            let (low, high) = area.as_slice()[widest as usize];
+            let (low, high) = task.area.as_slice()[widest as usize];
             let at = middle(low, high);
             let scratch = &mut work.scratch;
-            Ok(split_or_close(alloc, model, area, cut_at, widest, at, why, scratch))
+            Ok(split_or_close(alloc, task, widest, at, why, scratch))
         }
     }
 }
 
-/// What is said of a node, where the search cuts at a cost: its sum closes its box, or its one point ends it, or its linear program closes
-/// it or has a whole point, or it is split. `pivots` is the most steps of a linear program.
-pub fn visit<L: Ledger>(
+/// What is said of a node: its sum closes its box, or its one point ends it, or its linear program closes it or has a whole point, or it is
+/// split. What is proposed is believed only where a check accepts it, so the answer is right whatever the proposer.
+pub fn visit<P: Proposer, L: Ledger>(
     alloc: Global,
-    model: &IntModel,
-    pivots: u32,
-    area: &Area,
-    cut_at: Option<i128>,
+    task: &Task,
+    proposer: &mut P,
     work: &mut Workspace,
     steps: &mut Steps<L>,
 ) -> Result<Node, Memory>
-    requires uncrossed { first_crossed model.now ≡ None }
-    requires area { IsSearchArea model.now area.now }
-    requires room { FitsWorkspace model.now work.old }
-    ensures node { IfOk result (IsNodeOf model.now pivots area.now cut_at) }
-    ensures least { IfOk result (λ n. steps.old + stops_of n * pivots ≤ steps.new) }
-    ensures rises { steps.old ≤ steps.new }
-    ensures most { steps.new ≤ steps.old + pivots }
-    ensures room { FitsWorkspace model.now work.new }
+    requires task { IsTask task.now }
+    requires room { FitsWorkspace task.now.model.now work.old }
+    ensures node { IfOk result (IsNodeFor task.now) }
+    ensures least { IfOk result (λ n. steps.old + stops_of n * task.now.pivots ≤ steps.new) }
+    ensures counted { RisesBy task.now.pivots steps.old steps.new }
+    ensures room { FitsWorkspace task.now.model.now work.new }
 {
     let plain = plain_cert(alloc);
-    let bound = leaf_bound(model, &plain, area, &mut work.scratch);
-    if is_closed(cut_at, bound) {
+    let bound = leaf_bound(task.model, &plain, task.area, &mut work.scratch);
+    if is_closed(task.cut_at, bound) {
         return Ok(Node::Closed(plain));
     }
     // The parts of a model are within the limits.
-    let _parts = model.parts();
-    match widest_column(area.as_slice()) {
-        Some(widest) => relax_or_split(alloc, model, pivots, area, cut_at, widest, work, steps),
-        None => end_at_point(alloc, model, area, plain, cut_at, &mut work.scratch),
+    let _parts = task.model.parts();
+    match widest_column(task.area.as_slice()) {
+        Some(widest) => relax_or_split(alloc, task, widest, proposer, work, steps),
+        None => end_at_point(alloc, task, plain, &mut work.scratch),
     }
 }
 

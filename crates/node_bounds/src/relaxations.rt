@@ -1,25 +1,25 @@
 //! What the linear program of a node says of its box.
-ghost use Rattle.std.specs.Prelude.{◌≡◌, ◌<◌, ◌+◌, ◌*◌, ◌≤◌, ℕ, ◌+ℤ◌, IfOk, IfNone, IfSome, MatchBool, length, None, pos};
+ghost use Rattle.std.specs.Prelude.{◌≡◌, ◌<◌, ◌+◌, ◌*◌, ◌≤◌, ℕ, ◌+ℤ◌, IfOk, IfNone, IfSome, MatchBool, length, pos};
 ghost use Rattle.frac128.specs.Rationals.{of, AtMost};
 ghost use Rattle.frac128.specs.Values.{value_of};
 ghost use Rattle.ip_defs.specs.Boxes.{IsOpen};
 ghost use Rattle.ip_defs.specs.Limits.{IsWithinLimits};
 ghost use Rattle.ip_defs.specs.Program.{at as number_at};
-ghost use Rattle.ip_model.specs.Sizes.{first_crossed};
 ghost use Rattle.lp_duality.specs.Relaxations.{numbers_of};
 ghost use Rattle.node_bounds.specs.Areas.{IsSearchArea};
+ghost use Rattle.node_bounds.specs.Tasks.{IsTask, RisesBy};
 ghost use Rattle.node_bounds.specs.Workspaces.{FitsWorkspace};
-ghost use Rattle.node_bounds.specs.Internal.Relaxed.{IsBounded, IsRelaxedNode, IsSmallNumber, IsWholeNumber, stops_by};
+ghost use Rattle.node_bounds.specs.Internal.Relaxed.{IsBounded, IsRelaxedFor, IsRelaxedNode, IsSmallNumber, IsWholeNumber, stops_by};
 
 use crate::Why;
 use crate::choosers::Chooser;
 use crate::leaves::is_closed;
-use crate::proposals::proposed;
+use crate::tasks::Task;
 use crate::workspaces::Workspace;
 use dual_rays::{cert_of_prices, cert_of_ray};
 use frac128::Frac;
-use ip_defs::{Area, Cert, Memory, Parts, Point};
-use ip_model::{IntModel, cost};
+use ip_defs::{Cert, Memory, Parts, Point};
+use ip_model::cost;
 use leaf_cert::leaf_bound;
 use simplex_exact::{Fracs, LpAnswer, Steps, solve_lp};
 use std::alloc::{AllocError, Global};
@@ -140,27 +140,25 @@ fn whole_point(alloc: Global, point: &[Frac]) -> Result<Point, AllocError>
 /// bounds by just that cost.
 pub fn bounded(
     alloc: Global,
-    model: &IntModel,
-    area: &Area,
+    task: &Task,
     point: Fracs,
     cert: Cert,
-    cut_at: Option<i128>,
     work: &mut Workspace,
 ) -> Result<Relaxed, Memory>
-    requires limits { IsWithinLimits model.now }
-    requires area { IsSearchArea model.now area.now }
-    requires open { IsOpen area.now }
-    requires bounds { IsBounded model.now area.now point cert }
-    requires room { FitsWorkspace model.now work.old }
-    ensures relaxed { IfOk result (λ r. (pivots : ℕ) → IsRelaxedNode model.now pivots area.now cut_at r) }
+    requires limits { IsWithinLimits task.now.model.now }
+    requires area { IsSearchArea task.now.model.now task.now.area.now }
+    requires open { IsOpen task.now.area.now }
+    requires bounds { IsBounded task.now.model.now task.now.area.now point cert }
+    requires room { FitsWorkspace task.now.model.now work.old }
+    ensures relaxed { IfOk result (λ r. (pivots : ℕ) → IsRelaxedNode task.now.model.now pivots task.now.area.now task.now.cut_at r) }
     ensures answered { IfOk result (λ r. stops_by r ≡ 0) }
-    ensures room { FitsWorkspace model.now work.new }
+    ensures room { FitsWorkspace task.now.model.now work.new }
 {
-    let bound = leaf_bound(model, &cert, area, &mut work.scratch);
-    if is_closed(cut_at, bound) {
+    let bound = leaf_bound(task.model, &cert, task.area, &mut work.scratch);
+    if is_closed(task.cut_at, bound) {
         return Ok(Relaxed::Closed(cert));
     }
-    match chosen_column(model.parts(), point.as_slice(), &mut work.chooser) {
+    match chosen_column(task.model.parts(), point.as_slice(), &mut work.chooser) {
         Some(col) => {
             let at = floor_of(point.as_slice()[col as usize]);
             let why = Why::Fractional { point, cert };
@@ -168,38 +166,40 @@ pub fn bounded(
         }
         None => {
             let point = whole_point(alloc, point.as_slice())?;
-            let cost = cost(model, &point);
+            let cost = cost(task.model, &point);
             Ok(Relaxed::Whole { point, cost, cert })
         }
     }
 }
 
-/// Solves the linear program of a node by the defined simplex, and reads its answer: a certificate that closes the node, or a column
-/// between whose whole numbers a least point lies, or that there is no answer.
-fn relax_exactly<L: Ledger>(
+/// What the linear program of a node says: a certificate that closes the node, or a column between whose whole numbers a least point lies,
+/// or that there is no answer. Where a proposal was accepted it is the answer; else the defined simplex decides, whose steps alone are
+/// counted.
+pub fn relax<L: Ledger>(
     alloc: Global,
-    model: &IntModel,
-    pivots: u32,
-    area: &Area,
-    cut_at: Option<i128>,
+    task: &Task,
+    accepted: Option<Relaxed>,
     work: &mut Workspace,
     steps: &mut Steps<L>,
 ) -> Result<Relaxed, Memory>
-    requires uncrossed { first_crossed model.now ≡ None }
-    requires area { IsSearchArea model.now area.now }
-    requires open { IsOpen area.now }
-    requires room { FitsWorkspace model.now work.old }
-    ensures relaxed { IfOk result (IsRelaxedNode model.now pivots area.now cut_at) }
-    ensures least { IfOk result (λ r. steps.old + stops_by r * pivots ≤ steps.new) }
-    ensures rises { steps.old ≤ steps.new }
-    ensures most { steps.new ≤ steps.old + pivots }
-    ensures room { FitsWorkspace model.now work.new }
+    requires task { IsTask task.now }
+    requires open { IsOpen task.now.area.now }
+    requires right { IfSome accepted (IsRelaxedFor task.now) }
+    requires answered { IfSome accepted (λ r. stops_by r ≡ 0) }
+    requires room { FitsWorkspace task.now.model.now work.old }
+    ensures relaxed { IfOk result (IsRelaxedFor task.now) }
+    ensures least { IfOk result (λ r. steps.old + stops_by r * task.now.pivots ≤ steps.new) }
+    ensures counted { RisesBy task.now.pivots steps.old steps.new }
+    ensures room { FitsWorkspace task.now.model.now work.new }
 {
+    if let Some(relaxed) = accepted {
+        return Ok(relaxed);
+    }
     // The parts of a model are within the limits, and so are its rows' prices.
-    let _parts = model.parts();
-    match solve_lp(alloc, model, area, pivots, steps)? {
+    let _parts = task.model.parts();
+    match solve_lp(alloc, task.model, task.area, task.pivots, steps)? {
         LpAnswer::Best { point, prices } => match cert_of_prices(alloc, &prices)? {
-            Some(cert) => bounded(alloc, model, area, point, cert, cut_at, work),
+            Some(cert) => bounded(alloc, task, point, cert, work),
             None => Ok(Relaxed::Unanswered(Why::Wide)),
         },
         LpAnswer::Empty { ray } => match cert_of_ray(alloc, &ray)? {
@@ -208,35 +208,5 @@ fn relax_exactly<L: Ledger>(
         },
         LpAnswer::Stopped => Ok(Relaxed::Unanswered(Why::Stopped)),
         LpAnswer::Wide => Ok(Relaxed::Unanswered(Why::Wide)),
-    }
-}
-
-/// What the linear program of a node says: a certificate that closes the node, or a column between whose whole numbers a least point lies,
-/// or that there is no answer. The living tableau proposes first; where its proposal is not accepted the defined simplex decides, whose
-/// steps alone are counted.
-pub fn relax<L: Ledger>(
-    alloc: Global,
-    model: &IntModel,
-    pivots: u32,
-    area: &Area,
-    cut_at: Option<i128>,
-    work: &mut Workspace,
-    steps: &mut Steps<L>,
-) -> Result<Relaxed, Memory>
-    requires uncrossed { first_crossed model.now ≡ None }
-    requires area { IsSearchArea model.now area.now }
-    requires open { IsOpen area.now }
-    requires room { FitsWorkspace model.now work.old }
-    ensures relaxed { IfOk result (IsRelaxedNode model.now pivots area.now cut_at) }
-    ensures least { IfOk result (λ r. steps.old + stops_by r * pivots ≤ steps.new) }
-    ensures rises { steps.old ≤ steps.new }
-    ensures most { steps.new ≤ steps.old + pivots }
-    ensures room { FitsWorkspace model.now work.new }
-{
-    // The parts of a model are within the limits.
-    let _parts = model.parts();
-    match proposed(alloc, model, pivots, area, cut_at, work)? {
-        Some(relaxed) => Ok(relaxed),
-        None => relax_exactly(alloc, model, pivots, area, cut_at, work, steps),
     }
 }

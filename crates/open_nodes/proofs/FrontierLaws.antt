@@ -11,7 +11,7 @@ use Rattle.open_nodes.specs.declared.nodes.State.TheVariants.{Taken}
 use Rattle.open_nodes.specs.declared.nodes.State.TheVariants as States
 use Rattle.open_nodes.specs.Nodes.{Entry, bound_of}
 use Rattle.open_nodes.specs.Frontiers.{entry_at, sum_over, HasState, IsFrontier, IsLeast, NoneWaits, SameNodes, WaitsAt}
-use Rattle.open_nodes.specs.Internal.Forests.{IsRooted, along, edge_of, entry, entry_of, path_up, sum_among}
+use Rattle.open_nodes.specs.Internal.Forests.{IsFinished, IsRooted, along, edge_of, entry, entry_of, path_up, sum_among}
 use Rattle.open_nodes.specs.Internal.Orders.{Rank, rank_cmp, waits_by}
 use Rattle.open_nodes.proofs.ForestLaws.{IsChildless, renewed_rooted}
 use Rattle.open_nodes.proofs.OrderLaws.{no_rank, rank_least, renewed_ordered}
@@ -21,12 +21,27 @@ use Rattle.open_nodes.proofs.RenewLaws.{entry_is, Renews}
 pub taken_childless : (st : State) → st ≡ Taken → IsChildless st
 taken_childless st is = subst IsChildless (sym is) (λ cut k h. h)
 
--- the node that was taken is done with: it has another state, without children, and does not wait
-pub frontier_renewed : (f : Frontier) (s : Slab Node) (key : ℕ) (n : Node) (st : State) → Renews f.nodes s key n st → n.state ≡ Taken
-    → IsChildless st → waits_by st ≡ 0 → IsFrontier f → IsFrontier (record { nodes = s; order = f.order; root = f.root })
-frontier_renewed f s key n st r taken childless quiet open_tree = record {
-  rooted = renewed_rooted f.nodes s f.root key n st r (taken_childless n.state taken) childless open_tree.rooted;
-  ordered = renewed_ordered f.nodes s key n st (heap_items f.order) r (ap waits_by taken) quiet open_tree.ordered;
+-- nor has one that is done with, which does not wait either
+finished_childless : (st : State) → IsFinished st → IsChildless st
+finished_childless (States.Waiting bound solved) last = absurd last
+finished_childless States.Taken last = absurd last
+finished_childless (States.Closed cert) last = λ cut k h. h
+finished_childless (States.Stuck why) last = λ cut k h. h
+finished_childless (States.Split col z why left right) last = absurd last
+
+finished_quiet : (st : State) → IsFinished st → waits_by st ≡ 0
+finished_quiet (States.Waiting bound solved) last = absurd last
+finished_quiet States.Taken last = refl
+finished_quiet (States.Closed cert) last = refl
+finished_quiet (States.Stuck why) last = refl
+finished_quiet (States.Split col z why left right) last = refl
+
+-- the node that was taken is done with
+pub frontier_finished : (f : Frontier) (s : Slab Node) (key : ℕ) (n : Node) (st : State) → Renews f.nodes s key n st → n.state ≡ Taken
+    → IsFinished st → IsFrontier f → IsFrontier (record { nodes = s; order = f.order; root = f.root })
+frontier_finished f s key n st r taken last open_tree = record {
+  rooted = renewed_rooted f.nodes s f.root key n st r (taken_childless n.state taken) (finished_childless st last) open_tree.rooted;
+  ordered = renewed_ordered f.nodes s key n st (heap_items f.order) r (ap waits_by taken) (finished_quiet st last) open_tree.ordered;
 }
 
 -- ---- nodes of keys

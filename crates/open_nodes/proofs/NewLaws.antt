@@ -6,16 +6,15 @@ use Rattle.std.proofs.lemmas.Bool.{cases_eq}
 use Rattle.slab.specs.Slab.{Slab, get, Updates}
 use Rattle.open_nodes.specs.declared.frontiers.Frontier.{Frontier}
 use Rattle.open_nodes.specs.declared.nodes.Node.{Node}
-use Rattle.open_nodes.specs.declared.nodes.State.TheVariants.{Waiting}
 use Rattle.open_nodes.specs.Frontiers.{entry_at, sum_over, IsNew}
-use Rattle.open_nodes.specs.Internal.Forests.{IsChildBy, IsRooted, entry_of, sum_among, weigh}
+use Rattle.open_nodes.specs.Internal.Forests.{IsChildBy, IsRooted, entry_of, new_node, sum_among, weigh}
 use Rattle.open_nodes.specs.Internal.Orders.{IsOrdered, rank_cmp, waits}
 use Rattle.open_nodes.proofs.RenewLaws.{entry_is}
 use Rattle.open_nodes.proofs.SplitLaws.{sum_added}
 
 -- the root that waits with a bound
 abbrev pub root_node : ℤ → Node
-root_node bound = record { edge = None; depth = 0; state = Waiting bound None }
+root_node bound = new_node None 0 bound
 
 pub nothing_there : (s : Slab Node) → s.slots ≡ [] → (k : ℕ) → get s k ≡ None
 nothing_there s empty k = ap (λ xs. slice_index_or xs k None) empty
@@ -53,7 +52,8 @@ empty_ordered s empty heap = record {
   bounds = λ r n b has there. absurd (no_edge (get s r.2) n (nothing_there s empty r.2) there);
 }
 
-pub is_new : (f : Frontier) (s : Slab Node) (bound : ℤ) → s.slots ≡ [] → Updates s f.nodes f.root (Some (root_node bound)) → IsNew bound f f.root
+pub is_new : (f : Frontier) (s : Slab Node) (bound : ℤ) → s.slots ≡ [] → Updates s f.nodes f.root (Some (root_node bound))
+    → IsNew bound f f.root
 unfolding entry_at sum_over
 is_new f s bound empty u = record {
   made = entry_is f.nodes f.root (root_node bound) u.changed;

@@ -1,5 +1,5 @@
 -- The ranks of the nodes that wait stay in order.
-use Rattle.std.specs.Prelude.{◌≡◌, ◌≢◌, ℕ, ◌==◌, ◌<◌, Bool, true, false, ℤ, ◌≤ℤ◌, ◌⊎◌, List, [], ◌∷◌, length, Option, None, Some}
+use Rattle.std.specs.Prelude.{◌≡◌, ◌≢◌, ℕ, ◌==◌, ◌+◌, ◌<◌, Bool, true, false, ℤ, ◌≤ℤ◌, ◌⊎◌, List, [], ◌∷◌, length, Option, None, Some}
 use Rattle.std.specs.List.{Contains, count_by, AllByRecursion}
 use Rattle.std.specs.List.Sorted.{IsPermutation}
 use Rattle.std.specs.BinaryHeap.{IsHeap, IsUpperBound}
@@ -10,10 +10,12 @@ use Rattle.std.proofs.lemmas.List.Sorted.{Contains-permutation, IsPermutation-sy
 use Rattle.std.proofs.lemmas.List.Sums.{sum_by-cons}
 use Rattle.std.proofs.Common.{cond, int_lt}
 use Rattle.std.specs.Ordering.{is_lt, nat_cmp, ordering_then}
+use Rattle.std.specs.declared.cmp.Ordering.{Ordering}
 use Rattle.std.specs.declared.cmp.Ordering.TheVariants.{Equal, Greater, Less}
 use Rattle.slab.specs.Slab.{Slab, get}
 use Rattle.slab.proofs.SlabLemmas.{Contains-cons, Contains-cons_cases}
 use Rattle.open_nodes.specs.declared.nodes.Node.{Node}
+use Rattle.open_nodes.specs.declared.nodes.Solved.{Solved}
 use Rattle.open_nodes.specs.declared.nodes.State.{State}
 use Rattle.open_nodes.specs.declared.nodes.State.TheVariants.{Waiting, Taken, Closed, Stuck, Split}
 use Rattle.open_nodes.specs.Nodes.{bound_of}
@@ -67,6 +69,14 @@ one_waits (Closed cert) b e = absurd cc
 one_waits (Stuck why) b e = absurd cc
 one_waits (Split col z why left right) b e = absurd cc
 
+-- a state that has a bound is that of a node which waits with it
+pub waits_with : (st : State) (b : ℤ) → bound_of st ≡ Some b → (solved : Option Solved) × (st ≡ Waiting b solved)
+waits_with (Waiting bound solved) b e = (solved, let same : bound ≡ b = cc in ap (λ (z : ℤ). Waiting z solved) same)
+waits_with Taken b e = absurd cc
+waits_with (Closed cert) b e = absurd cc
+waits_with (Stuck why) b e = absurd cc
+waits_with (Split col z why left right) b e = absurd cc
+
 bound_there : (st : State) → (waits_by st ≡ 0) ⊎ ((b : ℤ) × (bound_of st ≡ Some b))
 bound_there (Waiting bound solved) = inr (bound, refl)
 bound_there Taken = inl refl
@@ -95,9 +105,9 @@ bound_below r y e = by (int_lt y.0.0 r.0.0) refl
   where
     by : (t : Bool) → int_lt y.0.0 r.0.0 ≡ t → r.0.0 ≤ℤ y.0.0
     by true is =
-        let less : is_lt (rank_cmp r y) ≡ true = ap
-        (λ u. is_lt (ordering_then (ordering_then (cond u Less (cond (int_lt r.0.0 y.0.0) Greater Equal)) (nat_cmp r.1 y.1)) (nat_cmp r.2 y.2)))
-        is in
+        let by_bound : Bool → Ordering = λ u. cond u Less (cond (int_lt r.0.0 y.0.0) Greater Equal) in
+        let less : is_lt (rank_cmp r y) ≡ true =
+        ap (λ u. is_lt (ordering_then (ordering_then (by_bound u) (nat_cmp r.1 y.1)) (nat_cmp r.2 y.2))) is in
         absurd cc
     by false is = grind (arith, ints)
 
@@ -133,6 +143,21 @@ weight_other k r differs = by (r.2 == k) refl
     by true e = absurd (differs (sym (eqb-true r.2 k e)))
     by false e = ap one_if e
 
+-- one more node waits in one slab than in another: that of a rank
+one_more : (few many : Slab Node) (r : Rank) → ((k : ℕ) → k ≢ r.2 → get few k ≡ get many k) → waits (get few r.2) ≡ 0
+    → waits (get many r.2) ≡ 1 → (k : ℕ) → one_if (is_rank_of k r) + waits (get few k) ≡ waits (get many k)
+one_more few many r same none one k = elim (cases_eq k r.2) [
+  | inl is ↦
+      let mine = weight_mine k r is in
+      let here : waits (get few k) ≡ 0 = ap (λ j. waits (get few j)) is ∙ none in
+      let there : waits (get many k) ≡ 1 = ap (λ j. waits (get many j)) is ∙ one in
+      omega (arith, mine, here, there)
+  | inr differs ↦
+      let nothing = weight_other k r differs in
+      let equal : waits (get few k) ≡ waits (get many k) = ap waits (same k differs) in
+      omega (arith, nothing, equal)
+]
+
 -- where the nodes that wait are the same
 pub kept_ordered : (s s' : Slab Node) (ranks : List Rank) → ((k : ℕ) → waits (get s' k) ≡ waits (get s k))
     → ((k : ℕ) (n : Node) (b : ℤ) → get s' k ≡ Some n → bound_of n.state ≡ Some b → get s k ≡ Some n) → IsOrdered s ranks
@@ -150,7 +175,9 @@ renewed_ordered s s' key n st ranks r before after o = kept_ordered s s' ranks s
   where
     same : (k : ℕ) → waits (get s' k) ≡ waits (get s k)
     same k = elim (cases_eq k key) [
-      | inl is ↦ ap (λ j. waits (get s' j)) is ∙ ap waits r.has ∙ after ∙ sym before ∙ sym (ap waits r.had) ∙ sym (ap (λ j. waits (get s j)) is)
+      | inl is ↦
+          ap (λ j. waits (get s' j)) is ∙ ap waits r.has ∙ after
+          ∙ sym (ap (λ j. waits (get s j)) is ∙ ap waits r.had ∙ before)
       | inr differs ↦ ap waits (r.others k differs)
     ]
 
@@ -173,18 +200,8 @@ popped_ordered s s' r n st ranks rest new before after moved heap o = record { h
     listed : (k : ℕ) → count_by (is_rank_of k) rest ≡ waits (get s' k)
     listed k =
         let left = sum_by_popped (λ y. one_if (is_rank_of k y)) r ranks rest moved in
-        let old = o.listed k in
-        elim (cases_eq k r.2) [
-          | inl is ↦
-              let one = weight_mine k r is in
-              let was : waits (get s k) ≡ 1 = ap (λ j. waits (get s j)) is ∙ ap waits new.had ∙ before in
-              let now : waits (get s' k) ≡ 0 = ap (λ j. waits (get s' j)) is ∙ ap waits new.has ∙ after in
-              omega (arith, left, old, one, was, now)
-          | inr differs ↦
-              let nothing = weight_other k r differs in
-              let same : waits (get s' k) ≡ waits (get s k) = ap waits (new.others k differs) in
-              omega (arith, left, old, nothing, same)
-        ]
+        let more = one_more s' s r new.others (ap waits new.has ∙ after) (ap waits new.had ∙ before) k in
+        omega (arith, left, o.listed k, more)
 
     bounds : (y : Rank) (m : Node) (b : ℤ) → Contains rest y → get s' y.2 ≡ Some m → bound_of m.state ≡ Some b → y.0.0 ≡ b
     bounds y m b has there waits' = elim (cases_eq y.2 r.2) [
@@ -207,18 +224,9 @@ pushed_ordered s s' r ranks more others before n now bound_is moved heap o = rec
     listed : (k : ℕ) → count_by (is_rank_of k) more ≡ waits (get s' k)
     listed k =
         let all = sum_by_pushed (λ y. one_if (is_rank_of k y)) r ranks more moved in
-        let old = o.listed k in
-        elim (cases_eq k r.2) [
-          | inl is ↦
-              let one = weight_mine k r is in
-              let was : waits (get s k) ≡ 0 = ap (λ j. waits (get s j)) is ∙ before in
-              let new : waits (get s' k) ≡ 1 = ap (λ j. waits (get s' j)) is ∙ ap waits now ∙ one_waits n.state r.0.0 bound_is in
-              omega (arith, all, old, one, was, new)
-          | inr differs ↦
-              let nothing = weight_other k r differs in
-              let same : waits (get s' k) ≡ waits (get s k) = ap waits (others k differs) in
-              omega (arith, all, old, nothing, same)
-        ]
+        let waits' = ap waits now ∙ one_waits n.state r.0.0 bound_is in
+        let one = one_more s s' r (λ j differs. sym (others j differs)) before waits' k in
+        omega (arith, all, o.listed k, one)
 
     bounds : (y : Rank) (m : Node) (b : ℤ) → Contains more y → get s' y.2 ≡ Some m → bound_of m.state ≡ Some b → y.0.0 ≡ b
     bounds y m b has there waits' =

@@ -16,7 +16,7 @@ use Rattle.node_bounds.specs.declared.reasons.Why.{Why}
 use Rattle.open_nodes.specs.Nodes.{under, with_state}
 use Rattle.open_nodes.specs.Frontiers.{entry_at, sum_over, SplitsNode}
 use Rattle.open_nodes.specs.Internal.Forests.{CameFrom, IsChildBy, IsForest, IsRooted, IsSmallCut}
-use Rattle.open_nodes.specs.Internal.Forests.{along, edge_of, entry, entry_of, path_up, sum_among, weigh}
+use Rattle.open_nodes.specs.Internal.Forests.{along, edge_of, entry, entry_of, new_node, path_up, sum_among, weigh}
 use Rattle.open_nodes.proofs.RenewLaws.{KeepsEdges, HasParents, entry_is, entry_kept, path_same, renewed, renews, with_state_along}
 
 -- ---- sums over slots
@@ -91,7 +91,7 @@ sum_added g s s' key n none new = sum_filled (weigh g) refl s.slots s'.slots key
 
 -- a new node below another one
 abbrev pub child : ℕ → Cut → ℕ → ℤ → Node
-child key cut depth bound = record { edge = Some (record { parent = key; cut = cut }); depth = depth; state = Waiting bound None }
+child key cut depth bound = new_node (Some (record { parent = key; cut = cut })) depth bound
 
 pub record Grows (s s' : Slab Node) (key col : ℕ) (z : ℤ) (why : Why) (bound : ℤ) (n : Node) (left right : ℕ) : Type 0 where
   pub had : get s key ≡ Some n
@@ -246,7 +246,8 @@ module _ (s s' : Slab Node) (key col : ℕ) (z : ℤ) (why : Why) (bound : ℤ) 
   ]
 
   -- the children of the node that was split
-  new_down : (cut : Cut) (c : ℕ) → IsChildBy (Split col z why left right) cut c → (m : Node) × (get s' c ≡ Some m) × CameFrom m key cut n.depth
+  new_down : (cut : Cut) (c : ℕ) → IsChildBy (Split col z why left right) cut c
+      → (m : Node) × (get s' c ≡ Some m) × CameFrom m key cut n.depth
   new_down (Below j v) c h =
       (child key (Below j v) (n.depth + 1) bound, rw (h.2, h.0, h.1) w.left_has, record { edge = refl; deeper = refl })
   new_down (Above j v) c h =
@@ -324,8 +325,8 @@ module _ (s s' : Slab Node) (key col : ℕ) (z : ℤ) (why : Why) (bound : ℤ) 
       let p = parents k m e has edge in
       let x = kept e.parent p.0 p.1 in (x.0, x.1)
 
-  small : (top : ℕ) → IsRooted s top → unsigned_abs z ≤ 2 ^ 24 → (k : ℕ) (m : Node) (e : Edge) → Which s key col z why bound n left right k m
-      → m.edge ≡ Some e → IsSmallCut e.cut
+  small : (top : ℕ) → IsRooted s top → unsigned_abs z ≤ 2 ^ 24 → (k : ℕ) (m : Node) (e : Edge)
+      → Which s key col z why bound n left right k m → m.edge ≡ Some e → IsSmallCut e.cut
   small top r fits k m e (the_key same is) edge =
       r.small k n e (ap (get s) same ∙ w.had) (sym (ap (λ (x : Node). x.edge) is) ∙ edge)
   small top r fits k m e (the_left same is) edge =

@@ -138,7 +138,8 @@ each_map P Q f [] h = tt
 each_map P Q f (x ∷ xs) h = (f x h.0, each_map P Q f xs h.1)
 
 -- paths for keys are such for what is left
-paths_left : (s s' : Slab Node) (path : ℕ → List Cut) → ((k : ℕ) → (get s' k ≡ get s k) ⊎ (get s' k ≡ None)) → ArePaths s path → ArePaths s' path
+paths_left : (s s' : Slab Node) (path : ℕ → List Cut) → ((k : ℕ) → (get s' k ≡ get s k) ⊎ (get s' k ≡ None)) → ArePaths s path
+    → ArePaths s' path
 paths_left s s' path shrinks ok = λ k c n cut has h. ok k c n cut (was_there s s' shrinks k n has) h
 
 -- the parents of what is left are gone where they were
@@ -174,10 +175,12 @@ upper (Some e) = upper_cut e.cut
 module _ (s s1 : Slab Node) (key : ℕ) (n : Node) (col : ℕ) (z : ℤ) (why : Why) (left right : ℕ) (r : Removes s s1 key n)
     (lone : HasNoParent s n) (forest : IsForest s) (state_is : n.state ≡ Split col z why left right) where
   left_child : (m : Node) × (get s left ≡ Some m) × CameFrom m key (Below col z) n.depth
-  left_child = forest.down key left n (Below col z) r.had (subst (λ (st : State). IsChildBy st (Below col z) left) (sym state_is) (refl, refl, refl))
+  left_child = forest.down key left n (Below col z) r.had
+      (subst (λ (st : State). IsChildBy st (Below col z) left) (sym state_is) (refl, refl, refl))
 
   right_child : (m : Node) × (get s right ≡ Some m) × CameFrom m key (Above col z) n.depth
-  right_child = forest.down key right n (Above col z) r.had (subst (λ (st : State). IsChildBy st (Above col z) right) (sym state_is) (refl, refl, refl))
+  right_child = forest.down key right n (Above col z) r.had
+      (subst (λ (st : State). IsChildBy st (Above col z) right) (sym state_is) (refl, refl, refl))
 
   not_key : (c : ℕ) (cut : Cut) (m : Node) → get s c ≡ Some m → CameFrom m key cut n.depth → c ≢ key
   not_key c cut m has came = λ e.
@@ -365,7 +368,8 @@ ones_are [] = refl
 ones_are (None ∷ xs) =
     omega (arith, ones_are xs, sum_by-cons (weigh (λ x. 1)) None xs, sum_by-cons (λ (o : Option Node). cond (is_some o) 1 0) None xs)
 ones_are (Some n ∷ xs) =
-    omega (arith, ones_are xs, sum_by-cons (weigh (λ x. 1)) (Some n) xs, sum_by-cons (λ (o : Option Node). cond (is_some o) 1 0) (Some n) xs)
+    let count : Option Node → ℕ = λ o. cond (is_some o) 1 0 in
+    omega (arith, ones_are xs, sum_by-cons (weigh (λ x. 1)) (Some n) xs, sum_by-cons count (Some n) xs)
 
 -- the slab does not grow
 pub taken_fewer : (s s' : Slab Node) (key : ℕ) (t : PlainOpen) → TakesTree s s' key t → slab_len s' ≤ slab_len s
@@ -375,11 +379,12 @@ taken_fewer s s' key t h =
 
 -- ---- by the state of the node
 
-pub leaf_by : (s s' : Slab Node) (key : ℕ) (n : Node) (st : State) → n.state ≡ st → Removes s s' key n → IsTop s key → IsForest s → IsLeafState st
-    → TakesTree s s' key (leaf_tree st)
+pub leaf_by : (s s' : Slab Node) (key : ℕ) (n : Node) (st : State) → n.state ≡ st → Removes s s' key n → IsTop s key → IsForest s
+    → IsLeafState st → TakesTree s s' key (leaf_tree st)
 leaf_by s s' key n (States.Waiting bound solved) is r top forest is_leaf =
     leaf_in_state s s' key n (States.Waiting bound solved) _ r top forest is (λ cut k h. h) (λ d b. refl)
-leaf_by s s' key n States.Taken is r top forest is_leaf = leaf_in_state s s' key n States.Taken _ r top forest is (λ cut k h. h) (λ d b. refl)
+leaf_by s s' key n States.Taken is r top forest is_leaf =
+    leaf_in_state s s' key n States.Taken _ r top forest is (λ cut k h. h) (λ d b. refl)
 leaf_by s s' key n (States.Closed c) is r top forest is_leaf =
     leaf_in_state s s' key n (States.Closed c) _ r top forest is (λ cut k h. h) (λ d b. refl)
 leaf_by s s' key n (States.Stuck why) is r top forest is_leaf =
@@ -387,8 +392,8 @@ leaf_by s s' key n (States.Stuck why) is r top forest is_leaf =
 leaf_by s s' key n (Split col z why left right) is r top forest is_leaf = absurd is_leaf
 
 -- the first child of a split node may be taken
-pub first_ready : (s s1 : Slab Node) (key : ℕ) (n : Node) (st : State) (a b : ℕ) → n.state ≡ st → Removes s s1 key n → IsTop s key → IsForest s
-    → IsSplitInto st a b → IsForest s1 × IsTop s1 a
+pub first_ready : (s s1 : Slab Node) (key : ℕ) (n : Node) (st : State) (a b : ℕ) → n.state ≡ st → Removes s s1 key n → IsTop s key
+    → IsForest s → IsSplitInto st a b → IsForest s1 × IsTop s1 a
 first_ready s s1 key n (States.Waiting bound solved) a b is r top forest into = absurd into
 first_ready s s1 key n States.Taken a b is r top forest into = absurd into
 first_ready s s1 key n (States.Closed c) a b is r top forest into = absurd into

@@ -3,13 +3,13 @@ ghost use Rattle.std.specs.Prelude.{ℕ, ◌≡◌, ◌^◌, ◌+◌, ◌<◌, �
 ghost use Rattle.std.specs.Option.{ForSome};
 ghost use Rattle.std.specs.Int.RustNames.{unsigned_abs};
 ghost use Rattle.std.specs.List.Sorted.{IsPermutation};
-ghost use Rattle.std.specs.BinaryHeap.{heap_capacity, heap_items, heap_len, KeepsHeap};
+ghost use Rattle.std.specs.BinaryHeap.{heap_capacity, heap_items, heap_len, HeapUnchanged, KeepsHeap, PopsGreatest};
 ghost use Rattle.slab.specs.Slab.{ContainsKey, get, with_value};
 ghost use Rattle.open_nodes.specs.declared.nodes.State.TheVariants as States;
 ghost use Rattle.open_nodes.specs.Nodes.{box_along, half, Entry};
 ghost use Rattle.open_nodes.specs.Frontiers.{sum_over, IsFrontier};
 ghost use Rattle.open_nodes.specs.Frontiers.{entry_at, HasState, IsLeast, IsNew, NoneWaits, SameNodes, SetsState, SplitsNode, WaitsAt};
-ghost use Rattle.open_nodes.specs.Internal.Forests.{IsSmallCut};
+ghost use Rattle.open_nodes.specs.Internal.Forests.{IsFinished, IsSmallCut, new_node as new_node_of};
 ghost use Rattle.open_nodes.specs.Internal.Orders.{rank_cmp};
 
 use crate::Why;
@@ -58,6 +58,30 @@ fn add_rank(order: &mut BinaryHeap<Rank>, rank: Rank)
     }
 }
 
+/// Takes the greatest rank: that of the node which is next.
+fn take_rank(order: &mut BinaryHeap<Rank>) -> Option<Rank>
+    ensures least { IfSome result (λ r. PopsGreatest rank_cmp (heap_items order.old) r (heap_items order.new)) }
+    ensures taken { IfSome result (λ r. IsPermutation (heap_items order.old) (r ∷ heap_items order.new)) }
+    ensures none { IfNone result (heap_len order.old ≡ 0) }
+    ensures unchanged { IfNone result (HeapUnchanged order.old order.new) }
+{
+    order.pop()
+}
+
+/// A node that waits with a bound, whose linear program was not solved.
+fn new_node(edge: Option<Edge>, depth: u32, bound: i128) -> Node
+    ensures { result ≡ new_node_of edge depth bound }
+{
+    Node {
+        edge,
+        depth,
+        state: State::Waiting {
+            bound,
+            solved: None,
+        },
+    }
+}
+
 /// Gives the node at a key another state, and hands back the one that it had.
 fn put_state(nodes: &mut Slab<Node>, key: usize, state: State) -> State
     requires { ContainsKey nodes.old key }
@@ -95,14 +119,7 @@ impl Frontier {
         ensures root { IfOk result (λ f. IsNew bound f f.root) }
     {
         let mut nodes = Slab::new(alloc);
-        let root = nodes.insert(Node {
-            edge: None,
-            depth: 0,
-            state: State::Waiting {
-                bound,
-                solved: None,
-            },
-        })?;
+        let root = nodes.insert(new_node(None, 0, bound))?;
         let mut order = BinaryHeap::new(alloc);
         order.push((Reverse(bound), 0, root))?;
         Ok(Frontier { nodes, order, root })
@@ -120,7 +137,7 @@ impl Frontier {
         ensures none { IfNone result (NoneWaits self.old) }
         ensures unchanged { IfNone result (SameNodes self.old self.new) }
     {
-        let key = match self.order.pop() {
+        let key = match take_rank(&mut self.order) {
             Some(rank) => rank.2,
             None => return None,
         };
@@ -190,28 +207,20 @@ impl Frontier {
         self.nodes.reserve(2)?;
         self.order.reserve(2)?;
         let depth = self.nodes[key].depth + 1;
-        let left = self.nodes.insert_reserved(Node {
-            edge: Some(Edge {
-                parent: key,
-                cut: Cut::Below { col, at },
-            }),
-            depth,
-            state: State::Waiting {
-                bound,
-                solved: None,
-            },
-        });
-        let right = self.nodes.insert_reserved(Node {
-            edge: Some(Edge {
-                parent: key,
-                cut: Cut::Above { col, at },
-            }),
-            depth,
-            state: State::Waiting {
-                bound,
-                solved: None,
-            },
-        });
+        let below = Edge {
+            parent: key,
+            cut: Cut::Below { col, at },
+        };
+        let above = Edge {
+            parent: key,
+            cut: Cut::Above { col, at },
+        };
+        let left = self
+            .nodes
+            .insert_reserved(new_node(Some(below), depth, bound));
+        let right = self
+            .nodes
+            .insert_reserved(new_node(Some(above), depth, bound));
         put_state(
             &mut self.nodes,
             key,
@@ -257,7 +266,7 @@ impl Frontier {
         ensures frontier { IsFrontier self.new }
         ensures closed { SetsState self.old self.new key (States.Closed cert) }
     {
-        put_state(&mut self.nodes, key, State::Closed(cert));
+        self.finish(key, State::Closed(cert));
     }
 
     /// Says of a node that was taken that it has to be split, for a reason, and may not be.
@@ -267,6 +276,17 @@ impl Frontier {
         ensures frontier { IsFrontier self.new }
         ensures stuck { SetsState self.old self.new key (States.Stuck why) }
     {
-        put_state(&mut self.nodes, key, State::Stuck(why));
+        self.finish(key, State::Stuck(why));
+    }
+
+    /// Gives a node that was taken its last state, in which it neither waits nor has children.
+    fn finish(&mut self, key: usize, state: State)
+        requires frontier { IsFrontier self.old }
+        requires taken { HasState self.old key States.Taken }
+        requires last { IsFinished state }
+        ensures frontier { IsFrontier self.new }
+        ensures set { SetsState self.old self.new key state }
+    {
+        put_state(&mut self.nodes, key, state);
     }
 }

@@ -12,6 +12,7 @@ use Rattle.node_bounds.specs.declared.reasons.Why.{Why}
 use Rattle.node_bounds.specs.declared.reasons.Why.TheVariants.{Fractional, Stopped, Wide}
 use Rattle.node_bounds.specs.declared.relaxations.Relaxed.{Relaxed}
 use Rattle.node_bounds.specs.declared.relaxations.Relaxed.TheVariants.{Closed, Whole, Between, Unanswered}
+use Rattle.node_bounds.specs.declared.tasks.Task.{Task}
 use Rattle.node_bounds.specs.Stops.{stops}
 use Rattle.node_bounds.specs.Reasons.{IsWideAt}
 use Rattle.node_bounds.specs.Nodes.{IsEnd, IsSplit, IsWholeEnd}
@@ -45,6 +46,10 @@ IsRelaxedNode m pivots b cut_at (Closed c) = IsEnd m b cut_at c
 IsRelaxedNode m pivots b cut_at (Whole x w c) = IsWholeEnd m b cut_at x w c
 IsRelaxedNode m pivots b cut_at (Between col cut why) = IsSplit m pivots b col cut why
 IsRelaxedNode m pivots b cut_at (Unanswered why) = IsUnanswered m pivots b why
+
+-- so for a task
+abbrev pub IsRelaxedFor : Task → Relaxed → Type 0
+IsRelaxedFor t r = IsRelaxedNode t.model.now t.pivots t.area.now t.cut_at r
 
 -- how often the linear program was stopped
 abbrev pub stops_by : Relaxed → ℕ

@@ -44,6 +44,10 @@ entry_of s k (Some n) = Some (record { path = path_up s n.depth k; state = n.sta
 abbrev pub entry : Slab Node → ℕ → Option Entry
 entry s k = entry_of s k (get s k)
 
+-- a node that waits with a bound, whose linear program was not solved
+abbrev pub new_node : Option Edge → ℕ → ℤ → Node
+new_node edge depth bound = record { edge = edge; depth = depth; state = Waiting bound None }
+
 -- ---- counts
 
 -- what a function gives for the state of the node in a slot; nothing where there is none
@@ -65,6 +69,14 @@ IsChildBy (Waiting bound solved) c k = ⊥
 IsChildBy Taken c k = ⊥
 IsChildBy (Closed cert) c k = ⊥
 IsChildBy (Stuck why) c k = ⊥
+
+-- the node is done with: it neither waits nor has children
+abbrev pub IsFinished : State → Type 0
+IsFinished (Waiting bound solved) = ⊥
+IsFinished Taken = ⊥
+IsFinished (Closed cert) = Unit {0}
+IsFinished (Stuck why) = Unit {0}
+IsFinished (Split col z why left right) = ⊥
 
 -- the node came from its parent by a cut, and is one deeper
 pub record CameFrom (n : Node) (parent : ℕ) (cut : Cut) (depth : ℕ) : Type 0 where
@@ -122,7 +134,8 @@ pub record TakesTree (old new : Slab Node) (key : ℕ) (t : PlainOpen) : Type 0 
   pub shrinks : (k : ℕ) → (get new k ≡ get old k) ⊎ (get new k ≡ None)
   pub gone : get new key ≡ None
   pub tops : (k : ℕ) → IsTop old k → k ≢ key → get new k ≡ get old k
-  pub parents : (k : ℕ) (n p : Node) (e : Edge) → get new k ≡ Some n → n.edge ≡ Some e → get old e.parent ≡ Some p → get new e.parent ≡ Some p
+  pub parents : (k : ℕ) (n p : Node) (e : Edge) → get new k ≡ Some n → n.edge ≡ Some e → get old e.parent ≡ Some p
+      → get new e.parent ≡ Some p
   pub made : (path : ℕ → List Cut) (b : List (ℤ × ℤ)) → ArePaths old path → Each (HasLeft old new path b) (places_at path b key t)
   pub all : (path : ℕ → List Cut) (b : List (ℤ × ℤ)) → ArePaths old path → (k : ℕ) (n : Node) → get old k ≡ Some n → get new k ≡ None
       → SomeOf (λ p. p ≡ place_over b (with_path (path k) n)) (places_at path b key t)

@@ -11,16 +11,16 @@ pub returns-clause-holds : goal.returns-clause-holds
 returns-clause-holds g c =
     let m = c.args.model.now in
     let l = c.args.limits in
-    IfOk-weaker c.search_box.result (IsRightOutcome m l) (IsTrueOutcome m) (outcomes_are_true m l) c.search_box.ensures.right
+    IfOk-weaker c.solve_with.result (IsRightOutcome m l) (IsTrueOutcome m) (outcomes_are_true m l) c.solve_with.ensures.right
 
 pub returns-clause-ends : goal.returns-clause-ends
 returns-clause-ends g c =
     let m = c.args.model.now in
     let l = c.args.limits in
-    IfOk-weaker c.search_box.result (IsRightOutcome m l) (λ o. AreAmple m l → IsAnswer o) (searches_end m l) c.search_box.ensures.right
+    IfOk-weaker c.solve_with.result (IsRightOutcome m l) (λ o. AreAmple m l → IsAnswer o) (searches_end m l) c.solve_with.ensures.right
 
 pub returns-clause-counts : goal.returns-clause-counts
 returns-clause-counts g c =
     let m = c.args.model.now in
     let l = c.args.limits in
-    IfOk-weaker c.search_box.result (IsRightOutcome m l) (AreCountsWithin l) (counts_within m l) c.search_box.ensures.right
+    IfOk-weaker c.solve_with.result (IsRightOutcome m l) (AreCountsWithin l) (counts_within m l) c.solve_with.ensures.right

@@ -12,14 +12,15 @@ use Rattle.node_bounds.proofs.nodes.split_or_close.Goals as goal
 use Rattle.node_bounds.proofs.nodes.split_or_close.Goals.{In-Some, In-Fractional}
 
 -- the sum of the box is the bound that is below
-sum_is : (c : In-Some) → leaf_bound c.args.model.now c.args.area.now plain_cert ≡ At c.in-Some.sum
+sum_is : (c : In-Some) → leaf_bound c.args.task.now.model.now c.args.task.now.area.now plain_cert ≡ At c.in-Some.sum
 sum_is c =
-    sym (c.leaf_bound.ensures.bound ∙ ap (leaf_bound c.args.model.now c.args.area.now) c.plain_cert-plain.ensures) ∙ c.in-Some.ensures.some.0
+    sym (c.leaf_bound.ensures.bound ∙ ap (leaf_bound c.args.task.now.model.now c.args.task.now.area.now) c.plain_cert-plain.ensures)
+    ∙ c.in-Some.ensures.some.0
 
 pub returns-in-Some-below-clause-node : goal.returns-in-Some-below-clause-node
 returns-in-Some-below-clause-node c = λ pivots split.
-    let m = c.args.model.now in
-    let b = c.args.area.now in
+    let m = c.args.task.now.model.now in
+    let b = c.args.task.now.area.now in
     let at_back : to_z w64 (of_z w64 c.args.at) ≡ c.args.at = search rules in
     let back : to_z w128 (of_z w128 c.in-Some-below.bound) ≡ c.in-Some-below.bound = search rules in
     let sum_back : to_z w128 (of_z w128 c.in-Some.sum) ≡ c.in-Some.sum = search rules in
@@ -38,12 +39,13 @@ pub returns-in-Fractional-clause-node : goal.returns-in-Fractional-clause-node
 returns-in-Fractional-clause-node c = λ pivots split.
     let sum_back : to_z w128 (of_z w128 c.in-Some.sum) ≡ c.in-Some.sum = search rules in
     let own = c.leaf_bound-in-Fractional.result in
-    let both : c.greater-bound.result ≡ greater (At c.in-Some.sum) own = c.greater-bound.ensures ∙ ap (λ (z : ℤ). greater (At z) own) sum_back in
-    let closes = subst (Closes c.args.cut_at) both c.in-None-below.ensures.none in
+    let both : c.greater-bound.result ≡ greater (At c.in-Some.sum) own =
+    c.greater-bound.ensures ∙ ap (λ (z : ℤ). greater (At z) own) sum_back in
+    let closes = subst (Closes c.args.task.now.cut_at) both c.in-None-below.ensures.none in
     record {
       cert = rw c.in-Fractional.is at c.requires.cert;
-      closed = subst (Closes c.args.cut_at) c.leaf_bound-in-Fractional.ensures.bound
-          (greater_closes c.args.cut_at c.in-Some.sum c.leaf_bound-in-Fractional.result c.in-Some.ensures.some.1 closes);
+      closed = subst (Closes c.args.task.now.cut_at) c.leaf_bound-in-Fractional.ensures.bound
+          (greater_closes c.args.task.now.cut_at c.in-Some.sum c.leaf_bound-in-Fractional.result c.in-Some.ensures.some.1 closes);
     }
 
 pub returns-in-Stopped-clause-node : goal.returns-in-Stopped-clause-node

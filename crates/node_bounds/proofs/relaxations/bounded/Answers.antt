@@ -22,8 +22,8 @@ floor_of-at-requires-clause-small c =
     let found = rw c.as_slice.ensures at c.in-Some.ensures.some in
     let read = number_read c.args.point c.in-Some.col c.index-as_slice-col.result found.0
     (rw c.as_slice-in-Some.ensures at c.index-as_slice-col.is) in
-    subst IsSmallNumber read (number_small c.args.model.now c.args.area.now c.args.point c.args.cert c.requires.bounds c.requires.area
-    c.in-Some.col found.0)
+    subst IsSmallNumber read (number_small c.args.task.now.model.now c.args.task.now.area.now c.args.point c.args.cert c.requires.bounds
+    c.requires.area c.in-Some.col found.0)
 
 pub whole_point-requires-clause-whole : goal.whole_point-requires-clause-whole
 whole_point-requires-clause-whole c = rw (c.as_slice-in-None.ensures, sym c.as_slice.ensures) c.in-None.ensures.none
@@ -31,12 +31,12 @@ whole_point-requires-clause-whole c = rw (c.as_slice-in-None.ensures, sym c.as_s
 pub whole_point-requires-clause-small : goal.whole_point-requires-clause-small
 whole_point-requires-clause-small c =
     rw c.as_slice-in-None.ensures
-    (number_small c.args.model.now c.args.area.now c.args.point c.args.cert c.requires.bounds c.requires.area)
+    (number_small c.args.task.now.model.now c.args.task.now.area.now c.args.point c.args.cert c.requires.bounds c.requires.area)
 
 pub returns-in-Some-clause-relaxed : goal.returns-in-Some-clause-relaxed
 returns-in-Some-clause-relaxed c = λ pivots.
-    let m = c.args.model.now in
-    let b = c.args.area.now in
+    let m = c.args.task.now.model.now in
+    let b = c.args.task.now.area.now in
     let col = c.in-Some.col in
     let found = rw c.as_slice.ensures at c.in-Some.ensures.some in
     let read = number_read c.args.point col c.index-as_slice-col.result found.0
@@ -56,6 +56,6 @@ returns-in_ok-point-in-None-clause-relaxed c = λ pivots.
     let size = rw c.as_slice-in-None.ensures at c.in_ok-point-in-None.ensures.size in
     let same = rw c.as_slice-in-None.ensures at c.in_ok-point-in-None.ensures.same in
     let back : to_z w128 (of_z w128 c.cost-cost.result) ≡ c.cost-cost.result = omega (arith, ints) in
-    point_ends c.args.model.now c.args.area.now c.args.point c.args.cert c.requires.bounds c.requires.area x size same c.args.cut_at
-    c.leaf_bound-bound.result (to_z w128 (of_z w128 c.cost-cost.result)) c.requires.open c.leaf_bound-bound.ensures.bound
-    c.if-is_closed.ensures (sym c.cost-cost.ensures ∙ sym back)
+    point_ends c.args.task.now.model.now c.args.task.now.area.now c.args.point c.args.cert c.requires.bounds c.requires.area x size
+    same c.args.task.now.cut_at c.leaf_bound-bound.result (to_z w128 (of_z w128 c.cost-cost.result)) c.requires.open
+    c.leaf_bound-bound.ensures.bound c.if-is_closed.ensures (sym c.cost-cost.ensures ∙ sym back)

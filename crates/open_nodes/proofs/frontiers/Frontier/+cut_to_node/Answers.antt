@@ -40,7 +40,8 @@ returns-in_default-edge t c = λ e is.
     let f = c.args.self.now in
     let has = sym c.in-Some.ensures in
     let n = c.in-Some.node.now in
-    let path = path_there f c.args.key n e has is ∙ path_top f.nodes c.args.key n.depth n has (let no = c.in_default-edge.is in search rules) in
+    let no = c.in_default-edge.is in
+    let path = path_there f c.args.key n e has is ∙ path_top f.nodes c.args.key n.depth n has (search rules) in
     sym (ap (λ (xs : List Cut). box_along xs c.args.area.now) path)
 
 pub returns-in_default : goal.returns-in_default

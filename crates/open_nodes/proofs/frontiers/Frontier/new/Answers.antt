@@ -11,13 +11,13 @@ use Rattle.open_nodes.proofs.frontiers.Frontier.new.Goals as goal
 pub returns-clause-root : goal.returns-clause-root
 returns-clause-root c =
     let back : to_z w128 (of_z w128 c.args.bound) ≡ c.args.bound = to_z-of_z w128 c.args.bound c.ranges.bound in
-    is_new _ c.new-nodes.result c.args.bound c.new-nodes.ensures.empty (rw back at c.in_ok-root.ensures.updates)
+    is_new _ c.new-nodes.result c.args.bound c.new-nodes.ensures.empty (rw (c.new_node.ensures, back) at c.in_ok-root.ensures.updates)
 
 pub returns-clause-frontier : goal.returns-clause-frontier
 returns-clause-frontier c =
     let s = c.new-nodes.result in
     let back : to_z w128 (of_z w128 c.args.bound) ≡ c.args.bound = to_z-of_z w128 c.args.bound c.ranges.bound in
-    let u = rw back at c.in_ok-root.ensures.updates in
+    let u = rw (c.new_node.ensures, back) at c.in_ok-root.ensures.updates in
     let empty = c.new-nodes.ensures.empty in
     let start : IsOrdered s (heap_items c.new-order.result) = subst (IsOrdered s) (sym c.new-order.ensures.items)
     (empty_ordered s empty (subst (IsHeap rank_cmp) c.new-order.ensures.items c.new-order.ensures.heap_order)) in

@@ -65,8 +65,8 @@ was_grown c =
     let both : Some known.0 ≡ Some n = sym known.1 ∙ has in
     let same : known.0 ≡ n = cc in
     let taken : n.state ≡ Taken = sym (ap (λ (x : Node). x.state) same) ∙ known.2 in
-    let u1 = rw (back, back_at) at c.insert_reserved-left.ensures.updates in
-    let u2 = rw (back, back_at) at c.insert_reserved-right.ensures.updates in
+    let u1 = rw (c.new_node.ensures, back, back_at) at c.insert_reserved-left.ensures.updates in
+    let u2 = rw (c.new_node-2.ensures, back, back_at) at c.insert_reserved-right.ensures.updates in
     let in_first = still_there _ _ c.args.key _ n _ c.index.ensures c.insert_reserved-left.ensures.was_vacant u1 in
     let in_second = still_there _ _ c.args.key _ n _ in_first c.insert_reserved-right.ensures.was_vacant u2 in
     let set = (rw (in_second, back_at) at c.put_state.ensures).1 in
@@ -86,8 +86,8 @@ returns-clause-frontier c =
     let w = was_grown c in
     let back : to_z w128 (of_z w128 c.args.bound) ≡ c.args.bound = to_z-of_z w128 c.args.bound c.ranges.bound in
     let back_at : to_z w64 (of_z w64 c.args.at) ≡ c.args.at = to_z-of_z w64 c.args.at c.ranges.at in
-    let u1 = rw (back, back_at) at c.insert_reserved-left.ensures.updates in
-    let u2 = rw (back, back_at) at c.insert_reserved-right.ensures.updates in
+    let u1 = rw (c.new_node.ensures, back, back_at) at c.insert_reserved-left.ensures.updates in
+    let u2 = rw (c.new_node-2.ensures, back, back_at) at c.insert_reserved-right.ensures.updates in
     let none1 = c.insert_reserved-left.ensures.was_vacant in
     let none2 = c.insert_reserved-right.ensures.was_vacant in
     let in_first = still_there _ _ c.args.key _ n _ c.index.ensures none1 u1 in
@@ -108,5 +108,6 @@ returns-clause-frontier c =
     record {
       rooted = grown_rooted f.nodes c.put_state.new.nodes c.args.key c.args.col c.args.at c.args.why c.args.bound n _ _ w f.root
           c.requires.small c.requires.frontier.rooted;
-      ordered = renewed_ordered c.insert_reserved-right.new.self c.put_state.new.nodes c.args.key n _ _ last (ap waits_by w.taken) refl second;
+      ordered =
+          renewed_ordered c.insert_reserved-right.new.self c.put_state.new.nodes c.args.key n _ _ last (ap waits_by w.taken) refl second;
     }

@@ -114,7 +114,8 @@ restored_sound n b c more area cut cuts few = record {
 pub right_sound : (n : ℕ) (b : List (ℤ × ℤ)) (c : Cut) (more : List Cut) → IsArea n b → IsCut n c → Each (IsCut n) more
     → length (c ∷ more) ≤ 800 → IsDescent n (in_right b c more)
 right_sound n b c more area cut cuts few = record {
-  area = raised_area n (restored b c) c.col c.at cut.column cut.at (same_area n b c.col c.sides.0 c.sides.1 cut.column cut.low cut.high area);
+  area = raised_area n (restored b c) c.col c.at cut.column cut.at
+      (same_area n b c.col c.sides.0 c.sides.1 cut.column cut.low cut.high area);
   cuts = (record { column = cut.column; at = cut.at; low = cut.low; high = cut.high }, cuts);
   few = few;
 }

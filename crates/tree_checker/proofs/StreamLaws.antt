@@ -31,11 +31,11 @@ use Rattle.tree_format.specs.declared.errors.TreeError.{TreeError}
 use Rattle.tree_format.specs.declared.progress.Progress.{Progress}
 use Rattle.tree_format.specs.declared.tokens.Token.{Token}
 use Rattle.tree_format.specs.declared.tokens.Token.TheVariants.{Nothing, Claimed, Coordinate, SplitAt, LeafQ, Parts as Count, Part}
-use Rattle.tree_checker.specs.Internal.Streaming.{IsWalked, IsStreamingBy, IsStreaming, HasStreamed}
+use Rattle.tree_checker.specs.Internal.Streaming.{IsWalked, IsStreamingBy, IsStreaming}
 use Rattle.tree_checker.specs.Internal.Walks.{walk_of, taken, unless_misfit, walked, start_of}
 use Rattle.tree_checker.specs.declared.streams.Streaming.{Streaming}
 use Rattle.tree_checker.specs.declared.walks.Walk.{Walk}
-use Rattle.tree_checker.specs.Streams.{first_misfit}
+use Rattle.tree_checker.specs.Streams.{HasStreamed, first_misfit}
 use Rattle.tree_checker.proofs.PartLaws.{IsAfter, walked_both, point_walked}
 use Rattle.tree_checker.proofs.TreeLaws.{tree_walked}
 use Rattle.tree_format.specs.declared.errors.TreeError.TheVariants as faults
@@ -249,3 +249,7 @@ piece_failed m s bytes piece i e f h =
     subst (HasStreamed m s) (append_assoc bytes (take i piece) (drop i piece)
     ∙ ap (λ (more : List ℕ). bytes ++ more) (take-append-drop i piece))
     (h.0, still_failed m s.1 e (bytes ++ take i piece) (drop i piece) f h.1)
+
+-- a check knows its model
+pub own_model : (m : Parts) (s : Parts × Streaming) (bytes : List ℕ) → HasStreamed m s bytes → HasStreamed s.0 s bytes
+own_model m s bytes h = (refl, subst (λ n. IsStreaming n s.1 bytes) (sym h.0) h.1)

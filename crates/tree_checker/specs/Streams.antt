@@ -8,7 +8,9 @@ use Rattle.proof_tree.specs.Verdicts.{claim_misfit, judged}
 use Rattle.proof_tree.specs.declared.claims.Claim.{Claim}
 use Rattle.proof_tree.specs.declared.faults.Shape.{Shape}
 use Rattle.proof_tree.specs.declared.verdicts.Verdict.{Verdict}
+use Rattle.tree_checker.specs.Internal.Streaming.{IsStreaming}
 use Rattle.tree_checker.specs.declared.streams.StreamError.{StreamError}
+use Rattle.tree_checker.specs.declared.streams.Streaming.{Streaming}
 use Rattle.tree_format.specs.Grammar.{first_fault}
 use Rattle.tree_format.specs.Spellings.{Spells}
 use Rattle.tree_checker.specs.declared.streams.StreamError.TheVariants as errors
@@ -23,3 +25,7 @@ IsStreamAnswer m bytes (Err (errors.Tree e)) = first_fault bytes ≡ Some e
 IsStreamAnswer m bytes (Err (errors.Shape s)) = (c : Claim) × (t : PlainTree) × Spells bytes c t × (first_misfit m c t ≡ Some s)
 IsStreamAnswer m bytes (Ok verdict) =
     (c : Claim) × (t : PlainTree) × Spells bytes c t × (first_misfit m c t ≡ None) × (verdict ≡ judged m c (tree_bound m t))
+
+-- a check for a model has taken some bytes
+abbrev pub HasStreamed : Parts → Parts × Streaming → List ℕ → Type 0
+HasStreamed m s bytes = (s.0 ≡ m) × IsStreaming m s.1 bytes

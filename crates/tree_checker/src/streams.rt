@@ -7,10 +7,10 @@ ghost use Rattle.tree_format.specs.Internal.Stretches.{claim_of as claim_by};
 ghost use Rattle.tree_format.specs.Grammar.{fault_so_far};
 ghost use Rattle.tree_format.specs.Internal.Remaining.{fault_of};
 ghost use Rattle.tree_checker.specs.Internal.Descents.{IsDescent};
-ghost use Rattle.tree_checker.specs.Internal.Streaming.{HasFailed, HasStreamed, IsStreaming};
+ghost use Rattle.tree_checker.specs.Internal.Streaming.{HasFailed, IsStreaming};
 ghost use Rattle.tree_checker.specs.Internal.Walks.{start_of};
 ghost use Rattle.tree_checker.specs.Internal.Workspaces.{FitsWorkspace};
-ghost use Rattle.tree_checker.specs.Streams.{IsStreamAnswer};
+ghost use Rattle.tree_checker.specs.Streams.{HasStreamed, IsStreamAnswer};
 
 use crate::cuts::Cuts;
 use crate::descents::Descent;

@@ -23,10 +23,6 @@ IsStreamingBy (Some e) m s bytes = fault_so_far bytes ≡ Some e
 abbrev pub IsStreaming : Parts → Streaming → List ℕ → Type 0
 IsStreaming m s bytes = IsStreamingBy s.fault m s bytes
 
--- a check for a model has taken some bytes
-abbrev pub HasStreamed : Parts → Parts × Streaming → List ℕ → Type 0
-HasStreamed m s bytes = (s.0 ≡ m) × IsStreaming m s.1 bytes
-
 -- a byte that a check has taken had a fault
 abbrev pub HasFailed : Parts × Streaming → TreeError → Type 0
 HasFailed s e = s.1.fault ≡ Some e

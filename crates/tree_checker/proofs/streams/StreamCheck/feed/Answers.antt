@@ -1,7 +1,7 @@
 use Rattle.std.proofs.Common.{arith, ap, sym, subst, ◌∙◌, ◌++◌, ◌+◌}
 use Rattle.std.proofs.lemmas.List.{append-nil}
 use Rattle.ip_defs.specs.declared.programs.Parts.{Parts}
-use Rattle.tree_checker.specs.Internal.Streaming.{HasStreamed}
+use Rattle.tree_checker.specs.Streams.{HasStreamed}
 use Rattle.tree_checker.specs.declared.streams.Streaming.{Streaming}
 use Rattle.tree_checker.proofs.StreamLaws.{still_failed, failed_fault, unfailed, piece_on, piece_whole, piece_failed}
 use Rattle.tree_checker.proofs.streams.StreamCheck.feed.Goals as goal

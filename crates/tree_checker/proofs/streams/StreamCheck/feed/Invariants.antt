@@ -1,6 +1,6 @@
 use Rattle.std.proofs.Common.{◌≡◌, ◌++◌, ℕ, List, None, take}
 use Rattle.ip_defs.specs.declared.programs.Parts.{Parts}
-use Rattle.tree_checker.specs.Internal.Streaming.{HasStreamed}
+use Rattle.tree_checker.specs.Streams.{HasStreamed}
 use Rattle.tree_checker.proofs.streams.StreamCheck.feed.Given as goal
 
 abbrev pub invariant-loop-byte : goal.invariant-loop-byte

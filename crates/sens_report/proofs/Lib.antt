@@ -1,0 +1,3 @@
+pub mod AnswerExamples
+pub mod LineLaws
+pub mod ReplyExamples

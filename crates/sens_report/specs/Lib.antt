@@ -1,0 +1,4 @@
+pub mod AmountTexts
+pub mod AnswerTexts
+pub mod ReplyTexts
+pub mod VerdictTexts

@@ -2,7 +2,7 @@
 use Rattle.std.specs.Prelude.{◌≡◌, List, [], ◌∷◌, map, codes, refl, Option, None, Some, pos}
 use Rattle.ips_words.specs.Commands.{Word, request_of, commands}
 use Rattle.ips_words.specs.declared.requests.Request.{Request}
-use Rattle.ips_words.specs.declared.requests.Request.TheVariants.{Solve, Check, Show}
+use Rattle.ips_words.specs.declared.requests.Request.TheVariants.{Solve, Check, Ask, Show}
 
 -- what words ask for
 abbrev AskFor : List (List Word × Option Request) → Type 0
@@ -27,6 +27,7 @@ pub requests : AskFor (
       codes "check" ∷ codes "m" ∷ codes "t" ∷ codes "--digits" ∷ codes "2" ∷ [],
       Some (Check (codes "m") (codes "t") 2 None),
     )
+    ∷ (codes "ask" ∷ codes "m" ∷ codes "t" ∷ codes "q" ∷ [], Some (Ask (codes "m") (codes "t") (codes "q") 0 None))
     ∷ (codes "show" ∷ codes "m" ∷ [], Some (Show (codes "m") 0 None))
     ∷ (codes "show" ∷ codes "m" ∷ codes "--box" ∷ codes "16777216" ∷ [], Some (Show (codes "m") 0 (Some (pos 16777216))))
     -- a number out of its range, or with a leading zero
@@ -43,7 +44,7 @@ pub requests : AskFor (
     -- one operand of two, a search for a check, and a command that is not built
     ∷ (codes "check" ∷ codes "m" ∷ [], None)
     ∷ (codes "check" ∷ codes "m" ∷ codes "t" ∷ codes "--depth" ∷ codes "5" ∷ [], None)
-    ∷ (codes "ask" ∷ codes "m" ∷ codes "t" ∷ codes "q" ∷ [], None)
+    ∷ (codes "sweep" ∷ codes "m" ∷ codes "s" ∷ [], None)
     -- a name that begins with a minus, an empty name, and no words
     ∷ (solve_m (codes "--tree" ∷ codes "-t" ∷ []), None)
     ∷ (codes "solve" ∷ codes "-m" ∷ [], None)

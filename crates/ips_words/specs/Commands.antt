@@ -129,7 +129,7 @@ abbrev pub check : Command
 check = command (codes "check") (Name ∷ Name ∷ []) reading_choices true check_request
 
 abbrev pub ask : Command
-ask = command (codes "ask") (Name ∷ Name ∷ Name ∷ []) reading_choices false ask_request
+ask = command (codes "ask") (Name ∷ Name ∷ Name ∷ []) reading_choices true ask_request
 
 abbrev pub sweep : Command
 sweep = command (codes "sweep") (Name ∷ Name ∷ []) (proof_choice ∷ search_choices) false sweep_request

@@ -48,44 +48,29 @@ const PROOF: Choice = Choice {
     built: false,
 };
 
-const NODES: Choice = Choice {
-    word: "--nodes",
-    value: Kind::Number {
-        low: 1,
-        high: 1_000_000,
-    },
-    built: true,
-};
+/// An option that is built, whose value is a number from the second to the third.
+macro_rules! number_choice {
+    ($word:literal, $low:literal, $high:literal) => {
+        Choice {
+            word: $word,
+            value: Kind::Number {
+                low: $low,
+                high: $high,
+            },
+            built: true,
+        }
+    };
+}
 
-const DEPTH: Choice = Choice {
-    word: "--depth",
-    value: Kind::Number { low: 0, high: 800 },
-    built: true,
-};
+const NODES: Choice = number_choice!("--nodes", 1, 1_000_000);
 
-const PIVOTS: Choice = Choice {
-    word: "--pivots",
-    value: Kind::Number {
-        low: 0,
-        high: 100_000,
-    },
-    built: true,
-};
+const DEPTH: Choice = number_choice!("--depth", 0, 800);
 
-const DIGITS: Choice = Choice {
-    word: "--digits",
-    value: Kind::Number { low: 0, high: 9 },
-    built: true,
-};
+const PIVOTS: Choice = number_choice!("--pivots", 0, 100_000);
 
-const BOX: Choice = Choice {
-    word: "--box",
-    value: Kind::Number {
-        low: 0,
-        high: 16_777_216,
-    },
-    built: true,
-};
+const DIGITS: Choice = number_choice!("--digits", 0, 9);
+
+const BOX: Choice = number_choice!("--box", 0, 16_777_216);
 
 impl Command {
     /// The command that a word is.
@@ -137,8 +122,8 @@ impl Command {
         ensures { result ≡ (command_row self).built }
     {
         match self {
-            Command::Solve | Command::Check | Command::Show => true,
-            Command::Ask | Command::Sweep | Command::Recheck | Command::Trial => false,
+            Command::Solve | Command::Check | Command::Ask | Command::Show => true,
+            Command::Sweep | Command::Recheck | Command::Trial => false,
         }
     }
 }

@@ -14,7 +14,7 @@ use Rattle.tree_checker.specs.Streams.{first_misfit}
 use Rattle.tree_checker.specs.declared.streams.StreamError.{StreamError}
 use Rattle.tree_checker.specs.declared.streams.StreamError.TheVariants as Errors
 use Rattle.tree_format.proofs.SpellingLaws.{spellings_are_read}
-use Rattle.ipsens_core.specs.Check.{AnswersProof, IsJudged, verdict_answer, verdict_status}
+use Rattle.ipsens_core.specs.Check.{AnswersCheck, IsJudged, verdict_answer, verdict_status}
 use Rattle.ipsens_core.specs.Internal.Made.{IsWritten}
 use Rattle.ipsens_core.specs.Internal.TreeFiles.{IsTreeRead, IsTreeTooLong, answer_to_tree}
 use Rattle.ipsens_core.specs.Runs.{IsOwed}
@@ -34,7 +34,7 @@ says_status (NotFeasible breach) h = absurd h
 says_status (Short bound w) h = absurd h
 
 -- the verdict on a proof that fits is what is owed to it
-judged_is : (m : Parts) (c : Claim) (t : PlainTree) → first_misfit m c t ≡ None
+pub judged_is : (m : Parts) (c : Claim) (t : PlainTree) → first_misfit m c t ≡ None
     → IsJudged m c t (verdict_answer m (judged m c (tree_bound m t)))
 judged_is m c t none =
     let fits = fits_of m c t none in
@@ -48,7 +48,7 @@ judged_is m c t none =
 
 -- the answer to what the bytes of a tree file come to is owed to the file
 pub tree_owed : (m : Parts) (name : List ℕ) (before after : Option Files) (result : Result Verdict StreamError) →
-    IsTreeRead m before after name result → IsOwed (AnswersProof name m) before after (answer_to_tree m result)
+    IsTreeRead m before after name result → IsOwed (AnswersCheck name m) before after (answer_to_tree m result)
 tree_owed m name before after (Ok v) read =
     let short = is_within longest_tree (length read.bytes) read.short in
     let a = read.answer in
@@ -74,7 +74,7 @@ tree_owed m name before after (Err (Errors.Shape s)) read =
 
 -- the refusal of a tree file that is too long is owed to it
 pub long_tree_owed : (m : Parts) (name : List ℕ) (before after : Option Files) → IsTreeTooLong before after name
-    → IsOwed (AnswersProof name m) before after (refuses_tree (codes "too long"))
+    → IsOwed (AnswersCheck name m) before after (refuses_tree (codes "too long"))
 long_tree_owed m name before after long =
     record {
       reads = (name, long.bytes) ∷ [];

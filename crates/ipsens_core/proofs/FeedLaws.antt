@@ -1,6 +1,6 @@
 -- A tree file that is fed to a check piece by piece.
 use Rattle.std.specs.Prelude.{◌≡◌, ℕ, ◌+◌, ◌<◌, ◌≤◌, List, ◌++◌, length, take, Option, Result, Err}
-use Rattle.std.proofs.Common.{refl, arith, sym, subst, length-append}
+use Rattle.std.proofs.Common.{refl, arith, subst, length-append}
 use Rattle.std.proofs.lemmas.List.{length-take-le}
 use Rattle.ip_defs.specs.declared.programs.Parts.{Parts}
 use Rattle.ips_io.specs.Files.{Files, Keeps}
@@ -8,8 +8,7 @@ use Rattle.ips_io.specs.Shelves.{BecomesUnknown, IsTooLong, Moves}
 use Rattle.ips_io.specs.declared.reading.ReadError.{ReadError}
 use Rattle.ips_io.specs.declared.reading.ReadError.TheVariants as Reading
 use Rattle.ips_io.proofs.PieceLaws.{Reads, reads_beyond, reads_end, reads_next}
-use Rattle.tree_checker.specs.Internal.Streaming.{HasStreamed, IsStreaming}
-use Rattle.tree_checker.specs.Streams.{IsStreamAnswer}
+use Rattle.tree_checker.specs.Streams.{HasStreamed, IsStreamAnswer}
 use Rattle.proof_tree.specs.declared.verdicts.Verdict.{Verdict}
 use Rattle.tree_checker.specs.declared.streams.StreamError.{StreamError}
 use Rattle.tree_checker.specs.declared.streams.Streaming.{Streaming}
@@ -18,12 +17,12 @@ use Rattle.ipsens_core.specs.Trees.{longest_tree}
 use Rattle.ipsens_core.proofs.ReadLaws.{long_read, one_read}
 
 -- a check was fed the first bytes of the named file, and the rest is left
-pub record IsFed (m : Parts) (check : Parts × Streaming) (files : Option Files) (left : Option (List ℕ)) (name : List ℕ) (taken : ℕ) : Type 0
-  where
-    pub bytes : List ℕ
-    pub size : length bytes ≡ taken
-    pub streamed : HasStreamed m check bytes
-    pub content : Reads files left name bytes
+pub record IsFed (m : Parts) (check : Parts × Streaming) (files : Option Files) (left : Option (List ℕ)) (name : List ℕ)
+    (taken : ℕ) : Type 0 where
+  pub bytes : List ℕ
+  pub size : length bytes ≡ taken
+  pub streamed : HasStreamed m check bytes
+  pub content : Reads files left name bytes
 
 -- a piece more
 pub fed_next : (m : Parts) (check check' : Parts × Streaming) (files files' : Option Files) (left left' : Option (List ℕ))
@@ -72,7 +71,7 @@ tree_read m check before after name result keeps unknown fed answer = record {
 }
 
 -- a file that is too long
-tree_too_long : (before after : Option Files) (name : List ℕ) → Keeps before after → BecomesUnknown before after name
+pub tree_too_long : (before after : Option Files) (name : List ℕ) → Keeps before after → BecomesUnknown before after name
     → IsTooLong after name longest_tree → IsTreeTooLong before after name
 tree_too_long before after name keeps unknown long =
     let read = long_read before after name longest_tree keeps unknown long in
@@ -80,11 +79,8 @@ tree_too_long before after name keeps unknown long =
 
 -- how reading ends without an answer
 pub tree_unread : (m : Parts) (before after : Option Files) (name : List ℕ) (error : ReadError) → Keeps before after
-    → BecomesUnknown before after name → (error ≡ Reading.TooLong → IsTooLong after name longest_tree) → IsTreeFile m before after name (Err error)
+    → BecomesUnknown before after name → (error ≡ Reading.TooLong → IsTooLong after name longest_tree)
+    → IsTreeFile m before after name (Err error)
 tree_unread m before after name Reading.TooLong keeps unknown long = tree_too_long before after name keeps unknown (long refl)
 tree_unread m before after name Reading.Fault keeps unknown long = tt
 tree_unread m before after name Reading.Memory keeps unknown long = tt
-
--- a check knows its model
-pub own_model : (m : Parts) (s : Parts × Streaming) (bytes : List ℕ) → HasStreamed m s bytes → HasStreamed s.0 s bytes
-own_model m s bytes h = (refl, subst (λ n. IsStreaming n s.1 bytes) (sym h.0) h.1)

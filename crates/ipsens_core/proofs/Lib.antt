@@ -1,9 +1,10 @@
-pub mod AnswerExamples
+pub mod AskLaws
 pub mod CheckLaws
 pub mod FeedLaws
 pub mod ReadLaws
+pub mod RefusalLaws
+pub mod RequestLaws
 pub mod RunLaws
 pub mod SendLaws
 pub mod ShowLaws
 pub mod SolveLaws
-pub mod TextLaws

@@ -1,7 +1,6 @@
 -- Files that are read agree with the table that is known, one after another.
 use Rattle.std.specs.Prelude.{◌≡◌, ℕ, suc, ◌+◌, ◌<◌, List, [], ◌∷◌, ◌++◌, length, take, replicate, Option, Some, None}
 use Rattle.std.proofs.Common.{refl, arith, ap, sym, subst, ◌∙◌, append_assoc}
-use Rattle.std.proofs.Math.Seq.{take-length}
 use Rattle.std.specs.Option.{MatchOption}
 use Rattle.std.proofs.lemmas.List.{append-nil, length-replicate}
 use Rattle.ips_io.specs.Files.{Began, BeganFirst, Files, Keeps, Names, file_of}
@@ -65,31 +64,28 @@ long_read before (Some u) name most keeps unknown long =
 
 -- ---- the names that were begun
 
--- all of the names
-pub began_whole : (before after : Option Names) (names : Names) → Began before after names → BeganFirst before after names
-began_whole before after names began =
-    let all : take (length names) names ≡ names = take-length names in
-    (length names, subst (Began before after) (sym all) began)
-
--- one name, then the first of others
-pub began_more : (before mid after : Option Names) (name : List ℕ) (names : Names) → Began before mid (name ∷ [])
-    → BeganFirst mid after names → BeganFirst before after (name ∷ names)
-began_more before mid after name names one more = (
-  suc more.0,
-  λ now is.
-      let last = more.1 now is in
-      let first = one last.0 last.1 in (
-        first.0,
-        first.1,
-        last.2 ∙ ap (λ xs. xs ++ take more.0 names) first.2
-            ∙ append_assoc first.0 (name ∷ []) (take more.0 names),
-      ),
-)
-
--- one name alone
-pub began_one : (before after : Option Names) (name : List ℕ) (names : Names) → Began before after (name ∷ []) → BeganFirst before after (name ∷ names)
-began_one before after name names one = (1, one)
-
 -- no name
 pub began_none : (table : Option Names) (names : Names) → BeganFirst table table names
 began_none table names = (0, λ now is. (now, is, sym (append-nil now)))
+
+-- one name, then the first of others
+pub began_then : (before mid after : Option Names) (name : List ℕ) (names : Names) → Began before mid (name ∷ [])
+    → (more : BeganFirst mid after names) → Began before after (name ∷ take more.0 names)
+began_then before mid after name names one more =
+    λ now is.
+    let last = more.1 now is in
+    let first = one last.0 last.1 in (
+      first.0,
+      first.1,
+      last.2 ∙ ap (λ xs. xs ++ take more.0 names) first.2
+          ∙ append_assoc first.0 (name ∷ []) (take more.0 names),
+    )
+
+pub began_more : (before mid after : Option Names) (name : List ℕ) (names : Names) → Began before mid (name ∷ [])
+    → BeganFirst mid after names → BeganFirst before after (name ∷ names)
+began_more before mid after name names one more = (suc more.0, began_then before mid after name names one more)
+
+-- one name alone
+pub began_one : (before after : Option Names) (name : List ℕ) (names : Names) → Began before after (name ∷ [])
+    → BeganFirst before after (name ∷ names)
+began_one before after name names one = (1, one)

@@ -7,7 +7,7 @@ use Rattle.std.proofs.Common.{refl, arith, ap, sym, ◌∙◌, subst, inl, inr}
 use Rattle.std.proofs.lemmas.Bool.Decides.{nat_tests}
 use Rattle.ip_defs.specs.declared.programs.Parts.{Parts}
 use Rattle.ips_io.specs.Causes.{Rose}
-use Rattle.ips_io.specs.Files.{Began, BeganFirst, Files, Keeps, Names}
+use Rattle.ips_io.specs.Files.{Files, Keeps}
 use Rattle.ips_words.specs.Commands.{Word, request_of}
 use Rattle.ips_words.specs.Requests.{usage_text}
 use Rattle.ips_words.specs.declared.requests.Request.{Request}
@@ -18,9 +18,9 @@ use Rattle.mps_defs.specs.declared.reading.MpsError.TheVariants as Out
 use Rattle.ipsens_core.specs.Answers.{Answer, says, ReadsNoMore}
 use Rattle.ipsens_core.specs.Models.{ReadsModel, longest_model, refuses_model}
 use Rattle.ipsens_core.specs.Reads.{Reads, Agrees}
-use Rattle.ipsens_core.specs.RefusalTexts.{refusal_text}
-use Rattle.ipsens_core.specs.Runs.{Outside, shows, IsOwed, IsAnswered, IsCutOff, IsRunOf, RunMeets, AnswersRequest, files_asked}
-use Rattle.ipsens_core.specs.Runs.{HasCauses, IsUntouched, OneRose, files_named}
+use Rattle.ipsens_core.specs.ModelRefusals.{refusal_text}
+use Rattle.ipsens_core.specs.Runs.{Outside, shows, IsOwed, IsAnswered, IsCutOff, IsRunOf, RunMeets, AnswersRequest}
+use Rattle.ipsens_core.specs.Runs.{HasCauses, IsUntouched, OneRose}
 use Rattle.ipsens_core.specs.Internal.Made.{IsWritten, IsMade, IsModelRead, IsModelText, IsModelFile, IsFileRefused, IsRefusalOf}
 use Rattle.ipsens_core.specs.Internal.Made.{IsPrepared, answer_of}
 use Rattle.ipsens_core.specs.Internal.Writes.{Delivers, IsSent, IsStill, Writes}
@@ -32,7 +32,7 @@ use Rattle.ipsens_core.specs.declared.models.NoModel.TheVariants as No
 use Rattle.ipsens_core.specs.declared.statuses.Status.{Status}
 use Rattle.ipsens_core.specs.declared.statuses.Status.TheVariants.{Answered, NotProved, Usage, Refused, Budget, Wide, ReadFault}
 use Rattle.ipsens_core.specs.declared.statuses.Status.TheVariants.{WriteFault, Memory}
-use Rattle.ipsens_core.proofs.ReadLaws.{agrees_more, began_whole, none_read, HasLongFile}
+use Rattle.ipsens_core.proofs.ReadLaws.{agrees_more, none_read, HasLongFile}
 
 -- ---- the model file
 
@@ -102,8 +102,8 @@ text_read name bytes how before after (Err No.ReadFault) agrees short is = tt
 text_read name bytes how before after (Err No.Memory) agrees short is = tt
 
 -- what a command owes to the model and to the files after it is owed to the model file and those
-pub model_owed : (name : List ℕ) (how : How) (Rest : Parts → Reads → Answer → Type 0) (before mid after : Option Files) (m : Parts) (a : Answer)
-    → IsModelRead before mid name how m → IsOwed (Rest m) mid after a → IsOwed (ReadsModel name how Rest) before after a
+pub model_owed : (name : List ℕ) (how : How) (Rest : Parts → Reads → Answer → Type 0) (before mid after : Option Files) (m : Parts)
+    (a : Answer) → IsModelRead before mid name how m → IsOwed (Rest m) mid after a → IsOwed (ReadsModel name how Rest) before after a
 model_owed name how Rest before mid after m a read owed =
     record {
       reads = (name, read.bytes) ∷ owed.reads;
@@ -240,12 +240,19 @@ made_prepared P before after f f' s s' made written owed keeps same saves = reco
   saves = saves;
 }
 
--- the model file was read, then an answer to the model was made of the files after it
-pub prepared_more : (name : List ℕ) (how : How) (Rest : Parts → Reads → Answer → Type 0) (before mid after : Option Files)
-    (f f' f'' s s' s'' : ℕ) (m : Parts) (result : Result Made Stop)
-    → IsModelRead before mid name how m → Keeps before mid → f' ≡ f → s' ≡ s → IsPrepared (Rest m) mid after f' f'' s' s'' result
-    → IsPrepared (ReadsModel name how Rest) before after f f'' s s'' result
-prepared_more name how Rest before mid after f f' f'' s s' s'' m result read keeps same saves ready = record {
+-- the answer that a command owes without a further file
+pub made_at_once : (Owed : Answer → Type 0) (table : Option Files) (f s : ℕ) (made : Made) → IsWritten made.status → Owed (answer_of made)
+    → IsPrepared (ReadsNoMore Owed) table table f f s s (Ok made)
+made_at_once Owed table f s made written owed =
+    made_prepared (ReadsNoMore Owed) table table f f s s made written (no_more_owed Owed table (answer_of made) owed) (λ t known. known)
+    refl refl
+
+-- what was prepared for the files after one is prepared for all of them
+pub prepared_then : (Rest Whole : Reads → Answer → Type 0) (before mid after : Option Files) (f f' f'' s s' s'' : ℕ)
+    (result : Result Made Stop)
+    → ((a : Answer) → IsOwed Rest mid after a → IsOwed Whole before after a) → Keeps before mid → f' ≡ f → s' ≡ s
+    → IsPrepared Rest mid after f' f'' s' s'' result → IsPrepared Whole before after f f'' s s'' result
+prepared_then Rest Whole before mid after f f' f'' s s' s'' result more keeps same saves ready = record {
   made = by result ready.made;
   keeps = λ t known. keeps t (ready.keeps t known);
   fault = λ is. subst (λ n. Rose n f'') same (ready.fault is);
@@ -253,13 +260,22 @@ prepared_more name how Rest before mid after f f' f'' s s' s'' m result read kee
   saves = ready.saves ∙ saves;
 }
   where
-    by : (r : Result Made Stop) → IfOk r (IsMade (Rest m) mid after) → IfOk r (IsMade (ReadsModel name how Rest) before after)
-    by (Ok made) is = record { written = is.written; owed = model_owed name how Rest before mid after m (answer_of made) read is.owed }
+    by : (r : Result Made Stop) → IfOk r (IsMade Rest mid after) → IfOk r (IsMade Whole before after)
+    by (Ok made) is = record { written = is.written; owed = more (answer_of made) is.owed }
     by (Err e) is = tt
+
+-- the model file was read, then an answer to the model was made of the files after it
+pub prepared_more : (name : List ℕ) (how : How) (Rest : Parts → Reads → Answer → Type 0) (before mid after : Option Files)
+    (f f' f'' s s' s'' : ℕ) (m : Parts) (result : Result Made Stop)
+    → IsModelRead before mid name how m → Keeps before mid → f' ≡ f → s' ≡ s → IsPrepared (Rest m) mid after f' f'' s' s'' result
+    → IsPrepared (ReadsModel name how Rest) before after f f'' s s'' result
+prepared_more name how Rest before mid after f f' f'' s s' s'' m result read keeps same saves ready =
+    prepared_then (Rest m) (ReadsModel name how Rest) before mid after f f' f'' s s' s'' result
+    (λ a owed. model_owed name how Rest before mid after m a read owed) keeps same saves ready
 
 -- ---- from a request to the words of it
 
-owed_more : (P Q : Reads → Answer → Type 0) (before after : Option Files) (a : Answer) → ((rs : Reads) (b : Answer) → P rs b → Q rs b) →
+pub owed_more : (P Q : Reads → Answer → Type 0) (before after : Option Files) (a : Answer) → ((rs : Reads) (b : Answer) → P rs b → Q rs b) →
     IsOwed P before after a → IsOwed Q before after a
 owed_more P Q before after a h o = record { reads = o.reads; agrees = o.agrees; run = h o.reads a o.run }
 
@@ -305,17 +321,6 @@ request_run words q rs a e h = rw e h
 pub asked_meets : (words : List Word) (q : Request) (o : Outside) (s : Status) → request_of words ≡ Some q → RunMeets (AnswersRequest q) o s
     → RunMeets (IsRunOf words) o s
 asked_meets words q o s e = meets_more (AnswersRequest q) (IsRunOf words) o s (λ rs a h. request_run words q rs a e h)
-
--- the first files of the request were begun, which are those that its words name
-pub began_first_asked : (words : List Word) (q : Request) (before after : Option Names) → request_of words ≡ Some q
-    → BeganFirst before after (files_named q) → BeganFirst before after (files_asked words)
-began_first_asked words q before after is began = rw is began
-
--- and so were all of them
-pub began_asked : (words : List Word) (q : Request) (before after : Option Names) → request_of words ≡ Some q →
-    Began before after (files_named q) → BeganFirst before after (files_asked words)
-began_asked words q before after is began =
-    began_first_asked words q before after is (began_whole before after (files_named q) began)
 
 -- words that are no request
 pub usage_meets : (words : List Word) (files : Option Files) (taken taken' : Option (List ℕ)) (f f' : ℕ) (result : Status) →

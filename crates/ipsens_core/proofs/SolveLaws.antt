@@ -1,13 +1,15 @@
 -- The status of an outcome, and the limits of the proof that it is saved as.
-use Rattle.std.specs.Prelude.{◌≡◌, ℕ, zero, suc, ◌≤◌, ◌<◌, ◌^◌, List, [], ◌∷◌, length, Option, ℤ, ◌≤ℤ◌}
+use Rattle.std.specs.Prelude.{◌≡◌, ℕ, zero, suc, ◌≤◌, ◌<◌, ◌^◌, List, [], ◌∷◌, length, Option, Some, None, IfSome, ℤ, ◌≤ℤ◌}
 use Rattle.std.specs.Int.RustNames.{unsigned_abs}
-use Rattle.std.proofs.Common.{refl, arith, subst, sym}
+use Rattle.std.proofs.Common.{refl, arith, subst, sym, ◌∙◌}
 use Rattle.std.proofs.lemmas.Int.{ints}
+use Rattle.std.proofs.lemmas.List.{length-map}
+use Rattle.ip_defs.specs.declared.programs.Column.{Column}
 use Rattle.ip_defs.specs.declared.certificates.Bound.{Bound}
 use Rattle.ip_defs.specs.declared.programs.Parts.{Parts}
 use Rattle.ip_defs.specs.Limits.{IsWithinLimits}
 use Rattle.ip_defs.specs.Lists.{Each}
-use Rattle.ip_defs.specs.Program.{at, box_of}
+use Rattle.ip_defs.specs.Program.{IsFeasible, at, box_of}
 use Rattle.ip_defs.proofs.BoxLaws.{box_within}
 use Rattle.proof_tree.specs.Trees.{plain, tree_bound}
 use Rattle.proof_tree.specs.Verdicts.{AreProvedBy}
@@ -21,10 +23,11 @@ use Rattle.branching.specs.declared.budgets.Limits.{Limits}
 use Rattle.branching.specs.declared.outcomes.Outcome.{Outcome}
 use Rattle.branching.specs.declared.outcomes.Outcome.TheVariants.{Best, Empty, Budget}
 use Rattle.node_bounds.specs.declared.reasons.Why.{Why}
-use Rattle.branching.specs.Outcomes.{IsFinished, IsRightOutcome, IsTrueOutcome}
+use Rattle.branching.specs.Outcomes.{ClaimsLeast, IsFinished, IsRightOutcome, IsTrueOutcome}
 use Rattle.branching.specs.Sizes.{AreAmple, IsAnswer}
+use Rattle.sens_report.specs.AnswerTexts.{ArePointsWhole, IsWhole, claimed, outcome_lines}
 use Rattle.ipsens_core.specs.Answers.{Answer}
-use Rattle.ipsens_core.specs.Solve.{HasOutcome, IsProofSpelled, IsSpelled, outcome_lines, outcome_status, saved_outcome}
+use Rattle.ipsens_core.specs.Solve.{HasOutcome, IsProofSpelled, IsSpelled, outcome_status, saved_outcome}
 use Rattle.ipsens_core.specs.declared.statuses.Status.{Status}
 use Rattle.ipsens_core.specs.Internal.Made.{IsWritten}
 
@@ -72,6 +75,25 @@ pub outcome_spelled : (m : Parts) (l : Limits) (o : Outcome) → IsWithinLimits 
 outcome_spelled m l (Best p whys) limits right = proof_spelled m l p whys limits right.1
 outcome_spelled m l (Empty p whys) limits right = proof_spelled m l p whys limits right.1
 outcome_spelled m l (Budget what grown best) limits right = tt
+
+-- a true outcome prints points with a value for each column
+whole : (m : Parts) (x : List ℤ) → IsFeasible m x → length x ≡ length m.columns
+whole m x feasible = feasible.within.size ∙ length-map m.columns (λ (c : Column). (c.lo, c.hi))
+
+claim_whole : (m : Parts) (c : Claim) → ClaimsLeast m c → IsWhole m (claimed c)
+claim_whole m (Claims.Best x) least = λ y is.
+    let same : x ≡ y = cc in subst (λ z. length z ≡ length m.columns) same (whole m x least.feasible)
+claim_whole m Claims.Empty least = absurd least
+
+best_whole : (m : Parts) (best : Option (List ℤ)) → IfSome best (IsFeasible m) → IsWhole m best
+best_whole m None feasible = λ y is. absurd (cc is)
+best_whole m (Some x) feasible = λ y is.
+    let same : x ≡ y = cc in subst (λ z. length z ≡ length m.columns) same (whole m x feasible)
+
+pub points_whole : (m : Parts) (o : Outcome) → IsTrueOutcome m o → ArePointsWhole m o
+points_whole m (Best p whys) true = claim_whole m p.claim true
+points_whole m (Empty p whys) true = tt
+points_whole m (Budget what grown best) true = best_whole m best true
 
 -- limits with another number of nodes
 abbrev pub limits_by : ℕ → Limits → Limits

@@ -2,3 +2,5 @@
 pub mod Made
 pub mod Writes
 pub mod TreeFiles
+pub mod ProofFiles
+pub mod QuestionFiles

@@ -1,13 +1,17 @@
 -- What is owed to a model file: its refusal, or what a command owes to its model.
-use Rattle.std.specs.Prelude.{◌≡◌, ℕ, List, codes}
+use Rattle.std.specs.Prelude.{◌≡◌, ℕ, List, Option, codes, ℤ}
 use Rattle.std.specs.Option.{MatchOption}
 use Rattle.ip_defs.specs.declared.programs.Parts.{Parts}
 use Rattle.mps_defs.specs.Faults.{mps_fault, model_of}
 use Rattle.mps_defs.specs.declared.reading.How.{How}
 use Rattle.ipsens_core.specs.Answers.{Answer, says, ReadsFile, ReadsNoMore}
 use Rattle.ipsens_core.specs.Reads.{Reads}
-use Rattle.ipsens_core.specs.RefusalTexts.{refusal_text, refused_model}
+use Rattle.ipsens_core.specs.ModelRefusals.{refusal_text, refused_model}
 use Rattle.ipsens_core.specs.declared.statuses.Status.TheVariants.{Refused}
+
+-- how the text of a model is read
+abbrev pub reading : ℕ → Option ℤ → How
+reading digits box_side = record { digits = digits; box_side = box_side }
 
 -- the longest model file, 16 MiB
 abbrev pub longest_model : ℕ

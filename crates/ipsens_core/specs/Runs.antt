@@ -1,15 +1,19 @@
 -- The run relation, between words, the files that are read and the answer; and what the shelf and the sink show of it.
-use Rattle.std.specs.Prelude.{◌≡◌, ◌≢◌, ◌⊎◌, ℕ, List, [], ◌∷◌, take, Option, None, Some}
+use Rattle.std.specs.Prelude.{◌≡◌, ◌≢◌, ◌⊎◌, ℕ, suc, List, [], ◌∷◌, codes, take, Option, None, Some}
 use Rattle.std.specs.Option.{MatchOption, ForSome, option_map_or}
+use Rattle.ip_defs.specs.declared.programs.Parts.{Parts}
 use Rattle.ips_io.specs.Causes.{Rose}
-use Rattle.ips_io.specs.Files.{Files, Names, file_of, Keeps, Takes, KeepsOthers}
+use Rattle.ips_io.specs.Files.{Began, Files, Names, file_of, Keeps, Takes, KeepsOthers}
+use Rattle.mps_defs.specs.declared.reading.How.{How}
 use Rattle.ipsens_core.specs.Answers.{Answer, says, ReadsNoMore}
 use Rattle.ipsens_core.specs.Reads.{Reads, Agrees}
+use Rattle.ipsens_core.specs.Ask.{AnswersAsk}
 use Rattle.ipsens_core.specs.Check.{AnswersCheck}
+use Rattle.ipsens_core.specs.Models.{ReadsModel, reading}
 use Rattle.ipsens_core.specs.Show.{AnswersShow}
 use Rattle.ipsens_core.specs.Solve.{AnswersSolve}
 use Rattle.ips_words.specs.Commands.{Word, request_of}
-use Rattle.ips_words.specs.Requests.{usage_text}
+use Rattle.ips_words.specs.Requests.{AreLimits, IsReading, usage_text}
 use Rattle.ips_words.specs.declared.requests.Request.{Request}
 use Rattle.ips_words.specs.declared.requests.Request.TheVariants.{Solve, Check, Ask, Sweep, Recheck, Show, Trial}
 use Rattle.ipsens_core.specs.declared.statuses.Status.{Status}
@@ -18,16 +22,49 @@ use Rattle.ipsens_core.specs.declared.statuses.Status.TheVariants.{WriteFault, M
 
 -- ---- the run relation
 
--- what is owed to a request: a line for each command that is built. No words ask for the others
+-- the model file of a request, and how its text is read
+abbrev pub model_file : Request → Option (List ℕ × How)
+model_file (Solve model tree nodes depth pivots digits box_side) = Some (model, reading digits box_side)
+model_file (Check model tree digits box_side) = Some (model, reading digits box_side)
+model_file (Ask model tree questions digits box_side) = Some (model, reading digits box_side)
+model_file (Sweep model sweep proof nodes depth pivots digits box_side) = Some (model, reading digits box_side)
+model_file (Recheck model sweep proof digits box_side) = Some (model, reading digits box_side)
+model_file (Show model digits box_side) = Some (model, reading digits box_side)
+model_file (Trial number) = None
+
+-- what a command owes to its model and to the files after it: a line for each command that is built. No words ask for the others
+abbrev pub AnswersModel : Request → Parts → Reads → Answer → Type 0
+AnswersModel (Solve model tree nodes depth pivots digits box_side) m = AnswersSolve tree nodes depth pivots m
+AnswersModel (Check model tree digits box_side) m = AnswersCheck tree m
+AnswersModel (Ask model tree questions digits box_side) m = AnswersAsk tree questions m
+AnswersModel (Sweep model sweep proof nodes depth pivots digits box_side) m = λ rs a. ⊥
+AnswersModel (Recheck model sweep proof digits box_side) m = λ rs a. ⊥
+AnswersModel (Show model digits box_side) m = AnswersShow m
+AnswersModel (Trial number) m = λ rs a. ⊥
+
+-- what is owed to a request: its model file is read, and then its command answers
 abbrev pub AnswersRequest : Request → Reads → Answer → Type 0
-AnswersRequest (Solve model tree nodes depth pivots digits box_side) =
-    AnswersSolve model tree (record { digits = digits; box_side = box_side }) nodes depth pivots
-AnswersRequest (Check model tree digits box_side) = AnswersCheck model tree (record { digits = digits; box_side = box_side })
-AnswersRequest (Ask model tree questions digits box_side) = λ rs a. ⊥
-AnswersRequest (Sweep model sweep proof nodes depth pivots digits box_side) = λ rs a. ⊥
-AnswersRequest (Recheck model sweep proof digits box_side) = λ rs a. ⊥
-AnswersRequest (Show model digits box_side) = AnswersShow model (record { digits = digits; box_side = box_side })
-AnswersRequest (Trial number) = λ rs a. ⊥
+AnswersRequest q rs a = MatchOption (model_file q) ⊥ (λ file. ReadsModel file.0 file.1 (AnswersModel q) rs a)
+
+-- the word of the command of a request
+abbrev pub command_word : Request → Word
+command_word (Solve model tree nodes depth pivots digits box_side) = codes "solve"
+command_word (Check model tree digits box_side) = codes "check"
+command_word (Ask model tree questions digits box_side) = codes "ask"
+command_word (Sweep model sweep proof nodes depth pivots digits box_side) = codes "sweep"
+command_word (Recheck model sweep proof digits box_side) = codes "recheck"
+command_word (Show model digits box_side) = codes "show"
+command_word (Trial number) = codes "trial"
+
+-- the command of a request is built, and its numbers are in their ranges
+abbrev pub IsReady : Request → Type 0
+IsReady (Solve model tree nodes depth pivots digits box_side) = AreLimits nodes depth pivots × IsReading digits box_side
+IsReady (Check model tree digits box_side) = IsReading digits box_side
+IsReady (Ask model tree questions digits box_side) = IsReading digits box_side
+IsReady (Sweep model sweep proof nodes depth pivots digits box_side) = ⊥
+IsReady (Recheck model sweep proof digits box_side) = ⊥
+IsReady (Show model digits box_side) = IsReading digits box_side
+IsReady (Trial number) = ⊥
 
 -- the usage line where the words are no request, else an answer to the request
 abbrev pub IsRunOf : List Word → Reads → Answer → Type 0
@@ -35,19 +72,27 @@ IsRunOf words rs a = MatchOption (request_of words) (ReadsNoMore (λ b. b ≡ sa
 
 -- ---- the files of a request
 
+-- the files that a command reads after its model file, in their order
+abbrev pub files_after : Request → Names
+files_after (Solve model tree nodes depth pivots digits box_side) = []
+files_after (Check model tree digits box_side) = tree ∷ []
+files_after (Ask model tree questions digits box_side) = tree ∷ questions ∷ []
+files_after (Sweep model sweep proof nodes depth pivots digits box_side) = sweep ∷ []
+files_after (Recheck model sweep proof digits box_side) = sweep ∷ proof ∷ []
+files_after (Show model digits box_side) = []
+files_after (Trial number) = []
+
 -- the files that a request names, in the order in which they are read
 abbrev pub files_named : Request → Names
-files_named (Solve model tree nodes depth pivots digits box_side) = model ∷ []
-files_named (Check model tree digits box_side) = model ∷ tree ∷ []
-files_named (Ask model tree questions digits box_side) = model ∷ tree ∷ questions ∷ []
-files_named (Sweep model sweep proof nodes depth pivots digits box_side) = model ∷ sweep ∷ []
-files_named (Recheck model sweep proof digits box_side) = model ∷ sweep ∷ proof ∷ []
-files_named (Show model digits box_side) = model ∷ []
-files_named (Trial number) = []
+files_named q = option_map_or (λ file. file.0 ∷ files_after q) (model_file q) []
 
 -- those that words name: none where they are no request
 abbrev pub files_asked : List Word → Names
 files_asked words = option_map_or files_named (request_of words) []
+
+-- the first of these files was begun, and then no more than the first of the others
+abbrev pub HasBegun : Option Names → Option Names → Names → Type 0
+HasBegun before after names = (more : ℕ) × Began before after (take (suc more) names)
 
 -- one failure was counted: of a file that was saved, or of the output
 abbrev pub OneRose : ℕ → ℕ → ℕ → ℕ → Type 0
@@ -124,3 +169,13 @@ RunMeets IsRun o Usage = IsAnswered IsRun o Usage
 RunMeets IsRun o Refused = IsAnswered IsRun o Refused
 RunMeets IsRun o Budget = IsAnswered IsRun o Budget
 RunMeets IsRun o Wide = IsAnswered IsRun o Wide
+
+-- what a call for a request shows, and what of the outside it leaves as it was: where saving failed nothing is written, and no file is
+-- begun but the first of those that the request names
+pub record MeetsRequest (q : Request) (o : Outside) (faults faults_after saves saves_after writes writes_after : ℕ)
+    (names names_after : Option Names) (status : Status) : Type 0 where
+  pub answer : RunMeets (AnswersRequest q) o status
+  pub causes : HasCauses faults faults_after saves saves_after writes writes_after status
+  pub unsaved : saves_after ≢ saves → o.taken_after ≡ o.taken
+  pub begun : HasBegun names names_after (files_named q)
+  pub no_usage : status ≢ Usage

@@ -1,54 +1,27 @@
 -- What `solve` owes to its model: the text of a right outcome of a search within its limits, and the file of its proof.
-use Rattle.std.specs.Prelude.{◌≡◌, ℕ, List, Option, None, Some, option_map, codes, ℤ}
+use Rattle.std.specs.Prelude.{◌≡◌, ℕ, List, Option, None, option_map}
 use Rattle.ip_defs.specs.declared.programs.Parts.{Parts}
 use Rattle.ip_model.specs.Sizes.{allowance}
-use Rattle.mps_defs.specs.declared.reading.How.{How}
 use Rattle.proof_tree.specs.Trees.{plain}
-use Rattle.proof_tree.specs.declared.claims.Claim.{Claim}
-use Rattle.proof_tree.specs.declared.claims.Claim.TheVariants as Claims
 use Rattle.proof_tree.specs.declared.claims.Proof.{Proof}
 use Rattle.tree_format.specs.Spellings.{Spells, spelling}
-use Rattle.branching.specs.declared.budgets.BudgetWhat.{BudgetWhat}
-use Rattle.branching.specs.declared.budgets.BudgetWhat.TheVariants.{Nodes, Depth}
 use Rattle.branching.specs.declared.budgets.Limits.{Limits}
 use Rattle.branching.specs.declared.outcomes.Outcome.{Outcome}
 use Rattle.branching.specs.declared.outcomes.Outcome.TheVariants.{Best, Empty, Budget}
 use Rattle.branching.specs.BestFirst.{IsBestFirst}
-use Rattle.branching.specs.Counts.{nodes_of, skipped_of}
 use Rattle.branching.specs.Outcomes.{IsRightOutcome, IsTrueOutcome}
 use Rattle.branching.specs.Sizes.{AreAmple, IsAnswer}
-use Rattle.ipsens_core.specs.AnswerTexts.{answer_lines, budget_lines}
 use Rattle.ipsens_core.specs.Answers.{Answer, ReadsNoMore}
-use Rattle.ipsens_core.specs.Models.{ReadsModel}
 use Rattle.ipsens_core.specs.Reads.{Reads}
 use Rattle.ipsens_core.specs.declared.statuses.Status.{Status}
 use Rattle.ipsens_core.specs.declared.statuses.Status.TheVariants as Ends
-use Rattle.ips_words.specs.Requests.{AreLimits, IsReading}
-use Rattle.ips_words.specs.declared.requests.Request.{Request}
-use Rattle.ips_words.specs.declared.requests.Request.TheVariants.{Solve, Check, Ask, Sweep, Recheck, Show, Trial}
+use Rattle.sens_report.specs.AnswerTexts.{outcome_lines}
 
--- the point of a claim
-abbrev pub claimed : Claim → Option (List ℤ)
-claimed (Claims.Best x) = Some x
-claimed Claims.Empty = None
-
--- the limit that stopped a search, as it is printed
-abbrev pub limit_word : BudgetWhat → List ℕ
-limit_word Nodes = codes "nodes"
-limit_word Depth = codes "depth"
-
--- the status of an outcome, and its text
+-- the status of an outcome
 abbrev pub outcome_status : Outcome → Status
 outcome_status (Best p whys) = Ends.Answered
 outcome_status (Empty p whys) = Ends.Answered
 outcome_status (Budget what grown best) = Ends.Budget
-
-abbrev pub outcome_lines : Parts → Outcome → List ℕ
-outcome_lines m (Best p whys) = answer_lines m (claimed p.claim) (nodes_of (Best p whys)) (skipped_of (Best p whys))
-outcome_lines m (Empty p whys) = answer_lines m None (nodes_of (Empty p whys)) (skipped_of (Empty p whys))
-outcome_lines m (Budget what grown best) =
-    let o = Budget what grown best in
-    budget_lines m (limit_word what) (nodes_of o) (skipped_of o) best
 
 -- the file that a proof is saved as, where a name is given: its one spelling
 abbrev pub saved_proof : Option (List ℕ) → Proof → Option (List ℕ × List ℕ)
@@ -89,17 +62,6 @@ pub record HasOutcome (m : Parts) (l : Limits) (tree : Option (List ℕ)) (a : A
   pub spelled : IsSpelled outcome
   pub answer : a ≡ outcome_answer m tree outcome
 
--- the answer of `solve` to its files
-abbrev pub AnswersSolve : List ℕ → Option (List ℕ) → How → ℕ → ℕ → ℕ → Reads → Answer → Type 0
-AnswersSolve model tree how nodes depth pivots =
-    ReadsModel model how (λ m. ReadsNoMore (HasOutcome m (limits_for m nodes depth pivots) tree))
-
--- a request to solve, with numbers in their ranges
-abbrev pub IsSolve : Request → Type 0
-IsSolve (Solve model tree nodes depth pivots digits box_side) = AreLimits nodes depth pivots × IsReading digits box_side
-IsSolve (Check model tree digits box_side) = ⊥
-IsSolve (Ask model tree questions digits box_side) = ⊥
-IsSolve (Sweep model sweep proof nodes depth pivots digits box_side) = ⊥
-IsSolve (Recheck model sweep proof digits box_side) = ⊥
-IsSolve (Show model digits box_side) = ⊥
-IsSolve (Trial number) = ⊥
+-- the answer of `solve` to its model: no further file is read
+abbrev pub AnswersSolve : Option (List ℕ) → ℕ → ℕ → ℕ → Parts → Reads → Answer → Type 0
+AnswersSolve tree nodes depth pivots m = ReadsNoMore (HasOutcome m (limits_for m nodes depth pivots) tree)

@@ -9,7 +9,7 @@ use Rattle.tree_format.specs.Grammar.{first_fault}
 use Rattle.tree_format.specs.Spellings.{Spells}
 use Rattle.ipsens_core.specs.Answers.{Answer, says, ReadsFile, ReadsNoMore}
 use Rattle.ipsens_core.specs.Reads.{Reads}
-use Rattle.ipsens_core.specs.TreeTexts.{fault_text, misfit_text, refused_tree}
+use Rattle.ipsens_core.specs.TreeRefusals.{fault_text, misfit_text, refused_tree}
 use Rattle.ipsens_core.specs.declared.statuses.Status.TheVariants.{Refused}
 
 -- the longest tree file, 256 MiB

@@ -6,12 +6,10 @@ ghost use Rattle.ipsens_core.specs.Runs.{HasCauses, IsRunOf, RunMeets, files_ask
 ghost use Rattle.ips_words.specs.Commands.{request_of};
 
 use crate::answers::finish;
-use crate::check::check_at;
-use crate::show::show_at;
-use crate::solve::solve_at;
+use crate::commands::carry_out;
 use crate::statuses::Status;
 use ips_io::{Shelf, Sink};
-use ips_words::{Request, USAGE, WordsError, request};
+use ips_words::{USAGE, WordsError, request};
 use std::alloc::Global;
 
 /// Runs the command of the words over a shelf of files and a sink of output: the words are read, then the files of the command, then the
@@ -33,10 +31,5 @@ pub fn run<S: Shelf, K: Sink>(alloc: Global, words: &[String], shelf: &mut S, ou
         Err(WordsError::Usage) => return finish(out, Status::Usage, USAGE),
         Err(WordsError::Memory) => return Status::Memory,
     };
-    match &request {
-        Request::Solve { .. } => solve_at(alloc, &request, shelf, out),
-        Request::Check { .. } => check_at(alloc, &request, shelf, out),
-        Request::Show { .. } => show_at(alloc, &request, shelf, out),
-        _ => unreachable!(),
-    }
+    carry_out(alloc, &request, shelf, out)
 }

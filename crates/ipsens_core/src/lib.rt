@@ -2,19 +2,22 @@
 #![tactic(auto)]
 
 mod answers;
+mod ask;
 mod check;
 mod command_lines;
+mod commands;
+mod model_refusals;
 mod models;
-mod printed_texts;
+mod proof_files;
+mod question_files;
+mod question_refusals;
 mod show;
 mod solve;
 mod statuses;
-mod tree_texts;
+mod tree_refusals;
 mod trees;
 
-pub use check::check_at;
 pub use command_lines::run;
+pub use commands::{ask_at, check_at, show_at, solve_at};
 pub use ips_words::{Request, WordsError, request};
-pub use show::show_at;
-pub use solve::solve_at;
 pub use statuses::{Status, code, complaint, report};

@@ -5,11 +5,11 @@ ghost use Rattle.ip_model.specs.Sizes.{first_crossed};
 ghost use Rattle.ips_io.specs.Causes.{Rose};
 ghost use Rattle.ips_io.specs.Files.{Began, Keeps};
 ghost use Rattle.mps_defs.specs.TextModels.{IsHow};
-ghost use Rattle.ipsens_core.specs.RefusalTexts.{refusal_text};
+ghost use Rattle.ipsens_core.specs.ModelRefusals.{refusal_text};
 ghost use Rattle.ipsens_core.specs.Internal.Made.{IsModelFile, IsModelText, IsRefusalOf, IsWithoutModel};
 
 use crate::answers::{Made, Stop, says};
-use crate::printed_texts::{TOO_LONG, refusal_line};
+use crate::model_refusals::{TOO_LONG, refusal_line};
 use crate::statuses::Status;
 use ip_defs::Name;
 use ip_model::IntModel;

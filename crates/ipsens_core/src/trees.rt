@@ -4,7 +4,7 @@ ghost use Rattle.std.specs.Prelude.{◌≡◌, ◌≢◌, ◌∷◌, [], OnOk};
 ghost use Rattle.ips_io.specs.Causes.{Rose};
 ghost use Rattle.ips_io.specs.Files.{Began, BeganFirst, Keeps};
 ghost use Rattle.ips_io.specs.Shelves.{BecomesUnknown, IsTooLong};
-ghost use Rattle.tree_checker.specs.Internal.Streaming.{HasStreamed};
+ghost use Rattle.tree_checker.specs.Streams.{HasStreamed};
 ghost use Rattle.ipsens_core.specs.Internal.TreeFiles.{HasFedFile, IsTreeFile};
 
 use ip_defs::{Memory, Name};
@@ -14,7 +14,7 @@ use std::alloc::Global;
 use tree_checker::{StreamCheck, StreamError, Verdict, stream};
 
 /// The longest tree file, in bytes: 256 MiB.
-const LONGEST_TREE: u64 = 268_435_456;
+pub const LONGEST_TREE: u64 = 268_435_456;
 
 /// The most bytes that one read takes.
 const PIECE: usize = 16_384;

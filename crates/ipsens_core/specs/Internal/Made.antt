@@ -9,7 +9,7 @@ use Rattle.mps_defs.specs.declared.reading.MpsError.{MpsError}
 use Rattle.ipsens_core.specs.Answers.{Answer, says}
 use Rattle.ipsens_core.specs.Models.{ReadsModel, longest_model}
 use Rattle.ipsens_core.specs.Reads.{Reads, Agrees}
-use Rattle.ipsens_core.specs.RefusalTexts.{refusal_text, refused_model}
+use Rattle.ipsens_core.specs.ModelRefusals.{refusal_text, refused_model}
 use Rattle.ipsens_core.specs.Runs.{IsOwed}
 use Rattle.ipsens_core.specs.declared.answers.Made.{Made}
 use Rattle.ipsens_core.specs.declared.answers.Saved.{Saved}
@@ -48,8 +48,8 @@ pub record IsMade (IsRun : Reads → Answer → Type 0) (before after : Option F
 
 -- how reading the files of a command and making its answer ends: the files are as before, nothing is saved, and reading failed exactly
 -- where the shelf counted a failure
-pub record IsPrepared (IsRun : Reads → Answer → Type 0) (before after : Option Files) (faults faults_after save_faults save_faults_after : ℕ)
-    (result : Result Made Stop) : Type 0 where
+pub record IsPrepared (IsRun : Reads → Answer → Type 0) (before after : Option Files)
+    (faults faults_after save_faults save_faults_after : ℕ) (result : Result Made Stop) : Type 0 where
   pub made : IfOk result (IsMade IsRun before after)
   pub keeps : Keeps before after
   pub fault : result ≡ Err Stops.ReadFault → Rose faults faults_after

@@ -6,15 +6,14 @@ use Rattle.ips_io.specs.Shelves.{IsWhole}
 use Rattle.ips_io.specs.declared.reading.ReadError.{ReadError}
 use Rattle.ips_io.specs.declared.reading.ReadError.TheVariants as Reading
 use Rattle.proof_tree.specs.declared.verdicts.Verdict.{Verdict}
-use Rattle.tree_checker.specs.Internal.Streaming.{HasStreamed}
-use Rattle.tree_checker.specs.Streams.{IsStreamAnswer}
+use Rattle.tree_checker.specs.Streams.{HasStreamed, IsStreamAnswer}
 use Rattle.tree_checker.specs.declared.streams.StreamError.{StreamError}
 use Rattle.tree_checker.specs.declared.streams.StreamError.TheVariants as Errors
 use Rattle.tree_checker.specs.declared.streams.Streaming.{Streaming}
 use Rattle.ipsens_core.specs.Answers.{Answer}
 use Rattle.ipsens_core.specs.Check.{verdict_answer}
 use Rattle.ipsens_core.specs.Reads.{Agrees}
-use Rattle.ipsens_core.specs.TreeTexts.{fault_text, misfit_text}
+use Rattle.ipsens_core.specs.TreeRefusals.{fault_text, misfit_text}
 use Rattle.ipsens_core.specs.Trees.{longest_tree, refuses_tree}
 
 -- a check has taken all bytes of the named file, which is within its length
@@ -44,8 +43,12 @@ IsTreeFile m before after name (Err Reading.TooLong) = IsTreeTooLong before afte
 IsTreeFile m before after name (Err Reading.Fault) = Unit {0}
 IsTreeFile m before after name (Err Reading.Memory) = Unit {0}
 
+-- the answer to a tree file that spells no proof, or none that fits
+abbrev pub refuses_proof : StreamError → Answer
+refuses_proof (Errors.Tree e) = refuses_tree (fault_text e)
+refuses_proof (Errors.Shape s) = refuses_tree (misfit_text s)
+
 -- the answer to what the bytes of a tree file come to
 abbrev pub answer_to_tree : Parts → Result Verdict StreamError → Answer
 answer_to_tree m (Ok v) = verdict_answer m v
-answer_to_tree m (Err (Errors.Tree e)) = refuses_tree (fault_text e)
-answer_to_tree m (Err (Errors.Shape s)) = refuses_tree (misfit_text s)
+answer_to_tree m (Err error) = refuses_proof error

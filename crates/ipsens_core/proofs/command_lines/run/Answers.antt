@@ -1,6 +1,7 @@
 use Rattle.std.proofs.Common.{ap, Err}
 use Rattle.std.specs.Prelude.{map, string_bytes}
-use Rattle.ipsens_core.proofs.RunLaws.{asked_meets, began_asked, began_first_asked, usage_meets}
+use Rattle.ipsens_core.proofs.RequestLaws.{asked_begun, request_ready}
+use Rattle.ipsens_core.proofs.RunLaws.{asked_meets, usage_meets}
 use Rattle.ipsens_core.proofs.command_lines.run.Goals as goal
 
 pub returns-in-Err-Usage-clause-answer : goal.returns-in-Err-Usage-clause-answer
@@ -9,20 +10,20 @@ returns-in-Err-Usage-clause-answer g c =
     (g.K.Sink.taken c.finish.new.out) (g.K.Sink.faults c.args.out.now) (g.K.Sink.faults c.finish.new.out) c.finish.result
     (c.in-Err-Usage.ensures.usage (ap Err c.in-Err-Usage.field-0-is)) c.finish.ensures.writes
 
-pub returns-in-Solve-clause-answer : goal.returns-in-Solve-clause-answer
-returns-in-Solve-clause-answer g c = asked_meets _ _ _ _ c.in-Ok.ensures.request c.solve_at.ensures.answer
+pub carry_out-requires : goal.carry_out-requires
+carry_out-requires g c = request_ready _ c.in-Ok.ensures.ranges c.in-Ok.ensures.built
 
-pub returns-in-Check-clause-answer : goal.returns-in-Check-clause-answer
-returns-in-Check-clause-answer g c = asked_meets _ _ _ _ c.in-Ok.ensures.request c.check_at.ensures.answer
+pub returns-clause-answer : goal.returns-clause-answer
+returns-clause-answer g c = asked_meets _ _ _ _ c.in-Ok.ensures.request c.carry_out.ensures.run.answer
 
-pub returns-in-Show-clause-answer : goal.returns-in-Show-clause-answer
-returns-in-Show-clause-answer g c = asked_meets _ _ _ _ c.in-Ok.ensures.request c.show_at.ensures.answer
+pub returns-clause-usage : goal.returns-clause-usage
+returns-clause-usage g c = λ is. absurd (c.carry_out.ensures.run.no_usage is)
 
-pub returns-in-Solve-clause-begun : goal.returns-in-Solve-clause-begun
-returns-in-Solve-clause-begun g c = began_asked _ _ _ _ c.in-Ok.ensures.request c.solve_at.ensures.begun
+pub returns-clause-causes : goal.returns-clause-causes
+returns-clause-causes g c = c.carry_out.ensures.run.causes
 
-pub returns-in-Check-clause-begun : goal.returns-in-Check-clause-begun
-returns-in-Check-clause-begun g c = began_first_asked _ _ _ _ c.in-Ok.ensures.request c.check_at.ensures.begun
+pub returns-clause-unsaved : goal.returns-clause-unsaved
+returns-clause-unsaved g c = c.carry_out.ensures.run.unsaved
 
-pub returns-in-Show-clause-begun : goal.returns-in-Show-clause-begun
-returns-in-Show-clause-begun g c = began_asked _ _ _ _ c.in-Ok.ensures.request c.show_at.ensures.begun
+pub returns-clause-begun : goal.returns-clause-begun
+returns-clause-begun g c = asked_begun _ _ _ _ c.in-Ok.ensures.request c.carry_out.ensures.run.begun

@@ -1,7 +1,0 @@
-use Rattle.std.proofs.Common.{◌≡◌, ◌++◌, take}
-use Rattle.std.specs.Prelude.{flat_map, string_bytes, zip}
-use Rattle.ipsens_core.specs.AnswerTexts.{value_line}
-use Rattle.ipsens_core.proofs.printed_texts.push_values.Given as goal
-
-abbrev pub invariant-loop-j : goal.invariant-loop-j
-invariant-loop-j l = string_bytes l.text ≡ string_bytes l.initial.text ++ flat_map value_line (take l.j (zip l.columns l.point))

@@ -1,231 +1,258 @@
 //! What no clause says: that calls succeed over shelves and sinks in memory, and what real files hold.
-ghost use Rattle.std.specs.Prelude.{◌<◌};
 
 use ip_defs::Memory;
-use ips_io::{
-    Failed, MemShelf, ReadError, Shelf, file_shelf, mem_shelf, mem_sink, out_sink, read_all,
-    write_all,
-};
+use ips_io::{MemShelf, ReadError, Shelf, file_shelf, mem_shelf, mem_sink, read_all, write_all};
 use std::alloc::{AllocError, Global};
 use std::fs;
 use std::test::Fail;
 
-/// A shelf with a file `a` of five bytes and an empty file `e`, which fails at one call.
-fn shelf_of_two(alloc: Global, piece: u64, failing: u64) -> Result<MemShelf, Memory>
-    requires { 0 < piece }
-{
-    let mut shelf = mem_shelf(alloc, 2, 7, piece)?;
+/// Whether a shelf gives these bytes of a file of at most `most` bytes, or this error.
+fn gives<S: Shelf>(
+    alloc: Global,
+    shelf: &mut S,
+    name: &str,
+    most: u64,
+    wanted: Result<&[u8], ReadError>,
+) -> bool {
+    match read_all(alloc, shelf, name, most) {
+        Ok(bytes) => wanted == Ok(bytes.as_slice()),
+        Err(error) => wanted == Err(error),
+    }
+}
+
+/// A shelf in memory with a file `a` of five bytes and an empty file `e`, which fails at one call.
+fn shelf_of_two(alloc: Global, piece: u64, failing: u64) -> Result<MemShelf, Memory> {
+    let mut shelf = mem_shelf(alloc, 2, 7, piece.max(1))?;
     let _first = shelf.add("a", b"hello");
     let _second = shelf.add("e", b"");
     let _listed = shelf.fail_at(failing);
     Ok(shelf)
 }
 
-/// Whether a file is read as a text.
-fn reads(
+/// Whether that shelf gives this.
+fn two_give(
     alloc: Global,
     piece: u64,
     failing: u64,
     name: &str,
     most: u64,
-    text: &str,
-) -> Result<bool, Memory>
-    requires { 0 < piece }
-{
-    let mut shelf = shelf_of_two(alloc, piece, failing)?;
-    match read_all(alloc, &mut shelf, name, most) {
-        Ok(bytes) => Ok(bytes.as_slice() == text.as_bytes()),
-        Err(_) => Ok(false),
-    }
-}
-
-/// Whether a file is not read, with this error.
-fn refuses(
-    alloc: Global,
-    piece: u64,
-    failing: u64,
-    name: &str,
-    most: u64,
-    error: ReadError,
-) -> Result<bool, Memory>
-    requires { 0 < piece }
-{
-    let mut shelf = shelf_of_two(alloc, piece, failing)?;
-    match read_all(alloc, &mut shelf, name, most) {
-        Ok(_) => Ok(false),
-        Err(other) => Ok(other == error),
+    wanted: Result<&[u8], ReadError>,
+) -> bool {
+    match shelf_of_two(alloc, piece, failing) {
+        Ok(mut shelf) => gives(alloc, &mut shelf, name, most, wanted),
+        Err(_) => false,
     }
 }
 
 #[test]
-fn reads_whole_files_piece_by_piece(rt: HostRuntime) -> Result<(), Fail> {
-    let alloc = rt.alloc();
-    assert!(rt; reads(alloc, 1, 0, "a", 5, "hello")?);
-    assert!(rt; reads(alloc, 3, 0, "a", 5, "hello")?);
-    assert!(rt; reads(alloc, 9, 0, "a", 9, "hello")?);
-    assert!(rt; reads(alloc, 1, 0, "e", 0, "")?);
-    assert!(rt; reads(alloc, 1, 8, "a", 5, "hello")?);
-    Ok(())
+fn files_are_read_in_pieces(rt: HostRuntime) {
+    let hello = Ok(b"hello".as_slice());
+    let too_long = Err(ReadError::TooLong);
+    let fault = Err(ReadError::Fault);
+    for (piece, failing, name, most, wanted) in [
+        (1, 0, "a", 5, hello),
+        (3, 0, "a", 5, hello),
+        (9, 0, "a", 9, hello),
+        (1, 0, "e", 0, Ok(b"".as_slice())),
+        (1, 8, "a", 5, hello),
+        (1, 0, "a", 4, too_long),
+        (9, 0, "a", 4, too_long),
+        (9, 0, "a", 0, too_long),
+        (1, 0, "b", 5, fault),
+        (1, 1, "a", 5, fault),
+        (1, 3, "a", 5, fault),
+        (1, 7, "a", 5, fault),
+    ] {
+        let found = two_give(rt.alloc(), piece, failing, name, most, wanted);
+        assert!(rt; found, "piece {piece}, failing {failing}");
+    }
+}
+
+/// Whether a sink in memory takes this of a text of five bytes, and whether that is all.
+fn takes(alloc: Global, room: u64, piece: u64, failing: u64, text: &str, all: bool) -> bool {
+    match mem_sink(alloc, room, piece.max(1)) {
+        Ok(mut sink) => {
+            let _listed = sink.fail_at(failing);
+            let wrote = write_all(&mut sink, b"hello").is_ok();
+            wrote == all && sink.bytes() == text.as_bytes()
+        }
+        Err(_) => false,
+    }
 }
 
 #[test]
-fn refuses_long_files_and_failures(rt: HostRuntime) -> Result<(), Fail> {
-    let alloc = rt.alloc();
-    assert!(rt; refuses(alloc, 1, 0, "a", 4, ReadError::TooLong)?);
-    assert!(rt; refuses(alloc, 9, 0, "a", 4, ReadError::TooLong)?);
-    assert!(rt; refuses(alloc, 9, 0, "a", 0, ReadError::TooLong)?);
-    assert!(rt; refuses(alloc, 1, 0, "b", 5, ReadError::Fault)?);
-    assert!(rt; refuses(alloc, 1, 1, "a", 5, ReadError::Fault)?);
-    assert!(rt; refuses(alloc, 1, 3, "a", 5, ReadError::Fault)?);
-    assert!(rt; refuses(alloc, 1, 7, "a", 5, ReadError::Fault)?);
-    Ok(())
+fn texts_are_written_in_pieces(rt: HostRuntime) {
+    for (room, piece, failing, text, all) in [
+        (9, 1, 0, "hello", true),
+        (9, 3, 0, "hello", true),
+        (9, 9, 0, "hello", true),
+        (5, 2, 0, "hello", true),
+        (9, 2, 4, "hello", true),
+        (4, 3, 0, "hell", false),
+        (0, 1, 0, "", false),
+        (9, 2, 1, "", false),
+        (9, 2, 2, "he", false),
+    ] {
+        let well = takes(rt.alloc(), room, piece, failing, text, all);
+        assert!(rt; well, "room {room}, failing {failing}");
+    }
 }
 
-/// Whether a sink takes this of a text of five bytes, and whether that is all.
-fn takes(
-    alloc: Global,
-    room: u64,
-    piece: u64,
-    failing: u64,
-    text: &str,
-    all: bool,
-) -> Result<bool, Memory>
-    requires { 0 < piece }
-{
-    let mut sink = mem_sink(alloc, room, piece)?;
-    let _listed = sink.fail_at(failing);
-    let wrote = write_all(&mut sink, b"hello").is_ok();
-    Ok(wrote == all && sink.bytes() == text.as_bytes())
+/// A save, whether it succeeds, and what the files `a` and `b` hold then.
+#[derive(Clone, Copy)]
+struct Save<'a> {
+    name: &'a str,
+    text: &'a str,
+    succeeds: bool,
+    a: Option<&'a str>,
+    b: Option<&'a str>,
 }
 
-#[test]
-fn writes_whole_texts_piece_by_piece(rt: HostRuntime) -> Result<(), Fail> {
-    let alloc = rt.alloc();
-    assert!(rt; takes(alloc, 9, 1, 0, "hello", true)?);
-    assert!(rt; takes(alloc, 9, 3, 0, "hello", true)?);
-    assert!(rt; takes(alloc, 9, 9, 0, "hello", true)?);
-    assert!(rt; takes(alloc, 5, 2, 0, "hello", true)?);
-    assert!(rt; takes(alloc, 9, 2, 4, "hello", true)?);
-    Ok(())
+/// Whether a file of a shelf holds this text, or stands there not at all.
+fn holds(shelf: &MemShelf, name: &str, text: Option<&str>) -> bool {
+    match (shelf.file(name), text) {
+        (Some(bytes), Some(text)) => bytes == text.as_bytes(),
+        (None, None) => true,
+        _ => false,
+    }
 }
 
-#[test]
-fn stops_where_a_sink_fails(rt: HostRuntime) -> Result<(), Fail> {
-    let alloc = rt.alloc();
-    assert!(rt; takes(alloc, 4, 3, 0, "hell", false)?);
-    assert!(rt; takes(alloc, 0, 1, 0, "", false)?);
-    assert!(rt; takes(alloc, 9, 2, 1, "", false)?);
-    assert!(rt; takes(alloc, 9, 2, 2, "he", false)?);
-    Ok(())
+/// Whether a shelf saves so.
+fn saves(shelf: &mut MemShelf, save: &Save<'_>) -> bool {
+    shelf.save(save.name, save.text.as_bytes()).is_ok() == save.succeeds
+        && holds(shelf, "a", save.a)
+        && holds(shelf, "b", save.b)
 }
 
-/// Whether a shelf holds these texts as `a` and `b`.
-fn holds(shelf: &MemShelf, a: &str, b: &str) -> bool {
-    shelf.file("a") == Some(a.as_bytes()) && shelf.file("b") == Some(b.as_bytes())
+/// Whether a shelf with room for two files, and for 12 bytes of them and their names, saves all of these in order. Its sixth call fails.
+fn saves_all(alloc: Global, list: &[Save<'_>]) -> bool {
+    match mem_shelf(alloc, 2, 12, 1) {
+        Ok(mut shelf) => shelf.fail_at(6) && list.iter().all(|save| saves(&mut shelf, save)),
+        Err(_) => false,
+    }
 }
 
-#[test]
-fn saves_files_within_the_room(rt: HostRuntime) -> Result<(), Fail> {
-    let mut shelf = mem_shelf(rt.alloc(), 2, 12, 1)?;
-    assert!(rt; shelf.fail_at(6));
-    assert_eq!(rt; shelf.save("a", b"one"), Ok(()));
-    assert!(rt; shelf.file("b").is_none());
-    assert_eq!(rt; shelf.save("b", b"two"), Ok(()));
-    assert!(rt; holds(&shelf, "one", "two"));
-    assert_eq!(rt; shelf.save("a", b"longer"), Ok(()));
-    assert!(rt; holds(&shelf, "longer", "two"));
-    Ok(())
+fn wanted<'a>(name: &'a str, text: &'a str, succeeds: bool, a: &'a str, b: &'a str) -> Save<'a> {
+    Save {
+        name,
+        text,
+        succeeds,
+        a: Some(a),
+        b: Some(b),
+    }
 }
 
 #[test]
-fn refuses_saves_beyond_the_room(rt: HostRuntime) -> Result<(), Fail> {
-    let mut shelf = mem_shelf(rt.alloc(), 2, 12, 1)?;
-    assert!(rt; shelf.add("a", b"longer"));
-    assert!(rt; shelf.add("b", b"two"));
-    assert!(rt; shelf.fail_at(3));
-    assert_eq!(rt; shelf.save("a", b"longest!"), Err(Failed));
-    assert_eq!(rt; shelf.save("c", b""), Err(Failed));
-    assert_eq!(rt; shelf.save("b", b"x"), Err(Failed));
-    assert!(rt; holds(&shelf, "longer", "two"));
-    assert_eq!(rt; shelf.save("b", b"x"), Ok(()));
-    assert_eq!(rt; shelf.save("a", b""), Ok(()));
-    assert!(rt; holds(&shelf, "", "x"));
-    Ok(())
+fn files_are_saved_within_the_room(rt: HostRuntime) {
+    let list = [
+        Save {
+            name: "a",
+            text: "one",
+            succeeds: true,
+            a: Some("one"),
+            b: None,
+        },
+        wanted("b", "two", true, "one", "two"),
+        wanted("a", "longer", true, "longer", "two"),
+        wanted("a", "longest!", false, "longer", "two"),
+        wanted("c", "", false, "longer", "two"),
+        wanted("b", "x", false, "longer", "two"),
+        wanted("b", "x", true, "longer", "x"),
+        wanted("a", "", true, "", "x"),
+    ];
+    assert!(rt; saves_all(rt.alloc(), list.as_slice()));
 }
 
-#[test]
-fn lists_eight_failing_calls(rt: HostRuntime) -> Result<(), Fail> {
-    let mut sink = mem_sink(rt.alloc(), 1, 1)?;
-    let mut shelf = mem_shelf(rt.alloc(), 1, 1, 1)?;
+/// Whether a new shelf and a new sink list eight failing calls and no ninth.
+fn lists_eight(alloc: Global) -> Result<bool, Memory> {
+    let mut sink = mem_sink(alloc, 1, 1)?;
+    let mut shelf = mem_shelf(alloc, 1, 1, 1)?;
+    let mut listed = true;
     for call in 1..9 {
-        assert!(rt; sink.fail_at(call));
-        assert!(rt; shelf.fail_at(call));
+        listed = listed && sink.fail_at(call) && shelf.fail_at(call);
     }
-    assert!(rt; !sink.fail_at(9));
-    assert!(rt; !shelf.fail_at(9));
-    Ok(())
+    Ok(listed && !sink.fail_at(9) && !shelf.fail_at(9))
+}
+
+#[test]
+fn eight_failing_calls_are_listed(rt: HostRuntime) {
+    assert!(rt; lists_eight(rt.alloc()) == Ok(true));
 }
 
 /// Bytes that repeat only after 251 of them, so that none is lost or moved unseen.
 fn bytes_of(alloc: Global, count: usize) -> Result<Vec<u8>, AllocError> {
-    let mut bytes = Vec::new(alloc);
+    let mut bytes = Vec::with_capacity(alloc, count)?;
     for j in 0..count {
         bytes.push((j % 251) as u8)?;
     }
     Ok(bytes)
 }
 
+/// Whether a file of these bytes, which the machine writes, is read as it is.
+fn real_gives(rt: &HostRuntime, name: &str, bytes: &[u8]) -> bool {
+    let most = bytes.len() as u64;
+    match rt.clone() {
+        Ok(files) => fs::write(rt, name, bytes).is_ok()
+            && gives(rt.alloc(), &mut file_shelf(files), name, most, Ok(bytes))
+            && fs::remove_file(rt, name).is_ok(),
+        Err(_) => false,
+    }
+}
+
+/// Whether the machine has these bytes in a file, which is then removed.
+fn real_has(rt: &HostRuntime, name: &str, bytes: &[u8]) -> bool {
+    match fs::read(rt, name) {
+        Ok(kept) => kept.as_slice() == bytes && fs::remove_file(rt, name).is_ok(),
+        Err(_) => false,
+    }
+}
+
+/// Whether a file of these bytes is saved.
+fn real_saves(rt: &HostRuntime, name: &str, bytes: &[u8]) -> bool {
+    match rt.clone() {
+        Ok(files) => file_shelf(files).save(name, bytes).is_ok(),
+        Err(_) => false,
+    }
+}
+
 /// Whether a file of this many bytes, which the machine wrote, is read as it is; and whether one that is saved is what the machine
 /// reads.
-fn keeps_bytes(rt: &HostRuntime, name: &str, count: usize) -> Result<bool, Fail> {
-    let bytes = bytes_of(rt.alloc(), count)?;
-    let mut shelf = file_shelf(rt.clone()?);
-    fs::write(rt, name, bytes.as_slice())?;
-    let read = match read_all(rt.alloc(), &mut shelf, name, count as u64) {
-        Ok(read) => read.as_slice() == bytes.as_slice(),
+fn keeps_bytes(rt: &HostRuntime, count: usize) -> bool {
+    let name = "ips_io_test_bytes";
+    match bytes_of(rt.alloc(), count) {
+        Ok(bytes) => real_gives(rt, name, bytes.as_slice())
+            && real_saves(rt, name, bytes.as_slice())
+            && real_has(rt, name, bytes.as_slice()),
         Err(_) => false,
-    };
-    fs::remove_file(rt, name)?;
-    let saved = shelf.save(name, bytes.as_slice()).is_ok();
-    let kept = fs::read(rt, name)?;
-    fs::remove_file(rt, name)?;
-    Ok(read && saved && kept.as_slice() == bytes.as_slice())
-}
-
-#[test]
-fn keeps_the_bytes_of_real_files(rt: HostRuntime) -> Result<(), Fail> {
-    assert!(rt; keeps_bytes(&rt, "ips_io_test_4095", 4095)?);
-    assert!(rt; keeps_bytes(&rt, "ips_io_test_4096", 4096)?);
-    assert!(rt; keeps_bytes(&rt, "ips_io_test_4097", 4097)?);
-    assert!(rt; keeps_bytes(&rt, "ips_io_test_10000", 10_000)?);
-    Ok(())
-}
-
-/// Whether a real file is not read, with this error.
-fn real_refuses(rt: &HostRuntime, name: &str, error: ReadError) -> Result<bool, Fail> {
-    let mut shelf = file_shelf(rt.clone()?);
-    match read_all(rt.alloc(), &mut shelf, name, 5) {
-        Ok(_) => Ok(false),
-        Err(other) => Ok(other == error),
     }
 }
 
 #[test]
-fn answers_failures_of_real_files(rt: HostRuntime) -> Result<(), Fail> {
-    let name = "ips_io_test_file";
-    let mut shelf = file_shelf(rt.clone()?);
-    assert_eq!(rt; shelf.save(name, b"hello\n"), Ok(()));
-    assert!(rt; real_refuses(&rt, name, ReadError::TooLong)?);
-    assert!(rt; real_refuses(&rt, ".", ReadError::Fault)?);
-    assert!(rt; real_refuses(&rt, "no_such_file", ReadError::Fault)?);
-    assert_eq!(rt; shelf.save(".", b"hello\n"), Err(Failed));
-    fs::remove_file(&rt, name)?;
-    Ok(())
+fn real_files_keep_their_bytes(rt: HostRuntime) {
+    for count in [4095, 4096, 4097, 10_000] {
+        assert!(rt; keeps_bytes(&rt, count), "{count} bytes");
+    }
+}
+
+/// Whether a real file of at most five bytes is not read, with this error.
+fn real_refuses(rt: &HostRuntime, name: &str, error: ReadError) -> bool {
+    match rt.clone() {
+        Ok(files) => gives(rt.alloc(), &mut file_shelf(files), name, 5, Err(error)),
+        Err(_) => false,
+    }
 }
 
 #[test]
-fn writes_to_standard_output(rt: HostRuntime) -> Result<(), Fail> {
-    let mut out = out_sink(rt.clone()?);
-    assert_eq!(rt; write_all(&mut out, b"written\n"), Ok(()));
+fn failures_of_real_files(rt: HostRuntime) -> Result<(), Fail> {
+    let name = "ips_io_test_file";
+    assert!(rt; real_saves(&rt, name, b"hello\n") && !real_saves(&rt, ".", b"hello\n"));
+    for (name, error) in [
+        (name, ReadError::TooLong),
+        (".", ReadError::Fault),
+        ("no_such_file", ReadError::Fault),
+    ] {
+        assert!(rt; real_refuses(&rt, name, error), "{name}");
+    }
+    fs::remove_file(&rt, name)?;
     Ok(())
 }

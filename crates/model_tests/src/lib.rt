@@ -3,12 +3,4 @@
 #![tactic(auto)]
 
 #[cfg(test)]
-mod encodings;
-#[cfg(test)]
-mod leaf_bounds;
-#[cfg(test)]
-mod models;
-#[cfg(test)]
-mod trees;
-#[cfg(test)]
-mod verdicts;
+mod tests;

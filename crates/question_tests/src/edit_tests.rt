@@ -3,7 +3,7 @@ ghost use Rattle.std.specs.Prelude.{IfOk};
 ghost use Rattle.decimals.specs.Decimals.{IsBelowLarge};
 ghost use Rattle.perturbation.specs.Edits.{written};
 
-use crate::models::{has_numbers, model, name};
+use crate::models::{becomes, is_refused, model, name};
 use decimals::read_number;
 use ip_defs::Memory;
 use ip_model::{IntModel, Place};
@@ -101,22 +101,6 @@ fn edited_twice(
     second: Line<'_>,
 ) -> Result<IntModel, EditError> {
     apply(alloc, model, &[edit(alloc, first)?, edit(alloc, second)?])
-}
-
-/// Whether the numbers of an edited model are these.
-fn becomes(alloc: Global, edited: Result<IntModel, EditError>, want: &[i64]) -> bool {
-    match edited {
-        Ok(model) => has_numbers(alloc, &model, want),
-        Err(_) => false,
-    }
-}
-
-/// Whether edits were refused so.
-fn is_refused(edited: Result<IntModel, EditError>, refusal: EditError) -> bool {
-    match edited {
-        Ok(_) => false,
-        Err(error) => error == refusal,
-    }
 }
 
 fn set(target: Target, text: &str) -> Line<'_> {

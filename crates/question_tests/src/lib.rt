@@ -7,3 +7,7 @@ mod edit_tests;
 mod line_tests;
 #[cfg(test)]
 mod models;
+#[cfg(test)]
+mod question_file_tests;
+#[cfg(test)]
+mod sweep_file_tests;

@@ -92,10 +92,27 @@ fn numbers(alloc: Global, model: &IntModel) -> Result<Vec<i64>, Memory> {
     Ok(list)
 }
 
-/// Whether a model has these numbers.
-pub fn has_numbers(alloc: Global, model: &IntModel, want: &[i64]) -> bool {
-    match numbers(alloc, model) {
-        Ok(list) => list.as_slice() == want,
+/// Whether an answer is a model of these numbers.
+pub fn becomes<E>(alloc: Global, answer: Result<IntModel, E>, want: &[i64]) -> bool
+where
+    E: Drop,
+{
+    match answer {
+        Ok(model) => match numbers(alloc, &model) {
+            Ok(list) => list.as_slice() == want,
+            Err(_) => false,
+        },
         Err(_) => false,
+    }
+}
+
+/// Whether an answer is this refusal.
+pub fn is_refused<E>(answer: Result<IntModel, E>, refusal: E) -> bool
+where
+    E: Drop + PartialEq,
+{
+    match answer {
+        Ok(_) => false,
+        Err(error) => error == refusal,
     }
 }

@@ -1,0 +1,11 @@
+ROWS
+ N gain
+COLUMNS
+ M 'MARKER' 'INTORG'
+ x gain 0
+ é gain -2.5
+ M 'MARKER' 'INTEND'
+BOUNDS
+ UP BND x 4
+ UP BND é 4
+ENDATA

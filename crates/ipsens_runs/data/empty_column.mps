@@ -1,0 +1,10 @@
+ROWS
+ N cost
+COLUMNS
+ M 'MARKER' 'INTORG'
+ x cost 1
+ M 'MARKER' 'INTEND'
+BOUNDS
+ LO BND x 5
+ UP BND x 3
+ENDATA

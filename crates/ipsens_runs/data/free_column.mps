@@ -1,0 +1,8 @@
+ROWS
+ N c
+COLUMNS
+ M 'MARKER' 'INTORG'
+ x c -1
+BOUNDS
+ FR x
+ENDATA

@@ -1,0 +1,14 @@
+ROWS
+ N cost
+ L r1
+COLUMNS
+ M 'MARKER' 'INTORG'
+ x cost -1 r1 1
+ y cost -1 r1 1
+ M 'MARKER' 'INTEND'
+RHS
+ RHS r1 -1
+BOUNDS
+ UP BND x 1
+ UP BND y 1
+ENDATA

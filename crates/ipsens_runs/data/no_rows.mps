@@ -1,0 +1,11 @@
+ROWS
+ N cost
+COLUMNS
+ M 'MARKER' 'INTORG'
+ x cost 2
+ y cost -1
+ M 'MARKER' 'INTEND'
+BOUNDS
+ UP BND x 4
+ UP BND y 4
+ENDATA

@@ -1,0 +1,10 @@
+ROWS
+ N cost
+ L r1
+COLUMNS
+ M 'MARKER' 'INTORG'
+ x cost -1 r1 2
+ M 'MARKER' 'INTEND'
+RHS
+ RHS r1 7
+ENDATA

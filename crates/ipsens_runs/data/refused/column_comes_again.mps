@@ -1,0 +1,6 @@
+ROWS
+ N c
+COLUMNS
+ x c 1
+ y c 1
+ x c 2

@@ -1,0 +1,5 @@
+ROWS
+ N c
+COLUMNS
+ x c 1
+ENDATA

@@ -1,0 +1,5 @@
+ROWS
+ N c
+COLUMNS
+BOUNDS
+ SC B x 1

@@ -1,0 +1,8 @@
+ROWS
+ N c
+COLUMNS
+ x c 1
+BOUNDS
+ BV B x
+ LO B x -16777217
+ENDATA

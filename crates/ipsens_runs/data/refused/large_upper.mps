@@ -1,0 +1,8 @@
+ROWS
+ N c
+COLUMNS
+ x c 1
+BOUNDS
+ BV B x
+ UP B x 16777217
+ENDATA

@@ -1,0 +1,4 @@
+ROWS
+ N c
+COLUMNS
+ M 'MARKER' 'INTORD'

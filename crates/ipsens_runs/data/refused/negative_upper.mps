@@ -1,0 +1,7 @@
+ROWS
+ N c
+COLUMNS
+ x c 1
+BOUNDS
+ UI B x -1
+ENDATA

@@ -1,0 +1,2 @@
+ROWS
+ N cost

@@ -1,0 +1,8 @@
+ROWS
+ N c
+COLUMNS
+ x c 1
+BOUNDS
+ UI B x 1
+ MI B x
+ENDATA

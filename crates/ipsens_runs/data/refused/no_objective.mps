@@ -1,0 +1,4 @@
+ROWS
+ L r
+COLUMNS
+ENDATA

@@ -1,0 +1,7 @@
+ROWS
+ N c
+COLUMNS
+ x c 1
+BOUNDS
+ LI B x 0
+ENDATA

@@ -1,0 +1,3 @@
+ROWS
+ N c
+ L c

@@ -1,0 +1,4 @@
+ROWS
+ N c
+COLUMNS
+ x c 0.1234567891

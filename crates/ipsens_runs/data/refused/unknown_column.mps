@@ -1,0 +1,5 @@
+ROWS
+ N c
+COLUMNS
+BOUNDS
+ UP B x 1

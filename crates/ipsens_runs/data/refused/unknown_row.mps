@@ -1,0 +1,4 @@
+ROWS
+ N c
+COLUMNS
+ x r 1

@@ -1,0 +1,9 @@
+ROWS
+ N cost
+COLUMNS
+ M 'MARKER' 'INTORG'
+ xy cost 1
+ M 'MARKER' 'INTEND'
+BOUNDS
+ UP BND xy 1
+ENDATA

@@ -1,0 +1,14 @@
+ROWS
+ N cost
+ E e
+COLUMNS
+ M 'MARKER' 'INTORG'
+ x e 2
+ y e -2
+ M 'MARKER' 'INTEND'
+RHS
+ RHS e 1
+BOUNDS
+ BV BND x
+ BV BND y
+ENDATA

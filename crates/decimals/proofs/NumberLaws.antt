@@ -185,7 +185,8 @@ pub place_written : (all before now encoded : List ℕ) (left remainder place wh
     → (remainder ≡ 0 → ⊥) → remainder < 10 ^ left → place ≡ left - 1 → whole ≡ remainder / 10 ^ place
     → below ≡ remainder % 10 ^ place → letter ≡ 48 + whole
     → (letter < 128 → encoded ≡ letter ∷ []) → now ≡ before ++ encoded → (all ≡ now ++ places (left - 1) below) × (below < 10 ^ (left - 1))
-place_written all before now encoded left remainder place whole below letter is some small at-place is-whole is-below is-letter ascii pushed =
+place_written
+    all before now encoded left remainder place whole below letter is some small at-place is-whole is-below is-letter ascii pushed =
     let k = left - 1 in
     let positive = left_positive left remainder some small in
     let step : places left remainder ≡ (48 + remainder / 10 ^ k) ∷ places k (remainder % 10 ^ k) =

@@ -1,5 +1,6 @@
 -- Names one after another in a buffer.
-use Rattle.std.proofs.Common.{◌≡◌, ℕ, ◌+◌, ◌≤◌, List, [], ◌∷◌, ◌++◌, take, drop, length, Some, None, Bool, true, false, suc, ◌<◌, ◌&&◌, nat_lt, nat_le, refl, ap, arith, length-drop, if◌then◌else◌}
+use Rattle.std.proofs.Common.{◌≡◌, ℕ, ◌+◌, ◌≤◌, List, [], ◌∷◌, ◌++◌, take, drop, length, Some, None, suc}
+use Rattle.std.proofs.Common.{Bool, true, false, ◌<◌, ◌&&◌, nat_lt, nat_le, refl, ap, arith, length-drop, if◌then◌else◌}
 use Rattle.std.proofs.lemmas.Bool.Decides.{nat_tests}
 use Rattle.std.proofs.lemmas.List.{take-append-le, drop-append-le, take_all}
 use Rattle.ips_io.specs.BegunNames.{noted, texts_of, total_of}

@@ -24,7 +24,8 @@ between : (v : Bound) (low high : ℤ) → IsAtLeast v low → IsAtMost v high �
 between (At v) low high a b = omega (arith, ints)
 between Infinite low high a b = absurd b
 
-pub claims_are_true : (m : Parts) (t : PlainTree) (c : Claim) → FitsColumns (length m.columns) t → AreProvedBy m c (tree_bound m t) → IsTrueClaim m c
+pub claims_are_true : (m : Parts) (t : PlainTree) (c : Claim) → FitsColumns (length m.columns) t
+    → AreProvedBy m c (tree_bound m t) → IsTrueClaim m c
 claims_are_true m t (Best x) fits p = record
     { feasible = p.0; least = λ y ok. between (tree_bound m t) (cost m x) (cost m y) p.1 (trees_bound m t y fits ok) }
 claims_are_true m t Empty fits p = λ x ok. subst (λ (v : Bound). IsAtMost v (cost m x)) p (trees_bound m t x fits ok)
@@ -44,7 +45,8 @@ least_back : (v : Bound) (w : ℤ) → IsAtLeast v w → is_at_least v w ≡ tru
 least_back Infinite w h = refl
 least_back (At v) w h = rw (less_false v w h) refl
 
-pub verdict_exact : (m : Parts) (c : Claim) (v : Bound) → HasLength (length m.columns) c → (IsProvedVerdict (judged m c v) → AreProvedBy m c v)
+pub verdict_exact : (m : Parts) (c : Claim) (v : Bound) → HasLength (length m.columns) c
+    → (IsProvedVerdict (judged m c v) → AreProvedBy m c v)
     × (AreProvedBy m c v → IsProvedVerdict (judged m c v))
 verdict_exact m Empty (At v) size = (λ h. absurd h, λ e. absurd cc)
 verdict_exact m Empty Infinite size = (λ h. refl, λ e. tt)

@@ -15,4 +15,5 @@ block_at-requires-clause-pivot c =
     let read : (value_of x).numerator ≡ c.num.result = ap (λ (y : Fraction). (value_of y).numerator) (sym c.entry.ensures)
     ∙ sym c.num.ensures.numerator in
     let back : to_z w128 (of_z w128 c.num.result) ≡ c.num.result = omega (arith, ints) in
-    numerator x (met c.args.up (value_of x) c.in-Some-side_met.side (sym (c.side_met.ensures (value_of x) (read ∙ sym back)) ∙ c.in-Some-side_met.is))
+    numerator x (met c.args.up (value_of x) c.in-Some-side_met.side
+    (sym (c.side_met.ensures (value_of x) (read ∙ sym back)) ∙ c.in-Some-side_met.is))

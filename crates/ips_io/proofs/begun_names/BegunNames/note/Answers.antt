@@ -1,9 +1,15 @@
 use Rattle.std.proofs.Common.{◌≡◌, ◌∙◌, ◌≤◌, ◌<◌, ◌∷◌, [], length, true, false, refl, sym, ap, arith, rules, length-append}
 use Rattle.ips_io.specs.BegunNames.{total_of}
 use Rattle.ips_io.proofs.NameLaws.{noted_kept, noted_beyond, noted_long, total_more}
-use Rattle.ips_io.proofs.begun_names.BegunNames.note.Goals.{then-not-self-via-then-not-self}
-use Rattle.ips_io.proofs.begun_names.BegunNames.note.Goals.{then-not-self-via-else-not-self+then-len-ge-MOST_NAMES}
-use Rattle.ips_io.proofs.begun_names.BegunNames.note.Goals.{then-not-self-via-else-not-self+else-len-ge-MOST_NAMES+then-length-gt-LONGEST_NAME}
+use Rattle.ips_io.proofs.begun_names.BegunNames.note.Goals.{
+  then-not-self-via-then-not-self,
+}
+use Rattle.ips_io.proofs.begun_names.BegunNames.note.Goals.{
+  then-not-self-via-else-not-self+then-len-ge-MOST_NAMES,
+}
+use Rattle.ips_io.proofs.begun_names.BegunNames.note.Goals.{
+  then-not-self-via-else-not-self+else-len-ge-MOST_NAMES+then-length-gt-LONGEST_NAME,
+}
 use Rattle.ips_io.proofs.begun_names.BegunNames.note.Goals as goal
 
 pub returns-then-not-self : goal.returns-then-not-self

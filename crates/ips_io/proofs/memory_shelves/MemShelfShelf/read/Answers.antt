@@ -9,7 +9,8 @@ returns-clause-bytes c old known =
     let b = c.self.inside.table.buffer in
     let part = c.in-Some.part in
     let n = c.min-n.result in
-    let here : Some (part_of b part) ≡ Some old = sym (ap (option_map (part_of b)) c.in-Some.is) ∙ ap (λ v. v.left) c.self.view_is ∙ known in
+    let here : Some (part_of b part) ≡ Some old =
+    sym (ap (option_map (part_of b)) c.in-Some.is) ∙ ap (λ v. v.left) c.self.view_is ∙ known in
     let same : part_of b part ≡ old = cc in
     let within = c.self.invariant.0 part c.in-Some.is in
     let piece = c.self.invariant.1 in

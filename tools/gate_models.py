@@ -1,7 +1,7 @@
 #!/usr/bin/env python3
-"""Writes the models of crates/ipsens_runs/data, and what that program must print, crates/ipsens_runs/stdout; and the same for the program
-itself, crates/ipsens, whose one run ends with status 4. The canonical text of the long model is made here from the same columns, and not by
-the program."""
+"""Writes the long model of crates/ipsens_runs/data, and looks into what that program must print, crates/ipsens_runs/stdout, for its
+canonical text, which is made here from the same columns, and not by the program. Writes the models of the program itself,
+crates/ipsens, whose one run ends with status 4, and what it must print."""
 import os
 
 CRATES = os.path.join(os.path.dirname(os.path.abspath(__file__)), "../crates")
@@ -19,20 +19,7 @@ ODD = (
     "ROWS\n N cost\n E e\nCOLUMNS\n" + START + " x e 2\n y e -2\n" + END
     + "RHS\n RHS e 1\nBOUNDS\n UP BND x 1000\n UP BND y 1000\nENDATA\n"
 )
-# two columns, each with a row of its own: the linear program of the whole box takes two pivots
-HALVES = (
-    "ROWS\n N cost\n L r1\n L r2\nCOLUMNS\n" + START + " x cost -1 r1 2\n y cost -1 r2 2\n" + END
-    + "RHS\n RHS r1 3 r2 3\nBOUNDS\n UP BND x 3\n UP BND y 3\nENDATA\n"
-)
-# a column with no upper bound, and with a cost that has too many units where 9 decimals are asked for
-WIDE = (
-    "ROWS\n N cost\n L r1\nCOLUMNS\n" + START + " x cost -2000 r1 2\n" + END + "RHS\n RHS r1 7\nENDATA\n"
-)
-
-USAGE = (
-    "usage: ipsens solve MODEL | check MODEL TREE | ask MODEL TREE QUESTIONS | sweep MODEL SWEEP | recheck MODEL SWEEP PROOF"
-    " | show MODEL | trial N\n"
-)
+BUDGET = "budget nodes\nnodes 49\nskipped 0\nbest none\n"
 
 
 def long_model():
@@ -48,28 +35,6 @@ def long_model():
     return model, shown
 
 
-LONG, SHOWN = long_model()
-MODELS = {"three": THREE, "odd": ODD, "halves": HALVES, "wide": WIDE, "long": LONG}
-
-# each command line with what it writes and its status
-RUNS = [
-    ("solve three.mps", "optimum -13\nvalue a 2\nvalue b 0\nvalue c 1\nnodes 1\nskipped 0\n", 0),
-    ("solve odd.mps --nodes 50", "budget nodes\nnodes 49\nskipped 0\nbest none\n", 4),
-    ("solve odd.mps --depth 0", "budget depth\nnodes 1\nskipped 0\nbest none\n", 4),
-    ("solve halves.mps", "optimum -2\nvalue x 1\nvalue y 1\nnodes 5\nskipped 0\n", 0),
-    ("solve halves.mps --pivots 1", "optimum -2\nvalue x 1\nvalue y 1\nnodes 7\nskipped 3\n", 0),
-    ("solve wide.mps", "refused model M15 column x upper\n", 3),
-    ("solve wide.mps --box 50", "optimum -6000\nvalue x 3\nnodes 3\nskipped 0\n", 0),
-    ("solve wide.mps --box 50 --digits 9", "refused model M17 cost 0\n", 3),
-    ("show long.mps", SHOWN, 0),
-    ("show missing.mps", "read fault\n", 6),
-    ("solve three.mps --nodes", USAGE, 2),
-]
-
-
-BUDGET = RUNS[1][1]
-
-
 def write(path, text):
     os.makedirs(os.path.dirname(f"{CRATES}/{path}"), exist_ok=True)
     with open(f"{CRATES}/{path}", "w") as file:
@@ -77,9 +42,10 @@ def write(path, text):
 
 
 def main():
-    for name, text in MODELS.items():
-        write(f"ipsens_runs/data/{name}.mps", text)
-    write("ipsens_runs/stdout", "".join(f"$ ipsens {words}\n{text}status {status}\n" for words, text, status in RUNS))
+    model, shown = long_model()
+    write("ipsens_runs/data/long.mps", model)
+    with open(f"{CRATES}/ipsens_runs/stdout", encoding="utf-8") as file:
+        assert f"$ ipsens show long.mps\n{shown}status 0\n" in file.read(), "stdout has another canonical text of the long model"
     write("ipsens/data/model.mps", THREE)
     write("ipsens/data/odd.mps", ODD)
     write("ipsens/args", "solve\nodd.mps\n--nodes\n50\n")

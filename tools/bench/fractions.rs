@@ -31,7 +31,7 @@ fn over(a: i128, b: i128) -> i128 {
 
 const WORD: u128 = u64::MAX as u128;
 
-fn gcd(a: u128, b: u128) -> u128 {
+pub fn gcd(a: u128, b: u128) -> u128 {
     if a == 0 {
         return b;
     }

@@ -1,367 +1,186 @@
-// Branch and bound over exact linear programs as `ipsens solve` has it, in plain Rust and without a proof: it reads a canonical model text
-// and prints the least cost, the nodes, the skipped splits, the linear programs and their steps. `solving RULE` splits at the column with a
-// fraction that is nearest to the middle (`middle`, as `ipsens` does), the first (`first`), the last (`last`), or the one nearest to a
-// whole number (`whole`).
+// The search of `ipsens solve` in plain Rust, without a proof: best bound first, over a living dual tableau whose proposals an exact check
+// decides. It reads a canonical model text and prints the least cost, the nodes, and what the proposals were worth. Words of the command
+// line try what the program leaves out: `probing` looks at new columns by some dual steps on a copy of the tableau, `narrow` has a
+// tableau of 64 bits propose first, and `exact` proposes nothing, so that the defined simplex decides at each node.
 mod fractions;
+#[path = "solving/certificates.rs"]
+mod certificates;
+#[path = "solving/choosers.rs"]
+mod choosers;
+#[path = "solving/dual.rs"]
+mod dual;
+#[path = "solving/models.rs"]
+mod models;
+#[path = "solving/simplex.rs"]
+mod simplex;
 
-use fractions::{Frac, Wide, div, frac, mul, sub};
-use std::collections::HashMap;
+use certificates::{Cert, Proposal, cert_of_prices, cert_of_ray, is_right, leaf_bound};
+use choosers::Chooser;
+use dual::Proposed;
+use fractions::{Frac, frac};
+use models::{Area, Model};
+use simplex::{Answer, solve_lp};
+use std::cmp::Reverse;
+use std::collections::BinaryHeap;
 use std::io::Read;
 
-#[derive(Clone, Copy, PartialEq)]
-enum Rest {
-    Basic,
-    Low,
-    High,
-    Zero,
-}
+const PIVOTS: u32 = 5000;
 
 #[derive(Clone, Copy)]
-struct Variable {
-    low: Option<i128>,
-    high: Option<i128>,
-    cost: i128,
+enum Cut {
+    Below(usize, i128),
+    Above(usize, i128),
 }
 
+struct Node {
+    edge: Option<(usize, Cut)>,
+    depth: u32,
+    bound: i128,
+    solved: Option<Branch>,
+}
+
+struct Branch {
+    col: usize,
+    at: i128,
+    point: Option<(Vec<Frac>, Cert)>,
+    bound: i128,
+}
+
+enum Visit {
+    Closed,
+    Whole(i128),
+    Split(Branch),
+}
+
+/// What the proposals were worth.
 #[derive(Default)]
-struct Row {
-    decimals: usize,
-    kind: String,
-    written: Vec<(usize, String)>,
-    side: Option<String>,
-    range: Option<String>,
-    coefs: Vec<(usize, i128)>,
-    low: Option<i128>,
-    high: Option<i128>,
-}
-
-struct Model {
-    constant: i128,
-    cost_decimals: usize,
-    costs: Vec<i128>,
-    area: Vec<(i128, i128)>,
-    rows: Vec<Row>,
-}
-
-fn decimals(text: &str) -> usize {
-    text.split_once('.').map_or(0, |(_, rest)| rest.len())
-}
-
-fn units(text: &str, places: usize) -> i128 {
-    let (front, rest) = text.split_once('.').unwrap_or((text, ""));
-    let digits = format!("{front}{rest}{}", "0".repeat(places - rest.len()));
-    digits.parse().unwrap()
-}
-
-fn read(text: &str) -> Model {
-    let mut section = "";
-    let mut objective = String::new();
-    let (mut names, mut columns) = (HashMap::new(), HashMap::new());
-    let (mut rows, mut costs, mut area): (Vec<Row>, Vec<String>, Vec<(i128, i128)>) = Default::default();
-    let mut constant = "0".to_string();
-    for line in text.lines() {
-        let fields: Vec<&str> = line.split_whitespace().collect();
-        if !line.starts_with(' ') {
-            section = line;
-            continue;
-        }
-        match section {
-            "ROWS" if fields[0] == "N" => objective = fields[1].to_string(),
-            "ROWS" => {
-                names.insert(fields[1].to_string(), rows.len());
-                rows.push(Row { kind: fields[0].to_string(), ..Row::default() });
-            }
-            "COLUMNS" if fields[1] == "'MARKER'" => {}
-            "COLUMNS" => {
-                let next = columns.len();
-                let column = *columns.entry(fields[0].to_string()).or_insert(next);
-                if column == costs.len() {
-                    costs.push("0".to_string());
-                    area.push((0, 0));
-                }
-                if fields[1] == objective {
-                    costs[column] = fields[2].to_string();
-                } else {
-                    rows[names[fields[1]]].written.push((column, fields[2].to_string()));
-                }
-            }
-            "RHS" if fields[1] == objective => constant = fields[2].to_string(),
-            "RHS" => rows[names[fields[1]]].side = Some(fields[2].to_string()),
-            "RANGES" => rows[names[fields[1]]].range = Some(fields[2].to_string()),
-            "BOUNDS" => {
-                let side = fields[3].parse().unwrap();
-                let of = &mut area[columns[fields[2]]];
-                if fields[0] == "LO" { of.0 = side } else { of.1 = side }
-            }
-            _ => {}
-        }
-    }
-    let cost_decimals = costs.iter().chain([&constant]).map(|text| decimals(text)).max().unwrap();
-    for row in &mut rows {
-        let others = row.side.iter().chain(&row.range).map(|text| decimals(text));
-        row.decimals = row.written.iter().map(|pair| decimals(&pair.1)).chain(others).max().unwrap_or(0);
-        row.coefs = row.written.iter().map(|(j, text)| (*j, units(text, row.decimals))).collect();
-        let side = row.side.as_ref().map_or(0, |text| units(text, row.decimals));
-        let range = row.range.as_ref().map(|text| units(text, row.decimals));
-        (row.low, row.high) = match row.kind.as_str() {
-            "L" => (range.map(|range| side - range), Some(side)),
-            "G" => (Some(side), range.map(|range| side + range)),
-            _ => (Some(side), Some(side)),
-        };
-    }
-    Model {
-        constant: -units(&constant, cost_decimals),
-        cost_decimals,
-        costs: costs.iter().map(|text| units(text, cost_decimals)).collect(),
-        area,
-        rows,
-    }
-}
-
-fn whole(number: i128) -> Frac {
-    Frac { num: number, den: 1 }
-}
-
-fn is_below(a: Frac, c: Frac) -> bool {
-    match (a.num.checked_mul(c.den), c.num.checked_mul(a.den)) {
-        (Some(left), Some(right)) => left < right,
-        _ => {
-            let (x, y) = (a.num.div_euclid(a.den), c.num.div_euclid(c.den));
-            let (rest, other) = (a.num.rem_euclid(a.den), c.num.rem_euclid(c.den));
-            x < y || x == y && rest != other && (rest == 0 || other != 0 && is_below(frac(c.den, other), frac(a.den, rest)))
-        }
-    }
-}
-
-struct Tableau {
-    rows: Vec<Vec<Frac>>,
-    basics: Vec<usize>,
-    rests: Vec<Rest>,
-    variables: Vec<Variable>,
-}
-
-#[allow(dead_code)]
-enum Next {
-    Pivot(usize, usize, Rest),
-    Flip(usize),
-    Row(usize, bool),
-    Point,
-}
-
-#[allow(dead_code)]
-enum Answer {
-    Best(Vec<Frac>, Vec<Frac>),
-    Empty,
-    Skipped,
-}
-
-impl Tableau {
-    fn start(model: &Model, area: &[(i128, i128)]) -> Tableau {
-        let (columns, count) = (area.len(), model.rows.len());
-        let mut rows = vec![vec![whole(0); columns + count]; count];
-        for (k, row) in model.rows.iter().enumerate() {
-            for (j, coefficient) in &row.coefs {
-                rows[k][*j] = whole(-coefficient);
-            }
-            rows[k][columns + k] = whole(1);
-        }
-        let sides = area.iter().zip(&model.costs).map(|(s, c)| Variable { low: Some(s.0), high: Some(s.1), cost: *c });
-        let slacks = model.rows.iter().map(|row| Variable { low: row.low, high: row.high, cost: 0 });
-        Tableau {
-            rows,
-            basics: (columns..columns + count).collect(),
-            rests: (0..columns + count).map(|v| if v < columns { Rest::Low } else { Rest::Basic }).collect(),
-            variables: sides.chain(slacks).collect(),
-        }
-    }
-
-    fn resting(&self, v: usize) -> i128 {
-        match self.rests[v] {
-            Rest::Low => self.variables[v].low.unwrap_or(0),
-            Rest::High => self.variables[v].high.unwrap_or(0),
-            Rest::Basic | Rest::Zero => 0,
-        }
-    }
-
-    fn value(&self, i: usize) -> Result<Frac, Wide> {
-        let mut value = whole(0);
-        for v in 0..self.rests.len() {
-            if self.rests[v] != Rest::Basic {
-                value = sub(value, mul(self.rows[i][v], whole(self.resting(v)))?)?;
-            }
-        }
-        Ok(value)
-    }
-
-    fn price(&self, v: usize) -> Result<Frac, Wide> {
-        let mut price = whole(self.variables[v].cost);
-        for i in 0..self.rows.len() {
-            price = sub(price, mul(self.rows[i][v], whole(self.variables[self.basics[i]].cost))?)?;
-        }
-        Ok(price)
-    }
-
-    fn can_go(&self, v: usize, up: bool) -> bool {
-        let side = if up { Rest::Low } else { Rest::High };
-        let rests = self.rests[v] == side || self.rests[v] == Rest::Zero;
-        let fixed = self.variables[v].low.is_some() && self.variables[v].low == self.variables[v].high;
-        rests && !fixed
-    }
-
-    fn way(&self, sign: i128, v: usize) -> Option<bool> {
-        if sign < 0 && self.can_go(v, true) {
-            Some(true)
-        } else if sign > 0 && self.can_go(v, false) {
-            Some(false)
-        } else {
-            None
-        }
-    }
-
-    fn next(&self, values: &mut [Frac]) -> Result<Next, Wide> {
-        let mut places = vec![None; self.rests.len()];
-        for (i, v) in self.basics.iter().enumerate() {
-            places[*v] = Some(i);
-        }
-        for v in 0..self.rests.len() {
-            let Some(i) = places[v] else {
-                values[v] = whole(self.resting(v));
-                continue;
-            };
-            values[v] = self.value(i)?;
-            let sides = self.variables[v];
-            let up = if sides.low.is_some_and(|low| is_below(values[v], whole(low))) {
-                true
-            } else if sides.high.is_some_and(|high| is_below(whole(high), values[v])) {
-                false
-            } else {
-                continue;
-            };
-            let turn = if up { 1 } else { -1 };
-            let mender = (0..self.rests.len()).find(|w| self.way(turn * self.rows[i][*w].num.signum(), *w).is_some());
-            let leaving = if up { Rest::Low } else { Rest::High };
-            return Ok(mender.map_or(Next::Row(i, up), |w| Next::Pivot(i, w, leaving)));
-        }
-        for v in 0..self.rests.len() {
-            if self.can_go(v, true) || self.can_go(v, false) {
-                if let Some(up) = self.way(self.price(v)?.num, v) {
-                    return self.go(&places, values, v, up);
-                }
-            }
-        }
-        Ok(Next::Point)
-    }
-
-    fn go(&self, places: &[Option<usize>], values: &[Frac], v: usize, up: bool) -> Result<Next, Wide> {
-        let mut best: Option<(Frac, Next)> = None;
-        for w in 0..self.rests.len() {
-            let stop = if w == v {
-                match (self.variables[v].low, self.variables[v].high) {
-                    (Some(low), Some(high)) => Some((whole(high - low), Next::Flip(v))),
-                    _ => None,
-                }
-            } else if let Some(i) = places[w].filter(|i| self.rows[*i][v].num != 0) {
-                let rises = (self.rows[i][v].num < 0) == up;
-                let side = if rises { self.variables[w].high } else { self.variables[w].low };
-                let leaving = if rises { Rest::High } else { Rest::Low };
-                match side {
-                    Some(side) => {
-                        let far = div(sub(values[w], whole(side))?, self.rows[i][v])?;
-                        Some((Frac { num: far.num.abs(), den: far.den }, Next::Pivot(i, v, leaving)))
-                    }
-                    None => None,
-                }
-            } else {
-                None
-            };
-            if let Some(stop) = stop {
-                if best.as_ref().is_none_or(|found| is_below(stop.0, found.0)) {
-                    best = Some(stop);
-                }
-            }
-        }
-        Ok(best.map_or(Next::Point, |found| found.1))
-    }
-
-    fn pivot(&mut self, r: usize, v: usize, leaving: Rest) -> Result<(), Wide> {
-        let pivot = self.rows[r][v];
-        let mut quotients = self.rows[r].clone();
-        for number in &mut quotients {
-            if number.num != 0 {
-                *number = div(*number, pivot)?;
-            }
-        }
-        for i in 0..self.rows.len() {
-            let factor = self.rows[i][v];
-            if i != r && factor.num != 0 {
-                for w in 0..quotients.len() {
-                    if quotients[w].num != 0 {
-                        self.rows[i][w] = sub(self.rows[i][w], mul(factor, quotients[w])?)?;
-                    }
-                }
-            }
-        }
-        self.rows[r] = quotients;
-        self.rests[self.basics[r]] = leaving;
-        self.rests[v] = Rest::Basic;
-        self.basics[r] = v;
-        Ok(())
-    }
+struct Counts {
+    skipped: u64,
+    waited: u64,
+    proposals: u64,
+    gave_up: u64,
+    rejected: u64,
+    exact: u64,
+    dual_steps: u64,
+    exact_steps: u64,
 }
 
 struct Search<'a> {
     model: &'a Model,
-    rule: String,
+    probes: usize,
+    proposes: bool,
+    narrow: Option<dual::narrow::Tableau>,
+    wide: dual::wide::Tableau,
+    chooser: Chooser,
+    taken: Vec<i128>,
     found: Option<i128>,
-    nodes: u64,
-    skipped: u64,
-    programs: u64,
-    steps: u64,
-}
-
-fn ceil(x: Frac) -> i128 {
-    -(-x.num).div_euclid(x.den)
+    nodes: Vec<Node>,
+    order: BinaryHeap<(Reverse<i128>, u32, usize)>,
+    counts: Counts,
 }
 
 impl Search<'_> {
-    fn relaxed(&mut self, area: &[(i128, i128)]) -> Result<Answer, Wide> {
-        let mut tableau = Tableau::start(self.model, area);
-        let mut values = vec![whole(0); tableau.rests.len()];
-        for taken in 0.. {
-            match tableau.next(&mut values)? {
-                Next::Point => {
-                    let prices = (area.len()..tableau.rests.len()).map(|v| tableau.price(v)).collect::<Result<_, _>>()?;
-                    values.truncate(area.len());
-                    return Ok(Answer::Best(values, prices));
-                }
-                Next::Row(_, _) => return Ok(Answer::Empty),
-                _ if taken == 5000 => return Ok(Answer::Skipped),
-                Next::Pivot(r, v, leaving) => tableau.pivot(r, v, leaving)?,
-                Next::Flip(v) => {
-                    tableau.rests[v] = if tableau.rests[v] == Rest::Low { Rest::High } else { Rest::Low };
+    fn closes(&self, bound: Option<i128>) -> bool {
+        bound.is_none_or(|bound| self.found.is_some_and(|found| found <= bound))
+    }
+
+    fn bound(&mut self, area: &[(i128, i128)], cert: &Cert) -> Option<i128> {
+        leaf_bound(self.model, cert, area, &mut self.taken)
+    }
+
+    fn propose(&mut self, area: &[(i128, i128)]) -> Proposed {
+        self.counts.proposals += 1;
+        let steps = &mut self.counts.dual_steps;
+        if let Some(narrow) = &mut self.narrow {
+            let (proposed, is_wide) = narrow.propose(self.model, area, PIVOTS, self.found, steps);
+            if !is_wide {
+                return proposed;
+            }
+        }
+        self.wide.propose(self.model, area, PIVOTS, self.found, steps).0
+    }
+
+    fn accepted(&mut self, area: &[(i128, i128)], proposed: Proposed) -> Option<Visit> {
+        match proposed {
+            Proposed::Best(proposal) => {
+                if is_right(self.model, area, &proposal, &mut self.taken) {
+                    let Proposal { numerators, denominator, cert } = proposal;
+                    let point = numerators.iter().map(|number| frac(*number, denominator)).collect();
+                    return Some(self.bounded(area, point, cert));
                 }
             }
-            self.steps += 1;
+            Proposed::Cut(cert) | Proposed::Empty(cert) => {
+                let bound = self.bound(area, &cert);
+                if cert.is_within_limits() && self.closes(bound) {
+                    return Some(Visit::Closed);
+                }
+            }
+            Proposed::GaveUp => {
+                self.counts.gave_up += 1;
+                return None;
+            }
         }
-        Ok(Answer::Skipped)
+        self.counts.rejected += 1;
+        None
     }
 
-    fn cost(&self, point: &[Frac]) -> Result<Frac, Wide> {
-        let mut cost = whole(self.model.constant);
-        for (x, c) in point.iter().zip(&self.model.costs) {
-            cost = sub(cost, mul(*x, whole(-c))?)?;
+    fn bounded(&mut self, area: &[(i128, i128)], point: Vec<Frac>, cert: Cert) -> Visit {
+        let bound = self.bound(area, &cert);
+        if self.closes(bound) {
+            return Visit::Closed;
         }
-        Ok(cost)
+        let (model, wide, steps) = (self.model, &self.wide, &mut self.counts.dual_steps);
+        let mut half = area.to_vec();
+        let probe = |j: usize, is_upper: bool| {
+            let floor = point[j].num.div_euclid(point[j].den);
+            half[j] = if is_upper { (floor + 1, area[j].1) } else { (area[j].0, floor) };
+            let risen = wide.probe(model, &half, 20, steps);
+            half[j] = area[j];
+            risen
+        };
+        match self.chooser.choose(model, &point, self.probes, probe) {
+            Some(col) => {
+                let at = point[col].num.div_euclid(point[col].den);
+                self.split_or_close(area, col, at, Some((point, cert)))
+            }
+            None => Visit::Whole(self.model.constant + point.iter().zip(&self.model.costs).map(|(x, cost)| x.num * cost).sum::<i128>()),
+        }
     }
 
-    fn grow(&mut self, area: &mut Vec<(i128, i128)>) {
-        self.nodes += 1;
-        if area.iter().any(|side| side.1 < side.0) {
-            return;
+    fn split_or_close(&mut self, area: &[(i128, i128)], col: usize, at: i128, point: Option<(Vec<Frac>, Cert)>) -> Visit {
+        let Some(sum) = self.bound(area, &Cert::plain()).filter(|sum| !self.closes(Some(*sum))) else {
+            return Visit::Closed;
+        };
+        let Some((point, cert)) = point else {
+            return Visit::Split(Branch { col, at, point: None, bound: sum });
+        };
+        match self.bound(area, &cert).map(|own| own.max(sum)) {
+            Some(bound) if !self.closes(Some(bound)) => Visit::Split(Branch { col, at, point: Some((point, cert)), bound }),
+            _ => Visit::Closed,
         }
-        let least: i128 = area.iter().zip(&self.model.costs).map(|(s, c)| (c * s.0).min(c * s.1)).sum();
-        if self.found.is_some_and(|found| found <= self.model.constant + least) {
-            return;
+    }
+
+    fn relax_exactly(&mut self, area: &[(i128, i128)], widest: usize) -> Visit {
+        self.counts.exact += 1;
+        let certified = match solve_lp(self.model, area, PIVOTS, &mut self.counts.exact_steps) {
+            Answer::Best(point, prices) => cert_of_prices(&prices).map(|cert| (Some(point), cert)),
+            Answer::Empty(ray) => cert_of_ray(&ray).map(|cert| (None, cert)),
+            Answer::Stopped | Answer::Wide => None,
+        };
+        match certified {
+            Some((Some(point), cert)) => self.bounded(area, point, cert),
+            Some((None, _)) => Visit::Closed,
+            None => {
+                let at = (area[widest].0 + area[widest].1).div_euclid(2);
+                self.split_or_close(area, widest, at, None)
+            }
+        }
+    }
+
+    fn visit(&mut self, area: &[(i128, i128)]) -> Visit {
+        let bound = self.bound(area, &Cert::plain());
+        if self.closes(bound) {
+            return Visit::Closed;
         }
         let (mut widest, mut most) = (0, 0);
         for (j, side) in area.iter().enumerate() {
@@ -370,72 +189,105 @@ impl Search<'_> {
             }
         }
         if most == 0 {
-            let feasible = self.model.rows.iter().all(|row| {
+            let is_within = |row: &models::Row| {
                 let sum: i128 = row.coefs.iter().map(|(j, coefficient)| coefficient * area[*j].0).sum();
                 row.low.is_none_or(|low| low <= sum) && row.high.is_none_or(|high| sum <= high)
-            });
-            if feasible {
-                self.found = Some(self.model.constant + least);
+            };
+            return if self.model.rows.iter().all(is_within) { Visit::Whole(bound.unwrap_or(0)) } else { Visit::Closed };
+        }
+        if self.proposes {
+            let proposed = self.propose(area);
+            if let Some(visit) = self.accepted(area, proposed) {
+                return visit;
             }
+        }
+        self.relax_exactly(area, widest)
+    }
+
+    fn cut_to_node(&self, key: usize, area: &mut Area) {
+        if let Some((parent, cut)) = self.nodes[key].edge {
+            self.cut_to_node(parent, area);
+            match cut {
+                Cut::Below(j, at) => area[j].1 = area[j].1.min(at),
+                Cut::Above(j, at) => area[j].0 = area[j].0.max(at + 1),
+            }
+        }
+    }
+
+    fn add(&mut self, edge: Option<(usize, Cut)>, depth: u32, bound: i128) {
+        self.order.push((Reverse(bound), depth, self.nodes.len()));
+        self.nodes.push(Node { edge, depth, bound, solved: None });
+    }
+
+    fn settle(&mut self, key: usize, was_solved: bool, branch: Branch) {
+        let (bound, depth) = (branch.bound.max(self.nodes[key].bound), self.nodes[key].depth);
+        let is_later = self.order.peek().is_some_and(|rank| rank.0.0 < bound);
+        if !was_solved && branch.point.is_some() && is_later {
+            self.counts.waited += 1;
+            self.order.push((Reverse(bound), depth, key));
+            (self.nodes[key].bound, self.nodes[key].solved) = (bound, Some(branch));
             return;
         }
-        self.programs += 1;
-        let (col, at) = match self.relaxed(area) {
-            Ok(Answer::Best(point, _)) => {
-                let cost = ceil(self.cost(&point).unwrap_or(whole(i128::MIN / 4)));
-                if self.found.is_some_and(|found| found <= cost) {
-                    return;
-                }
-                let mut nearest: Option<(u64, usize)> = None;
-                for (j, x) in point.iter().enumerate().filter(|(_, x)| x.den != 1) {
-                    let shift = 96_u32.saturating_sub(x.den.unsigned_abs().leading_zeros());
-                    let part = (x.num.rem_euclid(x.den).unsigned_abs() >> shift) as u64;
-                    let whole = ((x.den.unsigned_abs() >> shift) as u64).max(1);
-                    let middle = (part.wrapping_mul(1 << 32) / whole).abs_diff(1 << 31);
-                    let distance = match self.rule.as_str() {
-                        "first" => j as u64,
-                        "last" => u64::MAX - j as u64,
-                        "whole" => u64::MAX - middle,
-                        _ => middle,
-                    };
-                    if nearest.is_none_or(|found| distance < found.0) {
-                        nearest = Some((distance, j));
-                    }
-                }
-                match nearest {
-                    None => {
-                        self.found = Some(cost);
-                        return;
-                    }
-                    Some((_, j)) => (j, point[j].num.div_euclid(point[j].den)),
-                }
+        match &branch.point {
+            Some((point, _)) => self.chooser.split(self.model, point, branch.col),
+            None => {
+                self.counts.skipped += 1;
+                self.chooser.halve();
             }
-            Ok(Answer::Empty) => return,
-            Ok(Answer::Skipped) | Err(Wide) => {
-                self.skipped += 1;
-                (widest, (area[widest].0 + area[widest].1).div_euclid(2))
+        }
+        self.add(Some((key, Cut::Below(branch.col, branch.at))), depth + 1, bound);
+        self.add(Some((key, Cut::Above(branch.col, branch.at))), depth + 1, bound);
+    }
+
+    fn grow(&mut self) {
+        let mut area = self.model.area.clone();
+        let root = self.bound(&area, &Cert::plain()).unwrap_or(0);
+        self.add(None, 0, root);
+        while let Some((_, _, key)) = self.order.pop() {
+            area.copy_from_slice(&self.model.area);
+            self.cut_to_node(key, &mut area);
+            self.chooser.enter(key);
+            let solved = self.nodes[key].solved.take();
+            let was_solved = solved.is_some();
+            let visit = match solved {
+                None => self.visit(&area),
+                Some(branch) => self.split_or_close(&area, branch.col, branch.at, branch.point),
+            };
+            match visit {
+                Visit::Closed => {}
+                Visit::Whole(cost) => self.found = Some(cost),
+                Visit::Split(branch) => self.settle(key, was_solved, branch),
             }
-        };
-        let side = area[col];
-        area[col] = (side.0, side.1.min(at));
-        self.grow(area);
-        area[col] = (side.0.max(at + 1), side.1);
-        self.grow(area);
-        area[col] = side;
+        }
     }
 }
 
 fn main() {
     let mut text = String::new();
     std::io::stdin().read_to_string(&mut text).unwrap();
-    let model = read(&text);
-    let rule = std::env::args().nth(1).unwrap_or_default();
-    let mut search = Search { model: &model, rule, found: None, nodes: 0, skipped: 0, programs: 0, steps: 0 };
-    let mut area = model.area.clone();
-    search.grow(&mut area);
+    let model = models::read(&text);
+    let words: Vec<String> = std::env::args().skip(1).collect();
+    let has = |word: &str| words.iter().any(|one| one == word);
+    let columns = model.costs.len();
+    let mut search = Search {
+        model: &model,
+        probes: if has("probing") { 8 } else { 0 },
+        proposes: !has("exact"),
+        narrow: has("narrow").then(|| dual::narrow::Tableau::start(&model)),
+        wide: dual::wide::Tableau::start(&model),
+        chooser: Chooser::new(columns),
+        taken: vec![0; columns],
+        found: None,
+        nodes: Vec::new(),
+        order: BinaryHeap::new(),
+        counts: Counts::default(),
+    };
+    search.grow();
     match search.found {
         Some(cost) => println!("least {cost} / 10^{}", model.cost_decimals),
         None => println!("empty"),
     }
-    println!("nodes {}\nskipped {}\nprograms {}\nsteps {}", search.nodes, search.skipped, search.programs, search.steps);
+    let Counts { skipped, waited, proposals, gave_up, rejected, exact, dual_steps, exact_steps } = search.counts;
+    println!("nodes {}\nskipped {skipped}\nwaited {waited}\nproposals {proposals}\ndual_steps {dual_steps}", search.nodes.len());
+    println!("gave_up {gave_up}\nrejected {rejected}\nexact {exact}\nexact_steps {exact_steps}");
 }

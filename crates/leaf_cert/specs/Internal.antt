@@ -1,3 +1,4 @@
 -- Definitions for the contracts of private functions and for proofs of this crate alone.
+pub mod Changes
 pub mod Columns
 pub mod Multipliers

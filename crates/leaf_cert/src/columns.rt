@@ -120,3 +120,19 @@ pub fn column_sum(parts: &Parts, q: i64, taken: &[i128], area: &[(i64, i64)]) ->
     }
     total
 }
+
+/// A sum over the columns, in which the reduced cost of one column rises by `more`.
+pub fn moved_sum(total: i128, reduced: i128, more: i128, side: (i64, i64)) -> i128
+    requires total { unsigned_abs total ≤ 2 ^ 123 }
+    requires reduced { unsigned_abs reduced ≤ 2 ^ 87 }
+    requires risen { unsigned_abs (reduced +ℤ more) ≤ 2 ^ 87 }
+    requires low { unsigned_abs side.0 ≤ 2 ^ 24 }
+    requires high { unsigned_abs side.1 ≤ 2 ^ 24 }
+    ensures value { result ≡ total -ℤ int_min (reduced *ℤ side.0) (reduced *ℤ side.1)
+        +ℤ int_min ((reduced +ℤ more) *ℤ side.0) ((reduced +ℤ more) *ℤ side.1) }
+    ensures small { unsigned_abs result ≤ 2 ^ 124 }
+{
+    let before = lesser_end(reduced, side.0, side.1);
+    let after = lesser_end(total_of(reduced, more), side.0, side.1);
+    total_of(difference(total, before), after)
+}

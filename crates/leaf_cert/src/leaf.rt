@@ -4,14 +4,16 @@ ghost use Rattle.std.specs.Int.RustNames.{unsigned_abs};
 ghost use Rattle.ip_defs.specs.Program.{IsFeasible, IsIn, cost};
 ghost use Rattle.ip_defs.specs.Certificates.{IsAtMost, dual_value, box_sum, leaf_bound as leaf_bound_of};
 ghost use Rattle.ip_defs.specs.Limits.{IsWithinLimits, IsCert, IsArea};
+ghost use Rattle.ip_model.specs.Places.{Exists, raised};
+ghost use Rattle.leaf_cert.specs.Changes.{IsChange, IsWithinLimit, changed_by};
 ghost use Rattle.leaf_cert.specs.Scratches.{FitsScratch, column_count_of};
 
 use crate::arithmetic::ceil_div;
-use crate::columns::{clear, column_sum, take_rows};
-use crate::payments::paid;
+use crate::changes::{Change, changed_pay, changed_sum};
+use crate::columns::{clear, take_rows};
 use crate::workspaces::Scratch;
 use ip_defs::{Area, Bound, Cert, Parts};
-use ip_model::{IntModel, has_empty_column, product, total_of};
+use ip_model::{IntModel, Place, has_empty_column, product, total_of};
 
 /// The constant times q.
 fn weighed(q: i64, constant: i64) -> i128
@@ -23,58 +25,69 @@ fn weighed(q: i64, constant: i64) -> i128
     product(i128::from(q), i128::from(constant))
 }
 
-/// The dual value of the certificate over the box: payments, constant and columns, in absolute value at most 2^108, 2^98 and 2^123.
+/// The dual value of the certificate over the box after a change: payments, constant and columns, in absolute value at most 2^109, 2^98
+/// and 2^124.
 fn dual_value_of(
     parts: &Parts,
+    change: Change,
     cert: &Cert,
     area: &[(i64, i64)],
     taken: &mut [i128],
 ) -> Option<i128>
     requires limits { IsWithinLimits parts.now }
+    requires change { IsChange parts.now change }
     requires cert { IsCert (length parts.now.rows) cert.now }
     requires area { IsArea (length parts.now.columns) area.now }
     requires scratch { length taken.old ≡ length parts.now.columns }
-    ensures value { result ≡ dual_value parts.now area.now cert.now.q cert.now.y }
+    ensures value { result ≡ dual_value (changed_by parts.now change) area.now cert.now.q cert.now.y }
     ensures small { IfSome result (λ g. unsigned_abs g ≤ 2 ^ 125) }
 {
     let y = cert.y.as_slice();
-    match paid(parts, y) {
+    match changed_pay(parts, change, y) {
         Some(paid) => {
             take_rows(parts, y, taken);
             let whole = weighed(cert.q, parts.constant);
-            let columns = column_sum(parts, cert.q, taken, area);
+            let columns = changed_sum(parts, change, cert.q, y, taken, area);
             Some(total_of(total_of(paid, whole), columns))
         }
         None => None,
     }
 }
 
-/// The sum of the box: the bound without multipliers.
-fn box_sum_of(parts: &Parts, area: &[(i64, i64)], taken: &mut [i128]) -> i128
+/// The sum of the box after a change: the bound without multipliers.
+fn box_sum_of(parts: &Parts, change: Change, area: &[(i64, i64)], taken: &mut [i128]) -> i128
     requires limits { IsWithinLimits parts.now }
+    requires change { IsChange parts.now change }
     requires area { IsArea (length parts.now.columns) area.now }
     requires scratch { length taken.old ≡ length parts.now.columns }
-    ensures { result ≡ box_sum parts.now area.now }
+    ensures { result ≡ box_sum (changed_by parts.now change) area.now }
 {
     clear(taken);
     total_of(
         i128::from(parts.constant),
-        column_sum(parts, 1, taken, area),
+        changed_sum(parts, change, 1, &[], taken, area),
     )
 }
 
-/// The bound of a leaf, by its cases.
-fn bound_of(parts: &Parts, cert: &Cert, area: &[(i64, i64)], taken: &mut [i128]) -> Bound
+/// The bound of a leaf after a change, by its cases.
+fn bound_of(
+    parts: &Parts,
+    change: Change,
+    cert: &Cert,
+    area: &[(i64, i64)],
+    taken: &mut [i128],
+) -> Bound
     requires limits { IsWithinLimits parts.now }
+    requires change { IsChange parts.now change }
     requires cert { IsCert (length parts.now.rows) cert.now }
     requires area { IsArea (length parts.now.columns) area.now }
     requires scratch { length taken.old ≡ length parts.now.columns }
-    ensures { result ≡ leaf_bound_of parts.now area.now cert.now }
+    ensures { result ≡ leaf_bound_of (changed_by parts.now change) area.now cert.now }
 {
     if has_empty_column(area) {
         return Bound::Infinite;
     }
-    match dual_value_of(parts, cert, area, taken) {
+    match dual_value_of(parts, change, cert, area, taken) {
         Some(value) => {
             if cert.q > 0 {
                 return Bound::At(ceil_div(value, i128::from(cert.q)));
@@ -82,9 +95,9 @@ fn bound_of(parts: &Parts, cert: &Cert, area: &[(i64, i64)], taken: &mut [i128])
             if value > 0 {
                 return Bound::Infinite;
             }
-            Bound::At(box_sum_of(parts, area, taken))
+            Bound::At(box_sum_of(parts, change, area, taken))
         }
-        None => Bound::At(box_sum_of(parts, area, taken)),
+        None => Bound::At(box_sum_of(parts, change, area, taken)),
     }
 }
 
@@ -103,10 +116,54 @@ pub fn leaf_bound(model: &IntModel, cert: &Cert, area: &Area, scratch: &mut Scra
     ensures area { scratch.new.area ≡ scratch.old.area }
     ensures scratch { column_count_of scratch.new ≡ column_count_of scratch.old }
 {
+    leaf_bound_after(model, None, cert, area, scratch)
+}
+
+/// The bound of a leaf in the model after a change, which is never made, over a box of that model. Allocates nothing, and leaves the box of
+/// the scratch as it was.
+pub fn leaf_bound_after(
+    model: &IntModel,
+    change: Change,
+    cert: &Cert,
+    area: &Area,
+    scratch: &mut Scratch,
+) -> Bound
+    requires change { IsChange model.now change }
+    requires cert { IsCert (length model.now.rows) cert.now }
+    requires area { IsArea (length model.now.columns) area.now }
+    requires fits { FitsScratch model.now scratch.old }
+    ensures bound { result ≡ leaf_bound_of (changed_by model.now change) area.now cert.now }
+    ensures area { scratch.new.area ≡ scratch.old.area }
+    ensures scratch { column_count_of scratch.new ≡ column_count_of scratch.old }
+{
     bound_of(
         model.parts(),
+        change,
         cert,
         area.as_slice(),
         scratch.taken.as_mut_slice(),
     )
+}
+
+/// The bound of a leaf in the model in which the number at a place is raised by `by`, which may be negative, over a box of that model. The
+/// place exists, and the number stays within its limit. The model is never made. Allocates nothing, and leaves the box of the scratch as
+/// it was.
+pub fn leaf_bound_at(
+    model: &IntModel,
+    place: Place,
+    by: i128,
+    cert: &Cert,
+    area: &Area,
+    scratch: &mut Scratch,
+) -> Bound
+    requires exists { Exists model.now place }
+    requires within { IsWithinLimit model.now place by }
+    requires cert { IsCert (length model.now.rows) cert.now }
+    requires area { IsArea (length model.now.columns) area.now }
+    requires fits { FitsScratch model.now scratch.old }
+    ensures bound { result ≡ leaf_bound_of (raised model.now place by) area.now cert.now }
+    ensures area { scratch.new.area ≡ scratch.old.area }
+    ensures scratch { column_count_of scratch.new ≡ column_count_of scratch.old }
+{
+    leaf_bound_after(model, Some((place, by)), cert, area, scratch)
 }

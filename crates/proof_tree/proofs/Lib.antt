@@ -1,4 +1,5 @@
 pub mod CertLaws
+pub mod ChangedBoxes
 pub mod LabelledTreeLaws
 pub mod NumberedLaws
 pub mod TreeExamples

@@ -20,4 +20,4 @@ pub use laws::{
 pub use limits::tree_limits;
 pub use trees::Tree;
 pub use verdicts::Verdict;
-pub use walks::{lesser, tree_bound};
+pub use walks::{lesser, tree_bound, tree_bound_at};

@@ -7,6 +7,5 @@ use Rattle.leaf_cert.proofs.leaf.leaf_bound.Goals as goal
 
 pub returns-clause-holds : goal.returns-clause-holds
 returns-clause-holds c = λ x feasible inside.
-    let bound = rw (c.parts.ensures.parts, c.as_slice.ensures) at c.bound_of.ensures in
-    subst (λ (v : Bound). IsAtMost v (cost c.args.model.now x)) (sym bound)
+    subst (λ (v : Bound). IsAtMost v (cost c.args.model.now x)) (sym c.leaf_bound_after.ensures.bound)
     (weak_duality c.args.model.now c.args.area.now c.args.cert.now x c.requires.area.size feasible inside)

@@ -2,6 +2,8 @@ use Rattle.std.proofs.Common.{rules, arith, ℕ, ◌≡◌, ◌∙◌, ◌<◌, 
 use Rattle.std.specs.Int.{w64}
 use Rattle.ip_defs.specs.Boxes.{below, above}
 use Rattle.ip_defs.specs.Program.{low_at, high_at}
+use Rattle.ip_defs.specs.declared.programs.Parts.{Parts}
+use Rattle.leaf_cert.specs.Changes.{changed_by}
 use Rattle.leaf_cert.specs.Scratches.{FitsScratch}
 use Rattle.proof_tree.specs.LabelledTrees.{depth}
 use Rattle.proof_tree.specs.Trees.{plain, bound_min, bound_over}
@@ -48,7 +50,7 @@ walk-below-requires t c =
     let cut = is_below t (goal.at.walk-below-requires t c).After-cut_below in
     let area = below_within n c.args.area.now c.in-Split.col c.in-Split.at columns.0 numbers.1 c.requires.area in
     let falls : depth (plain c.deref.result.now) < t = rw is (omega arith) in
-    (falls, (rw is numbers.2, (rw is columns.1, (rw is rows.0, (rw cut area, c.requires.scratch)))))
+    (falls, (c.requires.change, (rw is numbers.2, (rw is columns.1, (rw is rows.0, (rw cut area, c.requires.scratch))))))
 
 pub walk-above-requires : goal.walk-above-requires
 walk-above-requires t c =
@@ -70,11 +72,11 @@ walk-above-requires t c =
       | then-cut_below w ↦ rw w.scratch-is (w.walk-below.ensures.scratch ∙ c.requires.scratch)
       | else-cut_below w ↦ rw w.scratch-is c.requires.scratch
     ] in
-    (falls, (rw is numbers.3, (rw is columns.2, (rw is rows.1, (rw cut area, scratch)))))
+    (falls, (c.requires.change, (rw is numbers.3, (rw is columns.2, (rw is rows.1, (rw cut area, scratch))))))
 
 pub returns-after-cut_above-clause-bound : goal.returns-after-cut_above-clause-bound
 returns-after-cut_above-clause-bound t c =
-    let m = c.args.model.now in
+    let m : Parts = changed_by c.args.model.now c.args.change in
     let b = c.args.area.now in
     let j = c.in-Split.col in
     let cut = c.in-Split.at in

@@ -39,7 +39,7 @@ fn new_number(change: Change, units: i128, old: i64) -> i128
 }
 
 /// The decimals of the units of the number at a place that exists.
-fn decimals_at(parts: &Parts, place: Place) -> u8
+pub fn decimals_at(parts: &Parts, place: Place) -> u8
     requires limits { IsWithinLimits parts.now }
     requires exists { Exists parts.now place }
     ensures { result ≡ decimals_at_of parts.now place }

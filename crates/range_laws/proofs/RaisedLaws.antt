@@ -1,29 +1,22 @@
 -- A program with a number raised: sides and bounds make it wider or narrower; costs and coefficients change linearly.
-use Rattle.std.specs.Prelude.{◌≡◌, ℕ, zero, suc, ◌==◌, nat_lt, Bool, true, false, List, [], ◌∷◌, length, map, Option, Some, None}
-use Rattle.std.specs.Prelude.{option_map, ℤ, pos, negsuc, ◌+ℤ◌, ◌-ℤ◌, ◌*ℤ◌, ◌≤ℤ◌, cond}
-use Rattle.std.proofs.Common.{arith, refl, ap, sym, ◌∙◌}
+use Rattle.std.specs.Prelude.{◌≡◌, ℕ, zero, suc, ◌==◌, Bool, true, false, List, [], ◌∷◌, length, map, Option, Some, None}
+use Rattle.std.specs.Prelude.{option_map, ℤ, pos, ◌+ℤ◌, ◌-ℤ◌, ◌*ℤ◌, ◌≤ℤ◌, cond}
+use Rattle.std.proofs.Common.{arith, refl, sym, ◌∙◌}
 use Rattle.std.proofs.lemmas.Int.{ints}
-use Rattle.std.proofs.lemmas.Bool.{eqb-true}
 use Rattle.ip_defs.specs.Sums.{sum_below, sum_over}
 use Rattle.ip_defs.specs.Program.{at, coefficient, row_sum, costs_of, cost}
-use Rattle.ip_defs.specs.Certificates.{side_for, payment, pay, coefficient_of}
+use Rattle.ip_defs.specs.Certificates.{coefficient_of}
 use Rattle.ip_defs.specs.declared.programs.Column.{Column}
 use Rattle.ip_defs.specs.declared.programs.Row.{Row}
 use Rattle.ip_defs.specs.declared.programs.Parts.{Parts}
 use Rattle.ip_model.specs.declared.places.Place.TheVariants.{Cost, Low, High, Coef, Lower, Upper}
-use Rattle.ip_model.specs.Places.{changed_at, listed, changed_coefs, with_cost, with_lower, with_upper, with_low, with_high, with_coef}
+use Rattle.ip_model.specs.Places.{changed_at, with_cost, with_lower, with_upper, with_low, with_high, with_coef}
 use Rattle.ip_model.specs.Places.{with_columns, with_rows, raised}
+use Rattle.leaf_cert.proofs.RaisedNumbers.{plus, raised_coefs, raised_coefs_is, pay_by_coef}
 use Rattle.range_laws.specs.Widening.{Paired, IsNotAbove, IsWiderRow, IsWiderColumn, IsWider}
 use Rattle.range_laws.proofs.ConcaveLaws.{Linear, linear_add, linear_sub, linear_scale, linear_times, linear_sum, linear_over}
 use Rattle.range_laws.proofs.LeafLaws.{Between, Fixed, rays, boxes}
 use Rattle.range_laws.proofs.WideningLaws.{row_self, column_self}
-
--- a number raised by e, and coefficients with that of one column raised
-abbrev pub plus : ℤ → ℤ → ℤ
-plus e z = z +ℤ e
-
-abbrev pub raised_coefs : ℕ → ℤ → List (ℕ × ℤ) → List (ℕ × ℤ)
-raised_coefs j e ps = changed_coefs j (plus e) ps
 
 -- ---- sides and bounds
 
@@ -78,53 +71,6 @@ upper_widens m j a b le = wider_columns m (with_upper (plus a)) (with_upper (plu
 
 -- ---- costs and coefficients
 
--- what f changes in no element, no list of it sees
-pub changed_map : {A B : Type 0} (h : A → B) (f : A → A) → ((x : A) → h (f x) ≡ h x) → (xs : List A) (j : ℕ)
-    → map h (changed_at f j xs) ≡ map h xs
-changed_map h f same [] j = refl
-changed_map h f same (x ∷ xs) zero = ap (λ z. z ∷ map h xs) (same x)
-changed_map h f same (x ∷ xs) (suc j) = ap (λ zs. h x ∷ zs) (changed_map h f same xs j)
-
--- a coefficient that is raised is one more that is listed for its column
-listed_is : (j : ℕ) (e : ℤ) (ps : List (ℕ × ℤ)) (k : ℕ) → coefficient (listed j e ps) k ≡ coefficient ((j, e) ∷ ps) k
-listed_is j (pos zero) ps k = by (j == k)
-  where
-    by : (t : Bool) → coefficient ps k ≡ cond t (pos zero +ℤ coefficient ps k) (coefficient ps k)
-    by true = omega (arith, ints)
-    by false = refl
-listed_is j (pos (suc n)) ps k = refl
-listed_is j (negsuc n) ps k = refl
-
-none_more : (e : ℤ) → pos 0 +ℤ e ≡ e
-none_more e = omega (arith, ints)
-
-pub raised_coefs_is : (j : ℕ) (e : ℤ) (ps : List (ℕ × ℤ)) (k : ℕ) → coefficient (raised_coefs j e ps) k ≡ coefficient ((j, e) ∷ ps) k
-raised_coefs_is j e [] k = listed_is j (pos 0 +ℤ e) [] k ∙ ap (λ z. coefficient ((j, z) ∷ []) k) (none_more e)
-raised_coefs_is j e (p ∷ ps) k = by (p.0 == j) (nat_lt j p.0) refl (raised_coefs_is j e ps k)
-  where
-    joined : p.0 ≡ j → (t s : Bool) → (p.0 == k) ≡ t → (j == k) ≡ s
-        → cond s ((p.1 +ℤ e) +ℤ coefficient ps k) (coefficient ps k) ≡ cond s (e +ℤ cond t (p.1 +ℤ coefficient ps k) (coefficient ps k))
-        (cond t (p.1 +ℤ coefficient ps k) (coefficient ps k))
-    joined same true true f g = omega (arith, ints)
-    joined same false false f g = refl
-    joined same true false f g = let h = ap (λ z. z == k) same in absurd cc
-    joined same false true f g = let h = ap (λ z. z == k) same in absurd cc
-
-    after : (t s : Bool) → (c : ℤ) → c ≡ cond s (e +ℤ coefficient ps k) (coefficient ps k)
-        → cond t (p.1 +ℤ c) c ≡ cond s (e +ℤ cond t (p.1 +ℤ coefficient ps k) (coefficient ps k))
-        (cond t (p.1 +ℤ coefficient ps k) (coefficient ps k))
-    after true true c f = omega (arith, ints)
-    after true false c f = omega (arith, ints)
-    after false true c f = f
-    after false false c f = f
-
-    by : (u v : Bool) → (p.0 == j) ≡ u → coefficient (raised_coefs j e ps) k ≡ coefficient ((j, e) ∷ ps) k
-        → coefficient (cond u (listed j (p.1 +ℤ e) ps) (cond v (listed j (pos 0 +ℤ e) (p ∷ ps)) (p ∷ raised_coefs j e ps))) k ≡
-        coefficient ((j, e) ∷ p ∷ ps) k
-    by true v f rest = listed_is j (p.1 +ℤ e) ps k ∙ joined (eqb-true p.0 j f) (p.0 == k) (j == k) refl refl
-    by false true f rest = listed_is j (pos 0 +ℤ e) (p ∷ ps) k ∙ ap (λ z. coefficient ((j, z) ∷ p ∷ ps) k) (none_more e)
-    by false false f rest = after (p.0 == k) (j == k) (coefficient (raised_coefs j e ps) k) rest
-
 module _ (p r : ℕ) (a b c : ℤ) (steps : Linear p r a b c) where
   -- costs
   pub cost_linear : (cs : List Column) (j k : ℕ)
@@ -166,28 +112,12 @@ module _ (p r : ℕ) (a b c : ℤ) (steps : Linear p r a b c) where
         (linear_scale p r q (F a) (F b) (F c) (cost_linear m.columns j k)) refl;
   }
 
-  -- a changed_at coefficient changes no side
-  side_same : (e : ℤ) (j : ℕ) (k : ℤ) (s : Row) → side_for k (with_coef j (plus e) s) ≡ side_for k s
-  side_same e j (pos zero) s = refl
-  side_same e j (pos (suc n)) s = refl
-  side_same e j (negsuc n) s = refl
-
-  payment_same : (d e : ℤ) (rs : List Row) (i j l : ℕ) (k : ℤ)
-      → payment (changed_at (with_coef j (plus d)) i rs) (l, k) ≡ payment (changed_at (with_coef j (plus e)) i rs) (l, k)
-  payment_same d e [] i j l k = refl
-  payment_same d e (s ∷ rs) zero j zero k = ap (option_map (λ side. k *ℤ side)) (side_same d j k s ∙ sym (side_same e j k s))
-  payment_same d e (s ∷ rs) zero j (suc l) k = refl
-  payment_same d e (s ∷ rs) (suc i) j zero k = refl
-  payment_same d e (s ∷ rs) (suc i) j (suc l) k = payment_same d e rs i j l k
-
-  pay_same : (d e : ℤ) (rs : List Row) (i j : ℕ) (y : List (ℕ × ℤ))
-      → pay (changed_at (with_coef j (plus d)) i rs) y ≡ pay (changed_at (with_coef j (plus e)) i rs) y
-  pay_same d e rs i j [] = refl
-  pay_same d e rs i j (s ∷ ss) = rw (payment_same d e rs i j s.0 s.1, pay_same d e rs i j ss) refl
-
   pub coef_between : (m : Parts) (i j : ℕ) → Between p r (raised m (Coef i j) a) (raised m (Coef i j) b) (raised m (Coef i j) c)
   coef_between m i j = record {
-    pays = λ y. (pay_same a b m.rows i j y, pay_same c b m.rows i j y);
+    pays = λ y. (
+      pay_by_coef m.rows i j a y ∙ sym (pay_by_coef m.rows i j b y),
+      pay_by_coef m.rows i j c y ∙ sym (pay_by_coef m.rows i j b y),
+    );
     constants = (refl, refl);
     columns = λ q y k.
         let F : ℤ → ℕ × ℤ → ℤ = λ e s. s.1 *ℤ coefficient_of (changed_at (with_coef j (plus e)) i m.rows) s.0 k in

@@ -10,7 +10,7 @@ use Rattle.proof_tree.specs.LabelledTrees.{leaf}
 use Rattle.proof_tree.specs.Trees.{PlainTree}
 use Rattle.ip_model.specs.declared.places.Place.TheVariants.{Cost}
 use Rattle.ip_model.specs.Places.{raised}
-use Rattle.range_laws.proofs.RaisedLaws.{raised_coefs}
+use Rattle.leaf_cert.proofs.RaisedNumbers.{raised_coefs}
 use Rattle.range_laws.specs.Ranges.{keep, stay_best, IsGoodChange, IsRange}
 use Rattle.range_laws.proofs.RangeLaws.{ends_are_ranges}
 

@@ -9,7 +9,6 @@ use Rattle.ip_defs.specs.Program.{row_sum, Meets, box_of, IsIn, IsFeasible, cost
 use Rattle.ip_defs.specs.Certificates.{IsAtMost}
 use Rattle.ip_defs.specs.declared.certificates.Bound.{Bound}
 use Rattle.ip_defs.specs.declared.certificates.Bound.TheVariants.{At, Infinite}
-use Rattle.ip_defs.specs.declared.programs.Column.{Column}
 use Rattle.ip_defs.specs.declared.programs.Row.{Row}
 use Rattle.ip_defs.specs.declared.programs.Parts.{Parts}
 use Rattle.proof_tree.specs.Trees.{PlainTree, bound_over, tree_bound, FitsColumns}
@@ -19,13 +18,16 @@ use Rattle.ip_model.specs.declared.places.Place.{Place}
 use Rattle.ip_model.specs.declared.places.Place.TheVariants.{Cost, Low, High, Coef, Lower, Upper}
 use Rattle.ip_model.specs.Places.{changed_at, with_cost, with_lower, with_upper, with_coef, raised, number_of, limit_of}
 use Rattle.proof_tree.specs.Verdicts.{IsAtLeast}
-use Rattle.range_laws.specs.Ranges.{PlainAim, keep, stay_best, HasPoint, due, IsWithinLimit, IsGoodChange, IsRun}
+use Rattle.range_laws.specs.Ranges.{PlainAim, keep, stay_best, HasPoint, due, IsGoodChange, IsRun}
 use Rattle.range_laws.specs.Widening.{IsWider}
 use Rattle.range_laws.specs.Laws.{GoodChangesAreRuns, NoneIsGoodBeyond, EndsAreRanges, RangesAreUnique, Holds, GoodChangesHold}
 use Rattle.range_laws.proofs.ConcaveLaws.{Linear, linear_steps, concave_past, linear_is_concave}
 use Rattle.range_laws.proofs.ReachLaws.{tree_between}
 use Rattle.range_laws.proofs.WideningLaws.{widening_lowers_bounds, wider_cost, widening_keeps_points}
-use Rattle.range_laws.proofs.RaisedLaws.{plus, raised_coefs, changed_map, low_narrows, high_widens, lower_narrows, upper_widens}
+use Rattle.leaf_cert.specs.Changes.{IsWithinLimit}
+use Rattle.leaf_cert.proofs.RaisedNumbers.{plus, raised_coefs}
+use Rattle.proof_tree.proofs.ChangedBoxes.{cost_box}
+use Rattle.range_laws.proofs.RaisedLaws.{low_narrows, high_widens, lower_narrows, upper_widens}
 use Rattle.range_laws.proofs.RaisedLaws.{cost_between, cost_fixed, cost_at_linear, coef_between, coef_fixed, row_linear}
 
 -- an aim asks the same of the bounds of a wider program, and its point stays feasible
@@ -40,10 +42,6 @@ narrower_bound g m n t wider h = rw (wider_due g m n wider) (widening_lowers_bou
 wider_point : (g : PlainAim) (m n : Parts) → IsWider m n → HasPoint g m → HasPoint g n
 wider_point (keep w) m n wider h = tt
 wider_point (stay_best x) m n wider h = widening_keeps_points m n x wider h
-
--- the box does not see a cost
-pub cost_box : (m : Parts) (j : ℕ) (e : ℤ) → box_of (raised m (Cost j) e) ≡ box_of m
-cost_box m j e = changed_map (λ (c : Column). (c.lo, c.hi)) (with_cost (plus e)) (λ c. refl) m.columns j
 
 -- one element changed in three ways
 changed_between : {A : Type 0} (P : A → Type 0) (f g h : A → A) → ((x : A) → P (f x) → P (h x) → P (g x)) → (xs : List A) (i : ℕ)

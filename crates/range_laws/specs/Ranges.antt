@@ -1,10 +1,10 @@
 -- Allowable ranges: the good changes of a number for a tree and an aim, and the longest run of them around 0.
-use Rattle.std.specs.Prelude.{◌≤◌, List, Option, Some, None, ℤ, pos, ◌+ℤ◌, ◌-ℤ◌, ◌≤ℤ◌}
-use Rattle.std.specs.Int.RustNames.{unsigned_abs}
+use Rattle.std.specs.Prelude.{List, Option, Some, None, ℤ, pos, ◌+ℤ◌, ◌-ℤ◌, ◌≤ℤ◌}
 use Rattle.ip_defs.specs.Program.{IsFeasible, cost}
 use Rattle.ip_defs.specs.declared.programs.Parts.{Parts}
 use Rattle.ip_model.specs.declared.places.Place.{Place}
-use Rattle.ip_model.specs.Places.{raised, number_of, limit_of}
+use Rattle.ip_model.specs.Places.{raised}
+use Rattle.leaf_cert.specs.Changes.{IsWithinLimit}
 use Rattle.proof_tree.specs.Trees.{PlainTree, tree_bound}
 use Rattle.proof_tree.specs.Verdicts.{IsAtLeast}
 
@@ -22,10 +22,6 @@ HasPoint (stay_best x) m = IsFeasible m x
 abbrev pub due : PlainAim → Parts → ℤ
 due (keep w) m = w
 due (stay_best x) m = cost m x
-
--- the number at a place, raised by e, is within its limit
-abbrev pub IsWithinLimit : Parts → Place → ℤ → Type 0
-IsWithinLimit m place e = unsigned_abs (number_of m place +ℤ e) ≤ limit_of place
 
 -- a change by e is good: the changed number is within its limit, and the aim holds in the changed program. The limit on the count of
 -- coefficients is not asked for

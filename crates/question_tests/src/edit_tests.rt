@@ -88,13 +88,8 @@ fn edit(alloc: Global, line: Line<'_>) -> Result<Edit, Memory>
     }
 }
 
-/// The model after one edit.
-fn edited(alloc: Global, model: &IntModel, line: Line<'_>) -> Result<IntModel, EditError> {
-    apply(alloc, model, &[edit(alloc, line)?])
-}
-
 /// The model after two edits.
-fn edited_twice(
+fn edited(
     alloc: Global,
     model: &IntModel,
     first: Line<'_>,
@@ -119,6 +114,13 @@ fn add(target: Target, text: &str) -> Line<'_> {
     }
 }
 
+/// An edit that changes nothing.
+const NONE: Line<'_> = Line {
+    target: Target::HighOfR,
+    adds: true,
+    text: "0",
+};
+
 const OFF_GRID: EditError = EditError::OffGrid { edit: 1 };
 
 const LIMIT: EditError = EditError::Limit { edit: 1 };
@@ -128,103 +130,64 @@ const UNKNOWN: EditError = EditError::UnknownName { edit: 1 };
 const NO_SIDE: EditError = EditError::NoSide { edit: 1 };
 
 #[test]
-fn numbers_off_the_grid_and_large_ones(rt: HostRuntime) -> Result<(), SampleError> {
+fn refused_edits(rt: HostRuntime) -> Result<(), SampleError> {
     let alloc = rt.alloc();
     let model = model(alloc, 0, 0)?;
-    assert!(rt; is_refused(edited(alloc, &model, add(Target::CostOfX, "0.5")), OFF_GRID));
-    assert!(rt;
-        is_refused(
-            edited(alloc, &model, set(Target::CostOfX, "1e-30")),
-            OFF_GRID
-        )
-    );
-    assert!(rt; is_refused(edited(alloc, &model, set(Target::CostOfX, "1e400")), LIMIT));
-    assert!(rt;
-        is_refused(
-            edited(alloc, &model, add(Target::UpperOfY, "16777213")),
-            LIMIT
-        )
-    );
-    let want = [7, 2, 0, 4, -1, 0, 16777216, 99, 3, 0, 2, 1, -2];
-    let edited = edited(alloc, &model, add(Target::UpperOfY, "16777212"));
-    assert!(rt; becomes(alloc, edited, want.as_slice()));
-    Ok(())
-}
-
-#[test]
-fn order_of_refusals(rt: HostRuntime) -> Result<(), SampleError> {
-    let alloc = rt.alloc();
-    let model = model(alloc, 0, 0)?;
-    let large = "9000000000000000000.5";
-    assert!(rt;
-        is_refused(
-            edited(alloc, &model, set(Target::CostOfZ, "1e400")),
-            UNKNOWN
-        )
-    );
-    assert!(rt; is_refused(edited(alloc, &model, set(Target::LowOfR, "0.5")), NO_SIDE));
-    assert!(rt; is_refused(edited(alloc, &model, set(Target::LowOfR, "1e400")), NO_SIDE));
-    assert!(rt; is_refused(edited(alloc, &model, set(Target::HighOfR, large)), OFF_GRID));
-    Ok(())
-}
-
-#[test]
-fn units_are_those_of_the_place(rt: HostRuntime) -> Result<(), SampleError> {
-    let alloc = rt.alloc();
-    let model = model(alloc, 1, 2)?;
-    let dearer = [7, 7, 0, 4, -1, 0, 4, 99, 3, 0, 2, 1, -2];
-    let added = edited(alloc, &model, add(Target::CostOfX, "0.5"));
-    assert!(rt; becomes(alloc, added, dearer.as_slice()));
-    assert!(rt;
-        is_refused(
-            edited(alloc, &model, add(Target::UpperOfY, "0.5")),
-            OFF_GRID
-        )
-    );
-    let lower = [7, 2, 0, 4, -1, 0, 4, 99, -710, 0, 2, 1, -2];
-    let lowered = edited(alloc, &model, set(Target::HighOfR, "-7.1"));
-    assert!(rt; becomes(alloc, lowered, lower.as_slice()));
-    Ok(())
-}
-
-#[test]
-fn edits_of_one_datum_in_order(rt: HostRuntime) -> Result<(), SampleError> {
-    let alloc = rt.alloc();
-    let model = model(alloc, 0, 0)?;
-    let raise = add(Target::HighOfR, "2");
-    let raised = [7, 2, 0, 4, -1, 0, 4, 99, 7, 0, 2, 1, -2];
-    assert!(rt;
-        becomes(
-            alloc,
-            edited_twice(alloc, &model, raise, raise),
-            raised.as_slice()
-        )
-    );
-    let remove = set(Target::CoefOfX, "0");
-    let without = [7, 2, 0, 4, -1, 0, 4, 99, 3, 1, -2];
-    assert!(rt; becomes(alloc, edited(alloc, &model, remove), without.as_slice()));
-    let put = add(Target::CoefOfX, "3");
-    let with = [7, 2, 0, 4, -1, 0, 4, 99, 3, 0, 3, 1, -2];
-    assert!(rt;
-        becomes(
-            alloc,
-            edited_twice(alloc, &model, remove, put),
-            with.as_slice()
-        )
-    );
-    Ok(())
-}
-
-#[test]
-fn first_refusal_of_two_edits(rt: HostRuntime) -> Result<(), SampleError> {
-    let alloc = rt.alloc();
-    let model = model(alloc, 0, 0)?;
-    let raise = add(Target::HighOfR, "2");
     let large = set(Target::CostOfX, "1e400");
-    let unknown = set(Target::CostOfZ, "1");
-    let second = EditError::Limit { edit: 2 };
-    assert!(rt; is_refused(edited_twice(alloc, &model, raise, large), second));
-    assert!(rt; is_refused(edited_twice(alloc, &model, large, unknown), LIMIT));
+    for (first, second, refusal) in [
+        (add(Target::CostOfX, "0.5"), NONE, OFF_GRID),
+        (set(Target::CostOfX, "1e-30"), NONE, OFF_GRID),
+        (
+            set(Target::HighOfR, "9000000000000000000.5"),
+            NONE,
+            OFF_GRID,
+        ),
+        (large, NONE, LIMIT),
+        (large, set(Target::CostOfZ, "1"), LIMIT),
+        (add(Target::UpperOfY, "16777213"), NONE, LIMIT),
+        (set(Target::CostOfZ, "1e400"), NONE, UNKNOWN),
+        (set(Target::LowOfR, "0.5"), NONE, NO_SIDE),
+        (set(Target::LowOfR, "1e400"), NONE, NO_SIDE),
+        (NONE, large, EditError::Limit { edit: 2 }),
+    ] {
+        assert!(rt; is_refused(edited(alloc, &model, first, second), refusal));
+    }
+    Ok(())
+}
+
+/// The numbers of the model but for the one at an index.
+fn numbers(index: usize, number: i64) -> [i64; 13] {
+    let mut numbers = [7, 2, 0, 4, -1, 0, 4, 99, 3, 0, 2, 1, -2];
+    if index < 13 {
+        numbers[index] = number;
+    }
+    numbers
+}
+
+#[test]
+fn edited_models(rt: HostRuntime) -> Result<(), SampleError> {
+    let alloc = rt.alloc();
+    let raise = add(Target::HighOfR, "2");
+    let remove = set(Target::CoefOfX, "0");
+    let put = add(Target::CoefOfX, "3");
+    let widen = add(Target::UpperOfY, "16777212");
+    let dearer = add(Target::CostOfX, "0.5");
+    let lower = set(Target::HighOfR, "-7.1");
+    for (costs, row, first, second, index, number) in [
+        (0, 0, raise, raise, 8, 7),
+        (0, 0, remove, put, 10, 3),
+        (0, 0, widen, NONE, 6, 16777216),
+        (1, 2, dearer, NONE, 1, 7),
+        (1, 2, NONE, lower, 8, -710),
+    ] {
+        let edited = edited(alloc, &model(alloc, costs, row)?, first, second);
+        assert!(rt; becomes(alloc, edited, numbers(index, number).as_slice()));
+    }
+    let without = [7, 2, 0, 4, -1, 0, 4, 99, 3, 1, -2];
+    let removed = edited(alloc, &model(alloc, 0, 0)?, remove, NONE);
+    assert!(rt; becomes(alloc, removed, without.as_slice()));
+    let half = add(Target::UpperOfY, "0.5");
+    assert!(rt; is_refused(edited(alloc, &model(alloc, 1, 2)?, half, NONE), OFF_GRID));
     Ok(())
 }
 

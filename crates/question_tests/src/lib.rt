@@ -4,10 +4,8 @@
 #[cfg(test)]
 mod edit_tests;
 #[cfg(test)]
+mod file_tests;
+#[cfg(test)]
 mod line_tests;
 #[cfg(test)]
 mod models;
-#[cfg(test)]
-mod question_file_tests;
-#[cfg(test)]
-mod sweep_file_tests;

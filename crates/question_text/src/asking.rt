@@ -40,22 +40,6 @@ impl Draft {
     }
 }
 
-/// Adds the question of a `range` line.
-fn push_range(
-    alloc: Global,
-    questions: &mut Questions,
-    line: u32,
-    words: &[&str],
-) -> Result<(), TextError>
-    requires { AreAskable questions.old }
-    ensures askable { OnOk result (AreAskable questions.new) }
-    ensures question { IsPushed (range_in_of line (map (λ w. w.now) words.now)) questions.old questions.new result }
-{
-    let question = range_in(alloc, line, words)?;
-    questions.push(question)?;
-    Ok(())
-}
-
 /// Takes a line outside of a `bound` question.
 fn take_outside(
     alloc: Global,
@@ -68,13 +52,15 @@ fn take_outside(
     ensures kept { OnOk result (IsKept (line + 1) draft.new) }
     ensures taken { (after : ℕ) → IsTaken (due_after after) draft.old draft.new (line_of line (map (λ w. w.now) words.now) ∷ []) result }
 {
-    if !is_word("bound", words) {
-        return push_range(alloc, &mut draft.questions, line, words);
+    if is_word("bound", words) {
+        draft.pending = Some(Pending {
+            line,
+            edits: Edits::from_vec(Vec::new(alloc)),
+        });
+        return Ok(());
     }
-    draft.pending = Some(Pending {
-        line,
-        edits: Edits::from_vec(Vec::new(alloc)),
-    });
+    let question = range_in(alloc, line, words)?;
+    draft.questions.push(question)?;
     Ok(())
 }
 

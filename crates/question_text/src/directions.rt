@@ -106,7 +106,10 @@ fn add_name(moved: &mut IndexSet<String>, line: u32, name: String) -> Result<(),
     if moved.get_index_of(name.as_str()).is_some() {
         return Err(TextError::Word { line });
     }
-    moved.insert(name)?;
+    match moved.insert(name) {
+        Ok(_) => {}
+        Err(_) => return Err(TextError::Memory),
+    }
     Ok(())
 }
 

@@ -3,7 +3,7 @@
 ghost use Rattle.std.specs.Prelude.{◌≡◌};
 ghost use Rattle.question_text.specs.declared.errors.TextError.TheVariants as Refused;
 
-use std::alloc::{AllocError, AllocFailed};
+use std::alloc::AllocError;
 use thiserror::Error;
 
 /// Why a question file or a sweep file is refused. `line` counts from 1.
@@ -34,14 +34,6 @@ impl From<AllocError> for TextError {
     ghost from_gives = { λ _ e. e ≡ Refused.Memory };
 
     fn from(_error: AllocError) -> TextError {
-        TextError::Memory
-    }
-}
-
-impl<T: Drop> From<AllocFailed<T>> for TextError {
-    ghost from_gives = { λ _ e. e ≡ Refused.Memory };
-
-    fn from(_error: AllocFailed<T>) -> TextError {
         TextError::Memory
     }
 }

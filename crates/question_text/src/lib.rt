@@ -12,6 +12,7 @@ mod reading;
 mod sweep_reading;
 mod sweeping;
 mod sweeps;
+mod texts;
 mod words;
 
 pub use errors::TextError;

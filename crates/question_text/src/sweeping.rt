@@ -1,9 +1,9 @@
 //! The sweep of lines, one line after another.
 
-ghost use Rattle.std.specs.Prelude.{◌≡◌, ℕ, Some, None, IfOk, OnOk, map, ◌∷◌, []};
+ghost use Rattle.std.specs.Prelude.{◌≡◌, ℕ, Some, None, IfOk, map, ◌∷◌, []};
 ghost use Rattle.question_text.specs.Lines.{Answers, line_of};
 ghost use Rattle.question_text.specs.Internal.Sweeping.{HasMoved, due_after};
-ghost use Rattle.question_text.specs.Internal.Taking.{IsNext, IsTaken};
+ghost use Rattle.question_text.specs.Internal.Taking.{IsNext};
 
 use crate::directions::with_direction;
 use crate::errors::TextError;
@@ -72,7 +72,7 @@ fn continued(alloc: Global, begun: Begun, line: u32, words: &[&str]) -> Result<B
 }
 
 /// The sweep after a line that is read: its head, or one more line.
-fn next_of(
+pub fn next_of(
     alloc: Global,
     begun: Option<Begun>,
     line: u32,
@@ -85,27 +85,6 @@ fn next_of(
     match begun {
         Some(begun) => continued(alloc, begun, line, words),
         None => begun_by(alloc, line, words),
-    }
-}
-
-/// Takes a line that is read.
-pub fn take_words(
-    alloc: Global,
-    begun: &mut Option<Begun>,
-    line: u32,
-    words: &[&str],
-) -> Result<(), TextError>
-    requires moved { HasMoved begun.old }
-    ensures moved { OnOk result (HasMoved begun.new) }
-    ensures taken { (after : ℕ) → IsTaken (due_after after) begun.old begun.new
-        (line_of line (map (λ w. w.now) words.now) ∷ []) result }
-{
-    match next_of(alloc, begun.take(), line, words) {
-        Ok(next) => {
-            *begun = Some(next);
-            Ok(())
-        }
-        Err(error) => Err(error),
     }
 }
 

@@ -6,6 +6,7 @@ use Rattle.ip_defs.specs.Lists.{when}
 use Rattle.question_text.specs.Lines.{Line, is_end, due}
 use Rattle.perturbation.specs.Edits.{AreBelowLarge}
 use Rattle.question_text.specs.QuestionFiles.{AreAskable, is_bound, inside_faults, outside_faults, unended, edits_in, questions_in}
+use Rattle.question_text.specs.Internal.Taking.{AreNumbered}
 use Rattle.question_text.specs.declared.errors.TextError.{TextError}
 use Rattle.question_text.specs.declared.errors.TextError.TheVariants as Refused
 use Rattle.question_text.specs.declared.questions.Question.{Question}
@@ -49,3 +50,7 @@ IsPendingKept n (Some p) = (length p.edits < n) × AreBelowLarge p.edits
 pub record IsKept (n : ℕ) (d : Draft) : Type 0 where
   pub questions : AreAskable d.questions
   pub pending : IsPendingKept n d.pending
+
+-- the lines that are left can be taken
+abbrev pub IsReady : Draft → List Line → Type 0
+IsReady d ls = (n : ℕ) × IsKept n d × AreNumbered n ls

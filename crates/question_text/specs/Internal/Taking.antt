@@ -1,5 +1,5 @@
 -- What taking lines of a text owes.
-use Rattle.std.specs.Prelude.{◌≡◌, List, [], ◌∷◌, ◌++◌, Result, Ok, Err, Option, Some}
+use Rattle.std.specs.Prelude.{◌≡◌, ℕ, ◌+◌, ◌≤◌, List, [], ◌∷◌, ◌++◌, Result, Ok, Err, Option, Some}
 use Rattle.question_text.specs.Lines.{Line, allowed, faults_in, read_in, Answers}
 use Rattle.question_text.specs.declared.errors.TextError.{TextError}
 
@@ -22,3 +22,8 @@ IsNext wanted old taken (Err e) = (left : List Line) → Answers (wanted old (ta
 abbrev pub IsAdded : {A : Type 0} → List TextError → Result A TextError → List A → List A → Result (Unit {0}) TextError → Type 0
 IsAdded faults wanted old new (Ok done) = (faults ++ faults_in wanted ≡ []) × (new ≡ old ++ read_in wanted)
 IsAdded faults wanted old new (Err e) = Answers (allowed (faults ++ faults_in wanted)) (Err e)
+
+-- the numbers of lines rise, and the first is n or more
+abbrev pub AreNumbered : ℕ → List Line → Type 0
+AreNumbered n [] = Unit {0}
+AreNumbered n (l ∷ ls) = (n ≤ l.number) × AreNumbered (l.number + 1) ls

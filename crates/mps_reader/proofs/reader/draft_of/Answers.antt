@@ -1,5 +1,5 @@
 -- Each line is taken after those before it; the draft is that of the lines up to the ENDATA line.
-use Rattle.std.specs.Prelude.{◌≡◌, false, length, map, take}
+use Rattle.std.specs.Prelude.{◌≡◌, false, map, take}
 use Rattle.std.specs.List.{list_any, slice_split}
 use Rattle.std.proofs.Common.{◌∙◌, ap, sym, subst, arith}
 use Rattle.std.proofs.lemmas.List.{length-map, take_all}
@@ -7,18 +7,15 @@ use Rattle.mps_defs.specs.Records.{is_line_end, is_end_line}
 use Rattle.mps_defs.specs.Faults.{all_line_faults}
 use Rattle.mps_reader.specs.Internal.Progress.{Stands, IsFirstFault}
 use Rattle.mps_reader.specs.Internal.Reading.{lines_by}
-use Rattle.text_lines.proofs.CountLaws.{few_lines}
+use Rattle.text_lines.proofs.CountLaws.{few_pieces}
 use Rattle.mps_reader.proofs.TextLaws.{all_read, next_ended, next_goes_on, next_refused, next_taken, read_from, said_by}
 use Rattle.mps_reader.proofs.reader.draft_of.Goals as goal
 
 pub overflow_add-number : goal.overflow_add-number
 overflow_add-number c =
-    let items = c.as_slice-line-items.result.now in
-    let lines : map (λ x. x.now) items ≡ slice_split is_line_end c.args.text.now =
-    ap (map (λ x. x.now)) c.as_slice-line-items.ensures.value ∙ c.in_ok-lines.ensures in
-    let few = few_lines c.args.text.now in
-    let count = sym (length-map items (λ x. x.now)) ∙ ap length lines in
-    omega (arith, c.requires, few, count, c.loop-line.invariant.0, c.loop-line-test.true)
+    let few = few_pieces (λ x. x.now) c.as_slice-line-items.result.now c.args.text.now
+    (ap (map (λ x. x.now)) c.as_slice-line-items.ensures.value ∙ c.in_ok-lines.ensures) in
+    omega (arith, c.requires, few, c.loop-line.invariant.0, c.loop-line-test.true)
 
 pub returns-then-ended : goal.returns-then-ended
 returns-then-ended c =

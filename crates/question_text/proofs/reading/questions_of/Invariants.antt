@@ -1,11 +1,10 @@
-use Rattle.std.specs.Prelude.{◌≡◌, ℕ, ◌+◌, map, drop}
-use Rattle.question_text.specs.Lines.{lines_from}
-use Rattle.question_text.specs.Internal.Asking.{IsKept, due_after}
+use Rattle.std.specs.Prelude.{◌≡◌, ℕ, map, drop}
+use Rattle.question_text.specs.Lines.{line_of}
+use Rattle.question_text.specs.Internal.Asking.{IsReady, due_after}
 use Rattle.question_text.proofs.reading.questions_of.Given as goal
 
 abbrev pub invariant-loop-line : goal.invariant-loop-line
 invariant-loop-line l =
-    (number : l.number ≡ l.line-index)
-    × (kept : IsKept (l.number + 1) l.draft)
-    × ((after : ℕ) → due_after after l.draft (lines_from (l.number + 1) (map (λ x. x.now) (drop l.line-index l.line-items)))
-    ≡ due_after after l.initial.draft (lines_from 1 (map (λ x. x.now) l.line-items)))
+    (ready : IsReady l.draft (map (λ p. line_of p.0 (map (λ w. w.now) p.1.items)) (drop l.line-index l.line-items)))
+    × ((after : ℕ) → due_after after l.draft (map (λ p. line_of p.0 (map (λ w. w.now) p.1.items)) (drop l.line-index l.line-items))
+    ≡ due_after after l.initial.draft (map (λ p. line_of p.0 (map (λ w. w.now) p.1.items)) l.line-items))

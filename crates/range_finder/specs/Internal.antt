@@ -1,0 +1,4 @@
+-- What only the contracts of private functions and the proofs of this crate speak of.
+pub mod Asked
+pub mod Points
+pub mod Tries

@@ -1,5 +1,5 @@
 -- What is owed to a tree file whose proof is held, and to a questions file.
-use Rattle.std.specs.Prelude.{◌≡◌, ◌≢◌, ℕ, ◌≤◌, List, [], ◌∷◌, length, Option, Some, None, Result, Ok, Err, IfOk, codes, ℤ}
+use Rattle.std.specs.Prelude.{◌≡◌, ◌≢◌, ℕ, ◌≤◌, List, [], ◌∷◌, length, Option, Some, None, Result, Ok, Err, codes, ℤ}
 use Rattle.std.proofs.Common.{refl, ap, sym, ◌∙◌, subst}
 use Rattle.std.proofs.lemmas.List.{length-map}
 use Rattle.ip_defs.specs.Program.{box_of}
@@ -33,7 +33,8 @@ use Rattle.tree_format.proofs.SpellingLaws.{spellings_are_read}
 use Rattle.tree_format.specs.Grammar.{IsErrorOf}
 use Rattle.tree_format.specs.declared.errors.TreeError.{TreeError}
 use Rattle.tree_format.specs.declared.errors.TreeError.TheVariants as Faults
-use Rattle.tree_replies.specs.Replies.{AreReplies, first_refusal}
+use Rattle.tree_replies.specs.Refusals.{first_refusal}
+use Rattle.tree_replies.specs.Replies.{AreReplies}
 use Rattle.tree_replies.specs.declared.refusals.Refusal.{Refusal}
 use Rattle.ipsens_core.specs.Answers.{Answer, says}
 use Rattle.ipsens_core.specs.Ask.{AnswersQuestions, AsksVerdict}
@@ -153,12 +154,12 @@ new_scratch m s area fits = record { area = ap length area ∙ length-map m.colu
 pub proved_prepared : (questions : List ℕ) (m : Parts) (c : Claim) (t : PlainTree) (v : Verdict) (w : Option ℤ)
     (before after : Option Files) (f f' s s' : ℕ) (result : Result Made Stop) → v ≡ judged m c (tree_bound m t)
     → v ≡ Proved w → (IsProvedVerdict v → IsTrueClaim m c)
-    → IsPrepared (ReadsQuestions questions (AnswersQuestions m t)) before after f f' s s' result
+    → IsPrepared (ReadsQuestions questions (AnswersQuestions m c t)) before after f f' s s' result
     → IsPrepared (AsksVerdict questions m c t (judged m c (tree_bound m t))) before after f f' s s' result
 proved_prepared questions m c t v w before after f f' s s' result verdict is holds ready =
     let says_proved : judged m c (tree_bound m t) ≡ Proved w = sym verdict ∙ is in
     let true_claim = holds (subst IsProvedVerdict (sym is) tt) in
-    prepared_then (ReadsQuestions questions (AnswersQuestions m t)) (AsksVerdict questions m c t (judged m c (tree_bound m t))) before
+    prepared_then (ReadsQuestions questions (AnswersQuestions m c t)) (AsksVerdict questions m c t (judged m c (tree_bound m t))) before
     before after f f f' s s s' result
     (λ a owed. record { reads = owed.reads; agrees = owed.agrees; run = rw says_proved (true_claim, owed.run) }) (λ table known. known)
     refl refl
@@ -209,13 +210,13 @@ made_for Owed made status text written owed is = record {
 }
 
 -- replies to all questions, and the refusal of the first that is refused
-pub replies_owed : (m : Parts) (t : PlainTree) (qs : List Question) (rs : List Reply) → AreReplies m t qs rs → first_refusal m qs ≡ None
-    → AnswersQuestions m t qs (says Answered (reply_lines rs))
-replies_owed m t qs rs are none = rw none (record { replies = rs; are = are; answer = refl })
+pub replies_owed : (m : Parts) (c : Claim) (t : PlainTree) (qs : List Question) (rs : List Reply) → AreReplies m c t qs rs
+    → first_refusal m c qs ≡ None → AnswersQuestions m c t qs (says Answered (reply_lines rs))
+replies_owed m c t qs rs are none = rw none (record { replies = rs; are = are; answer = refl })
 
-pub refusal_owed : (m : Parts) (t : PlainTree) (qs : List Question) (k : ℕ) (why : Refusal) → first_refusal m qs ≡ Some (k, why)
-    → AnswersQuestions m t qs (says Refused (refused_question k why))
-refusal_owed m t qs k why is = rw is refl
+pub refusal_owed : (m : Parts) (c : Claim) (t : PlainTree) (qs : List Question) (k : ℕ) (why : Refusal)
+    → first_refusal m c qs ≡ Some (k, why) → AnswersQuestions m c t qs (says Refused (refused_question k why))
+refusal_owed m c t qs k why is = rw is refl
 
 -- an answer to the text of a questions file is owed to the file
 pub questions_owed : (name bytes : List ℕ) (Owed : List Question → Answer → Type 0) (before after : Option Files) (a : Answer)

@@ -1,3 +1,4 @@
+pub mod AcceptedLaws
 pub mod AskLaws
 pub mod CheckLaws
 pub mod FeedLaws

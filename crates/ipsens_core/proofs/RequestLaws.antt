@@ -1,6 +1,6 @@
 -- A request that is carried out: its model file, its numbers, and the files that it begins.
 use Rattle.std.specs.Prelude.{◌≡◌, ℕ, suc, List, [], ◌∷◌, Option, Some, Result, Ok, Err, IfOk}
-use Rattle.std.proofs.Common.{ap, ◌∙◌, subst, append_assoc}
+use Rattle.std.proofs.Common.{subst}
 use Rattle.ips_io.specs.Files.{Began, BeganFirst, Files, Names}
 use Rattle.ips_words.specs.Commands.{Word, request_of}
 use Rattle.ips_words.specs.Requests.{AreInRange, IsBuilt}

@@ -11,7 +11,8 @@ use Rattle.proof_tree.specs.declared.verdicts.Verdict.TheVariants.{Proved, NotFe
 use Rattle.question_text.specs.declared.questions.Question.{Question}
 use Rattle.sens_report.specs.ReplyTexts.{reply_lines}
 use Rattle.sens_report.specs.declared.replies.Reply.{Reply}
-use Rattle.tree_replies.specs.Replies.{AreReplies, first_refusal}
+use Rattle.tree_replies.specs.Refusals.{first_refusal}
+use Rattle.tree_replies.specs.Replies.{AreReplies}
 use Rattle.ipsens_core.specs.Answers.{Answer, says, ReadsNoMore}
 use Rattle.ipsens_core.specs.Check.{IsJudged}
 use Rattle.ipsens_core.specs.QuestionRefusals.{refused_question}
@@ -21,20 +22,22 @@ use Rattle.ipsens_core.specs.Trees.{ReadsTree}
 use Rattle.ipsens_core.specs.declared.statuses.Status.TheVariants.{Answered, Refused}
 
 -- an answer has a line for each question, in order: the bound of the tree for the model with the edits of the question, which each feasible
--- point of that model costs at least
-pub record HasReplies (m : Parts) (t : PlainTree) (qs : List Question) (a : Answer) : Type 0 where
+-- point of that model costs at least; or the range of a number, the longest run of changes around 0 for which the tree proves the aim, and
+-- after each of which the aim holds: the claimed point is optimal, or each feasible point costs at least the number to keep
+pub record HasReplies (m : Parts) (c : Claim) (t : PlainTree) (qs : List Question) (a : Answer) : Type 0 where
   pub replies : List Reply
-  pub are : AreReplies m t qs replies
+  pub are : AreReplies m c t qs replies
   pub answer : a ≡ says Answered (reply_lines replies)
 
 -- the first question that is refused is printed, and else there are replies to all
-abbrev pub AnswersQuestions : Parts → PlainTree → List Question → Answer → Type 0
-AnswersQuestions m t qs a = MatchOption (first_refusal m qs) (HasReplies m t qs a) (λ r. a ≡ says Refused (refused_question r.0 r.1))
+abbrev pub AnswersQuestions : Parts → Claim → PlainTree → List Question → Answer → Type 0
+AnswersQuestions m c t qs a =
+    MatchOption (first_refusal m c qs) (HasReplies m c t qs a) (λ r. a ≡ says Refused (refused_question r.0 r.1))
 
 -- a proof is judged: where it is proved, its claim is true, and the questions file is read; else the verdict is printed, as `check`
 -- prints it, and no further file is read
 abbrev pub AsksVerdict : List ℕ → Parts → Claim → PlainTree → Verdict → Reads → Answer → Type 0
-AsksVerdict questions m c t (Proved w) rs a = IsTrueClaim m c × ReadsQuestions questions (AnswersQuestions m t) rs a
+AsksVerdict questions m c t (Proved w) rs a = IsTrueClaim m c × ReadsQuestions questions (AnswersQuestions m c t) rs a
 AsksVerdict questions m c t (NotFeasible breach) rs a = ReadsNoMore (IsJudged m c t) rs a
 AsksVerdict questions m c t (Short bound w) rs a = ReadsNoMore (IsJudged m c t) rs a
 

@@ -11,5 +11,6 @@ pub mod Check
 pub mod QuestionRefusals
 pub mod Questions
 pub mod Ask
+pub mod Accepted
 pub mod Runs
 pub mod Internal

@@ -7,7 +7,7 @@ use Rattle.perturbation.specs.declared.edits.EditError.TheVariants.{UnknownName,
 use Rattle.question_text.specs.declared.errors.TextError.{TextError}
 use Rattle.question_text.specs.declared.errors.TextError.TheVariants as faults
 use Rattle.tree_replies.specs.declared.refusals.Refusal.{Refusal}
-use Rattle.tree_replies.specs.declared.refusals.Refusal.TheVariants.{Edit, NotBuilt}
+use Rattle.tree_replies.specs.declared.refusals.Refusal.TheVariants.{Edit, NoBest}
 
 -- ---- the file
 
@@ -38,7 +38,7 @@ edit_text Memory = []
 
 abbrev pub why_text : Refusal → List ℕ
 why_text (Edit e) = edit_text e
-why_text NotBuilt = codes "A0"
+why_text NoBest = codes "A1"
 
 -- the refusal of question k
 abbrev pub refused_question : ℕ → Refusal → List ℕ

@@ -1,5 +1,5 @@
 //! The command `ask`: a model file is read, then a tree file, whose proof is judged, then a questions file; the questions are answered by
-//! the bound of the tree for each changed model.
+//! the bound of the tree for each changed model, and by the ranges of numbers for it.
 
 ghost use Rattle.std.specs.Prelude.{◌≡◌, ◌∷◌, [], IfOk, None};
 ghost use Rattle.ips_io.specs.Files.{BeganFirst};
@@ -51,14 +51,7 @@ fn asked_of_proof<'a, S: Shelf>(
 {
     let mut scratch = scratch(alloc, model)?;
     match check(alloc, model, proof, &mut scratch) {
-        Verdict::Proved { .. } => answered(
-            alloc,
-            model,
-            &proof.tree,
-            questions,
-            &mut scratch,
-            shelf,
-        ),
+        Verdict::Proved { .. } => answered(alloc, model, proof, questions, &mut scratch, shelf),
         verdict => Ok(not_proved(alloc, model, &verdict)?),
     }
 }

@@ -1,7 +1,9 @@
 //! The top call: the words are read, and the command that they ask for is run.
 
 ghost use Rattle.std.specs.Prelude.{◌≡◌, ◌≢◌, ◌⊎◌, None, map, string_bytes};
+ghost use Rattle.std.specs.Option.{ForSome};
 ghost use Rattle.ips_io.specs.Files.{BeganFirst};
+ghost use Rattle.ipsens_core.specs.Accepted.{AsksAccepted, IsAnsweredUnless};
 ghost use Rattle.ipsens_core.specs.Runs.{HasCauses, IsRunOf, RunMeets, files_asked, shows};
 ghost use Rattle.ips_words.specs.Commands.{request_of};
 
@@ -24,6 +26,8 @@ pub fn run<S: Shelf, K: Sink>(alloc: Global, words: &[String], shelf: &mut S, ou
     ensures causes { HasCauses (S.faults shelf.old) (S.faults shelf.new) (S.save_faults shelf.old) (S.save_faults shelf.new) (K.faults
         out.old) (K.faults out.new) result }
     ensures unsaved { S.save_faults shelf.new ≢ S.save_faults shelf.old → K.taken out.new ≡ K.taken out.old }
+    ensures complete { ForSome (request_of (map string_bytes words.now)) (λ q. AsksAccepted (S.files shelf.old) q → IsAnsweredUnless
+        result) }
     ensures begun { BeganFirst (S.begun_names shelf.old) (S.begun_names shelf.new) (files_asked (map string_bytes words.now)) }
 {
     let request = match request(alloc, words) {

@@ -3,6 +3,7 @@
 ghost use Rattle.std.specs.Prelude.{◌≡◌, None, Some, codes};
 ghost use Rattle.ip_model.specs.Sizes.{first_crossed};
 ghost use Rattle.ips_io.specs.Files.{BeganFirst};
+ghost use Rattle.ipsens_core.specs.Accepted.{AsksAccepted, IsAnsweredUnless};
 ghost use Rattle.ipsens_core.specs.Internal.Made.{IsPrepared};
 ghost use Rattle.ipsens_core.specs.Runs.{AnswersModel, AnswersRequest, HasBegun, IsReady, MeetsRequest, files_after, files_named};
 ghost use Rattle.ipsens_core.specs.Runs.{command_word, model_file as file_of_model, shows};
@@ -179,7 +180,9 @@ pub fn check_at<S: Shelf, K: Sink>(
 /// Answers a request to ask: the model file is read, then the tree file, then the questions file, each begun only where the one before it
 /// was understood, and the questions file only where the proof is proved. Nothing is written before every question has its reply, and the
 /// first question that is refused is the whole answer; else there is a line for each, with the bound of the tree for the model as the
-/// question changes it.
+/// question changes it, or the range of a number: the changes around 0 for which the tree proves that the best point stays the best one,
+/// or that no point costs less than a number. A proof that is proved and questions of which none is refused are answered, unless reading
+/// or writing failed or memory ran out.
 pub fn ask_at<S: Shelf, K: Sink>(
     alloc: Global,
     request: &Request,
@@ -191,6 +194,7 @@ pub fn ask_at<S: Shelf, K: Sink>(
     ensures run { MeetsRequest request.now (shows (S.files shelf.old) (S.files shelf.new) (K.taken out.old) (K.taken out.new))
         (S.faults shelf.old) (S.faults shelf.new) (S.save_faults shelf.old) (S.save_faults shelf.new) (K.faults out.old) (K.faults out.new)
         (S.begun_names shelf.old) (S.begun_names shelf.new) result }
+    ensures complete { AsksAccepted (S.files shelf.old) request.now → IsAnsweredUnless result }
 {
     carry_out(alloc, request, shelf, out)
 }

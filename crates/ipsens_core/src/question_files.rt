@@ -4,6 +4,7 @@ ghost use Rattle.std.specs.Prelude.{◌≡◌, ◌≢◌, ◌≤◌, ◌∷◌, 
 ghost use Rattle.ips_io.specs.Files.{Began};
 ghost use Rattle.proof_tree.specs.Scratches.{FitsWalk};
 ghost use Rattle.proof_tree.specs.Trees.{FitsModel, plain};
+ghost use Rattle.proof_tree.specs.Verdicts.{HasLength};
 ghost use Rattle.proof_tree.specs.Within.{IsTreeWithin};
 ghost use Rattle.question_text.specs.QuestionFiles.{AreAskable, questions_of};
 ghost use Rattle.ipsens_core.specs.Ask.{AnswersQuestions};
@@ -18,7 +19,7 @@ use ip_defs::{Memory, Name};
 use ip_model::IntModel;
 use ips_io::{ReadError, Shelf, read_all};
 use leaf_cert::Scratch;
-use proof_tree::Tree;
+use proof_tree::Proof;
 use question_text::{Question, TextError, read_questions};
 use sens_report::reply_text;
 use std::alloc::Global;
@@ -31,17 +32,18 @@ const LONGEST_QUESTIONS: u64 = 16_777_216;
 fn answer_to_questions<'a>(
     alloc: Global,
     model: &IntModel,
-    tree: &Tree,
+    proof: &Proof,
     questions: &[Question],
     scratch: &mut Scratch,
 ) -> Result<Made<'a>, Memory>
-    requires limits { IsTreeWithin (plain tree.now) }
-    requires fits { FitsModel model.now (plain tree.now) }
+    requires limits { IsTreeWithin (plain proof.now.tree) }
+    requires fits { FitsModel model.now (plain proof.now.tree) }
+    requires point { HasLength (length model.now.columns) proof.now.claim }
     requires askable { AreAskable questions.now }
     requires scratch { FitsWalk (length model.now.columns) scratch.old }
-    ensures { IfOk result (IsMadeFor (AnswersQuestions model.now (plain tree.now) questions.now)) }
+    ensures { IfOk result (IsMadeFor (AnswersQuestions model.now proof.now.claim (plain proof.now.tree) questions.now)) }
 {
-    match replies_to(alloc, model, tree, questions, scratch) {
+    match replies_to(alloc, model, proof, questions, scratch) {
         Ok(replies) => {
             let text = reply_text(alloc, replies.as_slice())?;
             Ok(says(Status::Answered, text))
@@ -58,18 +60,20 @@ fn answer_to_questions<'a>(
 fn answer_to_text<'a>(
     alloc: Global,
     model: &IntModel,
-    tree: &Tree,
+    proof: &Proof,
     text: &[u8],
     scratch: &mut Scratch,
 ) -> Result<Made<'a>, Memory>
-    requires limits { IsTreeWithin (plain tree.now) }
-    requires fits { FitsModel model.now (plain tree.now) }
+    requires limits { IsTreeWithin (plain proof.now.tree) }
+    requires fits { FitsModel model.now (plain proof.now.tree) }
+    requires point { HasLength (length model.now.columns) proof.now.claim }
     requires length { length text.now ≤ 16777216 }
     requires scratch { FitsWalk (length model.now.columns) scratch.old }
-    ensures { IfOk result (IsMadeFor (OwedToText (AnswersQuestions model.now (plain tree.now)) (questions_of text.now))) }
+    ensures { IfOk result (IsMadeFor (OwedToText (AnswersQuestions model.now proof.now.claim (plain proof.now.tree)) (questions_of
+        text.now))) }
 {
     match read_questions(alloc, text) {
-        Ok(questions) => answer_to_questions(alloc, model, tree, questions.as_slice(), scratch),
+        Ok(questions) => answer_to_questions(alloc, model, proof, questions.as_slice(), scratch),
         Err(TextError::Memory) => Err(Memory),
         Err(error) => {
             let line = text_fault_line(alloc, error)?;
@@ -86,24 +90,25 @@ fn too_long<'a>(alloc: Global) -> Result<Made<'a>, Memory>
     Ok(says(Status::Refused, text.into_bytes()))
 }
 
-/// Reads the questions file of a name, and makes the answer to its questions about a model by the tree of a proof.
+/// Reads the questions file of a name, and makes the answer to its questions about a model by a proof.
 pub fn answered<'a, S: Shelf>(
     alloc: Global,
     model: &IntModel,
-    tree: &Tree,
+    proof: &Proof,
     name: &Name,
     scratch: &mut Scratch,
     shelf: &mut S,
 ) -> Result<Made<'a>, Stop>
-    requires limits { IsTreeWithin (plain tree.now) }
-    requires fits { FitsModel model.now (plain tree.now) }
+    requires limits { IsTreeWithin (plain proof.now.tree) }
+    requires fits { FitsModel model.now (plain proof.now.tree) }
+    requires point { HasLength (length model.now.columns) proof.now.claim }
     requires scratch { FitsWalk (length model.now.columns) scratch.old }
-    ensures prepared { IsPrepared (ReadsQuestions name.now (AnswersQuestions model.now (plain tree.now))) (S.files shelf.old) (S.files
-        shelf.new) (S.faults shelf.old) (S.faults shelf.new) (S.save_faults shelf.old) (S.save_faults shelf.new) result }
+    ensures prepared { IsPrepared (ReadsQuestions name.now (AnswersQuestions model.now proof.now.claim (plain proof.now.tree))) (S.files
+        shelf.old) (S.files shelf.new) (S.faults shelf.old) (S.faults shelf.new) (S.save_faults shelf.old) (S.save_faults shelf.new) result }
     ensures names { Began (S.begun_names shelf.old) (S.begun_names shelf.new) (name.now ∷ []) }
 {
     match read_all(alloc, shelf, name.as_str(), LONGEST_QUESTIONS) {
-        Ok(text) => Ok(answer_to_text(alloc, model, tree, text.as_slice(), scratch)?),
+        Ok(text) => Ok(answer_to_text(alloc, model, proof, text.as_slice(), scratch)?),
         Err(ReadError::TooLong) => Ok(too_long(alloc)?),
         Err(ReadError::Fault) => Err(Stop::ReadFault),
         Err(ReadError::Memory) => Err(Stop::Memory),

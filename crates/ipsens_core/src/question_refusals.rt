@@ -66,7 +66,7 @@ fn refusal_words(alloc: Global, why: Refusal) -> Result<String, Memory>
 {
     match why {
         Refusal::Edit(error) => edit_words(alloc, error),
-        Refusal::NotBuilt => Ok(String::from_str(alloc, "A0")?),
+        Refusal::NoBest => Ok(String::from_str(alloc, "A1")?),
     }
 }
 

@@ -7,7 +7,7 @@ use Rattle.sens_report.specs.AmountTexts.{bound_text}
 use Rattle.sens_report.specs.declared.replies.Reply.{Reply}
 use Rattle.sens_report.specs.declared.replies.Reply.TheVariants.{Bound, Range}
 
--- a range from the least value to the greatest, or that there is none
+-- a range from its least change to its greatest, or that there is none
 abbrev pub range_text : Option (ℤ × ℤ) → ℕ → List ℕ
 range_text (Some run) decimals = decimal_text run.0 decimals ++ codes " " ++ decimal_text run.1 decimals
 range_text None decimals = codes "none"

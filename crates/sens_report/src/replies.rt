@@ -17,14 +17,14 @@ pub enum Reply {
         bound: Bound,
         decimals: u8,
     },
-    /// The least and the greatest value that a datum may have, in units of the datum; or that it has no such range.
+    /// The allowable range of a datum: the least and the greatest change of it, in units of the datum; or that it has none.
     Range {
         run: Option<(i128, i128)>,
         decimals: u8,
     },
 }
 
-/// The text of a range of values, from the least to the greatest.
+/// The text of a range, from its least change to its greatest.
 fn range_text(alloc: Global, run: Option<(i128, i128)>, decimals: u8) -> Result<String, Memory>
     ensures { IfOk result (λ s. string_bytes s ≡ text_of_range run decimals) }
 {

@@ -1,2 +1,3 @@
+pub mod AskedLaws
 pub mod ReplyExamples
 pub mod ReplyLaws

@@ -1,5 +1,5 @@
 -- Replies to questions, one more at a time; and that edits keep the columns and rows of a program, so that a tree fits as before.
-use Rattle.std.specs.Prelude.{◌≡◌, ℕ, zero, suc, ◌+◌, ◌≤◌, Bool, true, false, cond, nat_lt, ◌||◌, List, [], ◌∷◌, ◌++◌, length}
+use Rattle.std.specs.Prelude.{◌≡◌, ℕ, suc, ◌+◌, ◌≤◌, Bool, true, false, cond, nat_lt, ◌||◌, List, [], ◌∷◌, ◌++◌, length}
 use Rattle.std.specs.Prelude.{take, drop, slice_get, ℤ, Option, None, Some, Result, Ok, Err}
 use Rattle.std.specs.Option.{option_or}
 use Rattle.std.proofs.Common.{arith, refl, ap, sym, ◌∙◌, subst}
@@ -26,10 +26,12 @@ use Rattle.perturbation.specs.declared.edits.PlaceError.{PlaceError}
 use Rattle.perturbation.specs.declared.edits.PlaceError.TheVariants as Lacks
 use Rattle.proof_tree.specs.Scratches.{FitsWalk}
 use Rattle.proof_tree.specs.Trees.{FitsColumns, FitsModel, FitsRows, PlainTree, first_from}
+use Rattle.proof_tree.specs.declared.claims.Claim.{Claim}
 use Rattle.question_text.specs.declared.questions.Question.{Question}
 use Rattle.question_text.specs.declared.questions.Question.TheVariants.{Ask, Range}
 use Rattle.sens_report.specs.declared.replies.Reply.{Reply}
-use Rattle.tree_replies.specs.Replies.{AreReplies, IsErrorOf, IsReply, first_refusal, refusal_at}
+use Rattle.tree_replies.specs.Refusals.{IsErrorOf, first_refusal, refusal_at}
+use Rattle.tree_replies.specs.Replies.{AreReplies, IsReply}
 use Rattle.tree_replies.specs.declared.refusals.QuestionError.{QuestionError}
 use Rattle.tree_replies.specs.declared.refusals.QuestionError.TheVariants as Ends
 
@@ -108,23 +110,24 @@ walk_unedited m n es s e fits = subst (λ k. FitsWalk k s) (edited_alike m n es 
 -- ---- one question
 
 -- a question with a reply is not refused
-replied_accepted : (m : Parts) (t : PlainTree) (k : ℕ) (q : Question) (r : Reply) → IsReply m t q r → refusal_at m k q ≡ None
-replied_accepted m t k (Ask es) r is = rw is.edited refl
-replied_accepted m t k (Range datum aim) r is = absurd is
+replied_accepted : (m : Parts) (c : Claim) (t : PlainTree) (k : ℕ) (q : Question) (r : Reply) → IsReply m c t q r
+    → refusal_at m c k q ≡ None
+replied_accepted m c t k (Ask es) r is = rw is.edited refl
+replied_accepted m c t k (Range datum aim) r is = rw is.asked refl
 
 -- ---- questions in order
 
 -- the first k questions have replies, and what is refused first of the others is refused first of all
-pub record AreReplied (m : Parts) (t : PlainTree) (qs : List Question) (k : ℕ) (rs : List Reply) : Type 0 where
-  pub replies : AreReplies m t (take k qs) rs
-  pub left : first_refusal m qs ≡ first_from (refusal_at m) (k + 1) (drop k qs)
+pub record AreReplied (m : Parts) (c : Claim) (t : PlainTree) (qs : List Question) (k : ℕ) (rs : List Reply) : Type 0 where
+  pub replies : AreReplies m c t (take k qs) rs
+  pub left : first_refusal m c qs ≡ first_from (refusal_at m c) (k + 1) (drop k qs)
 
-replies_more : (m : Parts) (t : PlainTree) (qs : List Question) (rs : List Reply) (q : Question) (r : Reply) → AreReplies m t qs rs
-    → IsReply m t q r → AreReplies m t (qs ++ q ∷ []) (rs ++ r ∷ [])
-replies_more m t [] [] q r before is = (is, tt)
-replies_more m t [] (s ∷ rs) q r before is = absurd before
-replies_more m t (p ∷ qs) [] q r before is = absurd before
-replies_more m t (p ∷ qs) (s ∷ rs) q r before is = (before.0, replies_more m t qs rs q r before.1 is)
+replies_more : (m : Parts) (c : Claim) (t : PlainTree) (qs : List Question) (rs : List Reply) (q : Question) (r : Reply)
+    → AreReplies m c t qs rs → IsReply m c t q r → AreReplies m c t (qs ++ q ∷ []) (rs ++ r ∷ [])
+replies_more m c t [] [] q r before is = (is, tt)
+replies_more m c t [] (s ∷ rs) q r before is = absurd before
+replies_more m c t (p ∷ qs) [] q r before is = absurd before
+replies_more m c t (p ∷ qs) (s ∷ rs) q r before is = (before.0, replies_more m c t qs rs q r before.1 is)
 
 -- the element at a place is the first of what is left there, and the last of what is taken with it
 drop_at : {A : Type 0} (xs : List A) (i : ℕ) (x : A) → slice_get xs i ≡ Some x → drop i xs ≡ x ∷ drop (i + 1) xs
@@ -136,30 +139,30 @@ drop_at xs i x e =
 take_at : {A : Type 0} (xs : List A) (i : ℕ) (x : A) → slice_get xs i ≡ Some x → take (i + 1) xs ≡ take i xs ++ x ∷ []
 take_at xs i x e = take_more xs i x (slice_get_within xs i x e) ∙ ap (λ y. take i xs ++ y ∷ []) (get_or_from_slice_get xs i x x e)
 
-pub none_replied : (m : Parts) (t : PlainTree) (qs : List Question) → AreReplied m t qs 0 []
-none_replied m t qs = record { replies = tt; left = refl }
+pub none_replied : (m : Parts) (c : Claim) (t : PlainTree) (qs : List Question) → AreReplied m c t qs 0 []
+none_replied m c t qs = record { replies = tt; left = refl }
 
-pub one_replied : (m : Parts) (t : PlainTree) (qs : List Question) (k : ℕ) (rs : List Reply) (q : Question) (r : Reply)
-    → AreReplied m t qs k rs → slice_get qs k ≡ Some q → IsReply m t q r → AreReplied m t qs (k + 1) (rs ++ r ∷ [])
-one_replied m t qs k rs q r before at is = record {
-  replies = subst (λ ps. AreReplies m t ps (rs ++ r ∷ [])) (sym (take_at qs k q at)) (replies_more m t (take k qs) rs q r
+pub one_replied : (m : Parts) (c : Claim) (t : PlainTree) (qs : List Question) (k : ℕ) (rs : List Reply) (q : Question) (r : Reply)
+    → AreReplied m c t qs k rs → slice_get qs k ≡ Some q → IsReply m c t q r → AreReplied m c t qs (k + 1) (rs ++ r ∷ [])
+one_replied m c t qs k rs q r before at is = record {
+  replies = subst (λ ps. AreReplies m c t ps (rs ++ r ∷ [])) (sym (take_at qs k q at)) (replies_more m c t (take k qs) rs q r
       before.replies is);
-  left = before.left ∙ ap (first_from (refusal_at m) (k + 1)) (drop_at qs k q at)
-      ∙ ap (λ o. option_or o (first_from (refusal_at m) (k + 1 + 1) (drop (k + 1) qs))) (replied_accepted m t (k + 1) q r is);
+  left = before.left ∙ ap (first_from (refusal_at m c) (k + 1)) (drop_at qs k q at)
+      ∙ ap (λ o. option_or o (first_from (refusal_at m c) (k + 1 + 1) (drop (k + 1) qs))) (replied_accepted m c t (k + 1) q r is);
 }
 
-pub one_refused : (m : Parts) (t : PlainTree) (qs : List Question) (k : ℕ) (rs : List Reply) (q : Question) (error : QuestionError)
-    → AreReplied m t qs k rs → slice_get qs k ≡ Some q → IsErrorOf (refusal_at m (k + 1) q) error
-    → IsErrorOf (first_refusal m qs) error
-one_refused m t qs k rs q (Ends.Refused n why) before at is =
-    before.left ∙ ap (first_from (refusal_at m) (k + 1)) (drop_at qs k q at)
-    ∙ ap (λ o. option_or o (first_from (refusal_at m) (k + 1 + 1) (drop (k + 1) qs))) is
-one_refused m t qs k rs q Ends.Memory before at is = tt
+pub one_refused : (m : Parts) (c : Claim) (t : PlainTree) (qs : List Question) (k : ℕ) (rs : List Reply) (q : Question)
+    (error : QuestionError) → AreReplied m c t qs k rs → slice_get qs k ≡ Some q → IsErrorOf (refusal_at m c (k + 1) q) error
+    → IsErrorOf (first_refusal m c qs) error
+one_refused m c t qs k rs q (Ends.Refused n why) before at is =
+    before.left ∙ ap (first_from (refusal_at m c) (k + 1)) (drop_at qs k q at)
+    ∙ ap (λ o. option_or o (first_from (refusal_at m c) (k + 1 + 1) (drop (k + 1) qs))) is
+one_refused m c t qs k rs q Ends.Memory before at is = tt
 
-pub all_replied : (m : Parts) (t : PlainTree) (qs : List Question) (k : ℕ) (rs : List Reply) → AreReplied m t qs k rs
-    → length qs ≤ k → AreReplies m t qs rs
-all_replied m t qs k rs before past = subst (λ ps. AreReplies m t ps rs) (take_all k qs past) before.replies
+pub all_replied : (m : Parts) (c : Claim) (t : PlainTree) (qs : List Question) (k : ℕ) (rs : List Reply) → AreReplied m c t qs k rs
+    → length qs ≤ k → AreReplies m c t qs rs
+all_replied m c t qs k rs before past = subst (λ ps. AreReplies m c t ps rs) (take_all k qs past) before.replies
 
-pub none_refused : (m : Parts) (t : PlainTree) (qs : List Question) (k : ℕ) (rs : List Reply) → AreReplied m t qs k rs
-    → length qs ≤ k → first_refusal m qs ≡ None
-none_refused m t qs k rs before past = before.left ∙ ap (first_from (refusal_at m) (k + 1)) (drop_all k qs past)
+pub none_refused : (m : Parts) (c : Claim) (t : PlainTree) (qs : List Question) (k : ℕ) (rs : List Reply) → AreReplied m c t qs k rs
+    → length qs ≤ k → first_refusal m c qs ≡ None
+none_refused m c t qs k rs before past = before.left ∙ ap (first_from (refusal_at m c) (k + 1)) (drop_all k qs past)

@@ -1,7 +1,8 @@
-//! What the tree of a proof replies to questions about changed models, without solving again: a reply to each question, or the first
-//! question that is refused.
+//! What a proof replies to questions about changed models, without solving again: a reply to each question, or the first question that is
+//! refused.
 #![tactic(auto)]
 
+mod asked_ranges;
 mod refusals;
 mod replies;
 

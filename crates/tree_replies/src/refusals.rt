@@ -1,19 +1,14 @@
 //! Why questions are refused.
 
-ghost use Rattle.std.specs.Prelude.{◌≡◌};
-ghost use Rattle.tree_replies.specs.declared.refusals.QuestionError.TheVariants as Ends;
-
-use ip_defs::Memory;
 use perturbation::EditError;
-use std::alloc::{AllocError, AllocFailed};
 
 /// Why a question is refused.
 #[derive(Clone, Copy, Debug, PartialEq, Eq)]
 pub enum Refusal {
-    /// An edit of the question is refused.
+    /// An edit of the question is refused. The datum and the number of a range count as edit 0.
     Edit(EditError),
-    /// The question asks for a range, and ranges are not built yet.
-    NotBuilt,
+    /// The question asks how far the best point stays the best one, and the proof claims that no point is feasible.
+    NoBest,
 }
 
 /// Why a list of questions has no replies.
@@ -23,20 +18,4 @@ pub enum QuestionError {
     Refused { question: usize, why: Refusal },
     /// Out of memory; nothing is said of the questions.
     Memory,
-}
-
-impl From<AllocError> for QuestionError {
-    ghost from_gives = { λ _ e. e ≡ Ends.Memory };
-
-    fn from(_error: AllocError) -> QuestionError {
-        QuestionError::Memory
-    }
-}
-
-impl<T: Drop> From<AllocFailed<T>> for QuestionError {
-    ghost from_gives = { λ _ e. e ≡ Ends.Memory };
-
-    fn from(_error: AllocFailed<T>) -> QuestionError {
-        QuestionError::Memory
-    }
 }

@@ -14,6 +14,9 @@ check-requires-clause-point g c = (fits_of c.args.model.now c.args.proof.now.cla
 pub answered-requires-clause-fits : goal.answered-requires-clause-fits
 answered-requires-clause-fits g c = (fits_of c.args.model.now c.args.proof.now.claim (plain c.args.proof.now.tree) c.requires.fits).1
 
+pub answered-requires-clause-point : goal.answered-requires-clause-point
+answered-requires-clause-point g c = (fits_of c.args.model.now c.args.proof.now.claim (plain c.args.proof.now.tree) c.requires.fits).0
+
 pub returns-in-Proved-clause-prepared : goal.returns-in-Proved-clause-prepared
 returns-in-Proved-clause-prepared g c =
     proved_prepared c.args.questions.now c.args.model.now c.args.proof.now.claim (plain c.args.proof.now.tree) c.check.result

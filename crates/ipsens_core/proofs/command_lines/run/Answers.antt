@@ -1,5 +1,8 @@
-use Rattle.std.proofs.Common.{ap, Err}
+use Rattle.std.specs.Prelude.{◌≡◌}
+use Rattle.std.proofs.Common.{ap, sym, ◌∙◌, subst, Err}
 use Rattle.std.specs.Prelude.{map, string_bytes}
+use Rattle.ipsens_core.specs.Accepted.{AsksAccepted}
+use Rattle.ipsens_core.proofs.AcceptedLaws.{accepted_answered}
 use Rattle.ipsens_core.proofs.RequestLaws.{asked_begun, request_ready}
 use Rattle.ipsens_core.proofs.RunLaws.{asked_meets, usage_meets}
 use Rattle.ipsens_core.proofs.command_lines.run.Goals as goal
@@ -27,3 +30,15 @@ returns-clause-unsaved g c = c.carry_out.ensures.run.unsaved
 
 pub returns-clause-begun : goal.returns-clause-begun
 returns-clause-begun g c = asked_begun _ _ _ _ c.in-Ok.ensures.request c.carry_out.ensures.run.begun
+
+pub returns-in-Err-Usage-clause-complete : goal.returns-in-Err-Usage-clause-complete
+returns-in-Err-Usage-clause-complete g c = λ q is files.
+    absurd (cc (sym is ∙ c.in-Err-Usage.ensures.usage (ap Err c.in-Err-Usage.field-0-is)))
+
+pub returns-clause-complete : goal.returns-clause-complete
+returns-clause-complete g c = λ q is files.
+    let run = c.carry_out.ensures.run in
+    let both = sym c.in-Ok.ensures.request ∙ is in
+    let same : c.in-Ok.request ≡ q = cc both in
+    accepted_answered c.in-Ok.request _ c.carry_out.result run.answer run.no_usage
+    (subst (λ p. AsksAccepted (g.S.Shelf.files c.args.shelf.now) p) (sym same) files)

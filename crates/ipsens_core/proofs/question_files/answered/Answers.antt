@@ -16,7 +16,7 @@ use Rattle.ipsens_core.proofs.question_files.answered.Goals as goal
 
 pub returns-in_ok-answer_to_text-in-Ok-clause-prepared : goal.returns-in_ok-answer_to_text-in-Ok-clause-prepared
 returns-in_ok-answer_to_text-in-Ok-clause-prepared g c =
-    let Owed = AnswersQuestions c.args.model.now (plain c.args.tree.now) in
+    let Owed = AnswersQuestions c.args.model.now c.args.proof.now.claim (plain c.args.proof.now.tree) in
     let files = g.S.Shelf.files c.args.shelf.now in
     let files_after = g.S.Shelf.files c.read_all.new.shelf in
     let made = c.in_ok-answer_to_text-in-Ok.field-0 in
@@ -33,7 +33,7 @@ returns-in_ok-answer_to_text-in-Ok-clause-prepared g c =
 
 pub returns-in_ok-too_long-in-Err-TooLong-clause-prepared : goal.returns-in_ok-too_long-in-Err-TooLong-clause-prepared
 returns-in_ok-too_long-in-Err-TooLong-clause-prepared g c =
-    let Owed = AnswersQuestions c.args.model.now (plain c.args.tree.now) in
+    let Owed = AnswersQuestions c.args.model.now c.args.proof.now.claim (plain c.args.proof.now.tree) in
     let files = g.S.Shelf.files c.args.shelf.now in
     let files_after = g.S.Shelf.files c.read_all.new.shelf in
     let made = c.in_ok-too_long-in-Err-TooLong.field-0 in

@@ -7,5 +7,5 @@ use Rattle.tree_replies.proofs.replies.replies_to.Given as goal
 abbrev pub invariant-loop-k : goal.invariant-loop-k
 invariant-loop-k l = record {
   scratch : FitsWalk (length l.model.columns) l.scratch;
-  replied : AreReplied l.model (plain l.tree) l.questions l.k l.replies.items;
+  replied : AreReplied l.model l.proof.claim (plain l.proof.tree) l.questions l.k l.replies.items;
 }

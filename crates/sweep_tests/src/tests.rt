@@ -1,0 +1,3 @@
+//! Tables of cases. The functions that a table calls make and drop what they use, and answer verdicts that are copied.
+
+mod row_proofs;

@@ -1,0 +1,5 @@
+pub mod FaultLaws
+pub mod LineLaws
+pub mod MoveLaws
+pub mod SideLaws
+pub mod SignLaws

@@ -1,0 +1,4 @@
+pub mod FitLaws
+pub mod MoveLaws
+pub mod PieceLaws
+pub mod RunLaws

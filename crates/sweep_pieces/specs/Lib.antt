@@ -1,0 +1,4 @@
+pub mod Internal
+pub mod Laws
+pub mod Pieces
+pub mod Runs

@@ -9,24 +9,23 @@ use std::alloc::{AllocError, Global};
 /// The number of rows of the model.
 const ROWS: u32 = 200;
 
-/// A certificate with a multiplier for each row, in turn positive and negative.
-fn cert(alloc: Global) -> Result<Cert, AllocError> {
-    let mut y = Vec::with_capacity(alloc, ROWS as usize)?;
-    for i in 0..ROWS {
-        let absolute_value = i64::from(i % 7) + 1;
-        y.push((
-            i,
-            if i % 2 == 0 {
-                absolute_value
-            } else {
-                -absolute_value
-            },
-        ))?;
+/// The multiplier of a row: from 1 to 7 in absolute value, in turn positive and negative.
+fn multiplier(row: u32) -> i64 {
+    let absolute_value = i64::from(row % 7) + 1;
+    if row % 2 == 0 {
+        absolute_value
+    } else {
+        -absolute_value
     }
-    Ok(Cert {
-        q: 3,
-        y: Multipliers::from_vec(y),
-    })
+}
+
+/// A certificate with a multiplier for each row.
+fn cert(alloc: Global) -> Result<Cert, AllocError> {
+    let mut y = Multipliers::from_vec(Vec::new(alloc));
+    for row in 0..ROWS {
+        y.push((row, multiplier(row)))?;
+    }
+    Ok(Cert { q: 3, y })
 }
 
 /// The bound of the certificate over the model's box, computed a number of times.

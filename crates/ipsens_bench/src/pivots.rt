@@ -21,11 +21,17 @@ fn step<L: Ledger>(tableau: &mut Tableau, row: u32, var: u32, steps: &mut Steps<
     if !tableau.has(row, var) {
         return false;
     }
+    if tableau.rest(var) == Rest::Basic || tableau.entry(row, var).num() == 0 {
+        return false;
+    }
     let basic = tableau.basic(row);
-    tableau.rest(var) != Rest::Basic
-        && tableau.entry(row, var).num() != 0
-        && tableau.can_rest(basic, Rest::Low)
-        && tableau.pivot(row, var, Rest::Low, steps).is_ok()
+    if !tableau.can_rest(basic, Rest::Low) {
+        return false;
+    }
+    match tableau.pivot(row, var, Rest::Low, steps) {
+        Ok(()) => true,
+        Err(_) => false,
+    }
 }
 
 /// A checksum of the entries.

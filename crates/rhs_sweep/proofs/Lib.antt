@@ -1,0 +1,11 @@
+pub mod BeginLaws
+pub mod ChainLaws
+pub mod CountLaws
+pub mod EndLaws
+pub mod HalfLaws
+pub mod ResultLaws
+pub mod SolveLaws
+pub mod StepLaws
+pub mod TurnLaws
+pub mod ValueLaws
+pub mod WalkLaws

@@ -3,5 +3,6 @@
 mod encodings;
 mod leaf_bounds;
 mod models;
+mod row_files;
 mod trees;
 mod verdicts;

@@ -104,11 +104,11 @@ apart a b h = by (a == b) refl
     by false e = refl
     by true e = absurd (h (eqb-true a b e))
 
-wrong_byte : (wanted start b : ℕ) (more bytes : List ℕ) (next : ℕ → List ℕ → Reading Token) → (b ≡ wanted → ⊥)
+pub wrong_byte : (wanted start b : ℕ) (more bytes : List ℕ) (next : ℕ → List ℕ → Reading Token) → (b ≡ wanted → ⊥)
     → opening_at (wanted ∷ more) start (b ∷ bytes) next ≡ stopped (Magic start)
 wrong_byte wanted start b more bytes next h = rw (opening_at, apart b wanted h) refl
 
-right_byte : (wanted start b : ℕ) (more bytes : List ℕ) (next : ℕ → List ℕ → Reading Token) → b ≡ wanted
+pub right_byte : (wanted start b : ℕ) (more bytes : List ℕ) (next : ℕ → List ℕ → Reading Token) → b ≡ wanted
     → opening_at (wanted ∷ more) start (b ∷ bytes) next ≡ opening_at more (start + 1) bytes next
 right_byte wanted start b more bytes next e = rw (opening_at, eq-eqb b wanted e) refl
 

@@ -47,7 +47,7 @@ moved r s e none = sym (ap (λ (r : Reading Token). r.fault) e) ∙ none
 
 -- ---- numbers
 
-number_taken : (g place : ℕ) (bytes : List ℕ) (next : ℕ → ℕ → List ℕ → Reading Token) → g < 2 ^ 42 → Each (λ b. b < 256) bytes
+pub number_taken : (g place : ℕ) (bytes : List ℕ) (next : ℕ → ℕ → List ℕ → Reading Token) → g < 2 ^ 42 → Each (λ b. b < 256) bytes
     → (number_at g place bytes next).fault ≡ None
     → Taken (λ n. n ≤ g) number (λ n rest. next n (place + length (number n)) rest) bytes
 number_taken g place bytes next small each none =
@@ -57,14 +57,14 @@ number_taken g place bytes next small each none =
     let read = ap (λ (bs : List ℕ). number_at g place bs next) n.is ∙ number_is_read g n.value place n.others next within small in
     record { value = n.value; fits = within; others = n.others; is = n.is; are_bytes = n.are_bytes; none = moved _ _ read none }
 
-unsigned_signed : (v : ℕ) → unsigned (signed v) ≡ v
+pub unsigned_signed : (v : ℕ) → unsigned (signed v) ≡ v
 unsigned_signed v = by (v % 2 == 0) refl
   where
     by : (t : Bool) → (v % 2 == 0) ≡ t → unsigned (signed v) ≡ v
     by true e = rw e (let even = eqb-true (v % 2) 0 e in omega arith)
     by false e = rw e (let odd = eqb-false (v % 2) 0 e in omega arith)
 
-signed_within : (m v : ℕ) → v ≤ 2 * m → unsigned_abs (signed v) ≤ m
+pub signed_within : (m v : ℕ) → v ≤ 2 * m → unsigned_abs (signed v) ≤ m
 signed_within m v l = by (v % 2 == 0) refl
   where
     by : (t : Bool) → (v % 2 == 0) ≡ t → unsigned_abs (signed v) ≤ m
@@ -116,7 +116,7 @@ coordinates_taken (suc n) place bytes next each none =
 
 -- ---- certificates
 
-join : (s t : Bool) → s ≡ true → t ≡ true → (s && t) ≡ true
+pub join : (s t : Bool) → s ≡ true → t ≡ true → (s && t) ≡ true
 join true t e f = f
 join false t e f = absurd cc
 
@@ -220,6 +220,17 @@ multipliers_taken (suc n) least place bytes next each none =
           (let l = length-append (first ++ second) third in let m = length-append first second in omega arith)) y.none;
     }
 
+divisor_test : (q : ℕ) → q ≤ 2 ^ 36 → (not (lt_z (pos q) (pos 0)) && not (lt_z (pos (2 ^ 36)) (pos q))) ≡ true
+divisor_test q l = rw (less_false (pos q) (pos 0) (omega (arith, ints)), less_false (pos (2 ^ 36)) (pos q) (omega (arith, ints))) refl
+
+-- a divisor and multipliers that may stand
+pub cert_within : (q : ℕ) (y : List (ℕ × ℤ)) → q ≤ 2 ^ 36 → rise_from 0 y ≡ true → list_all (is_multiplier 1024) y ≡ true
+    → IsCert 1024 (record { q = pos q; y = y })
+cert_within q y small rising each =
+    (cert_exact 1024 (record { q = pos q; y = y })).0
+    (join ((not (lt_z (pos q) (pos 0)) && not (lt_z (pos (2 ^ 36)) (pos q))) && rise_from 0 y) (list_all (is_multiplier 1024) y)
+    (join (not (lt_z (pos q) (pos 0)) && not (lt_z (pos (2 ^ 36)) (pos q))) (rise_from 0 y) (divisor_test q small) rising) each)
+
 cert_taken : (place : ℕ) (bytes : List ℕ) (next : ℕ → List ℕ → Reading Token) → Each (λ b. b < 256) bytes
     → (cert_at place bytes next).fault ≡ None → Taken (IsCert 1024) cert_bytes (λ c rest. next (place + length (cert_bytes c)) rest) bytes
 cert_taken place bytes next each none =
@@ -233,9 +244,7 @@ cert_taken place bytes next each none =
     let second = number (length y.value) in
     record {
       value = c;
-      fits = (cert_exact 1024 c).0 (join ((not (lt_z c.q (pos 0)) && not (lt_z (pos (2 ^ 36)) c.q)) && rise_from 0 c.y)
-          (list_all (is_multiplier 1024) c.y) (join (not (lt_z c.q (pos 0)) && not (lt_z (pos (2 ^ 36)) c.q)) (rise_from 0 c.y)
-          (divisor_test q.value q.fits) y.fits.rising) y.fits.each);
+      fits = cert_within q.value y.value q.fits y.fits.rising y.fits.each;
       others = y.others;
       is = q.is ∙ ap (λ (bs : List ℕ). first ++ bs)
           (n.is ∙ ap (λ (bs : List ℕ). bs ++ n.others) (sym size) ∙ ap (λ (bs : List ℕ). second ++ bs) y.is)
@@ -245,9 +254,6 @@ cert_taken place bytes next each none =
           (let l = length-append (first ++ second) third in let m = length-append first second in
           let s = ap (λ (bs : List ℕ). length bs) size in omega arith)) y.none;
     }
-  where
-    divisor_test : (q : ℕ) → q ≤ 2 ^ 36 → (not (lt_z (pos q) (pos 0)) && not (lt_z (pos (2 ^ 36)) (pos q))) ≡ true
-    divisor_test q l = rw (less_false (pos q) (pos 0) (omega (arith, ints)), less_false (pos (2 ^ 36)) (pos q) (omega (arith, ints))) refl
 
 -- ---- trees
 
@@ -273,12 +279,12 @@ split_taken place bytes next each none =
     }
 
 -- a tree within the limits, after some nodes
-record IsTree (levels nodes : ℕ) (t : PlainTree) : Type 0 where
-  deep : depth t < levels
-  count : nodes + node_count t ≤ 1000000
-  numbers : AreNumbersWithin t
+pub record IsTree (levels nodes : ℕ) (t : PlainTree) : Type 0 where
+  pub deep : depth t < levels
+  pub count : nodes + node_count t ≤ 1000000
+  pub numbers : AreNumbersWithin t
 
-abbrev TreeTaken : ℕ → ℕ → ℕ → List ℕ → (ℕ → ℕ → List ℕ → Reading Token) → Type 0
+abbrev pub TreeTaken : ℕ → ℕ → ℕ → List ℕ → (ℕ → ℕ → List ℕ → Reading Token) → Type 0
 TreeTaken levels nodes place bytes next =
     Taken (IsTree levels nodes) tree_bytes (λ t rest. next (nodes + node_count t) (place + length (tree_bytes t)) rest) bytes
 
@@ -296,7 +302,7 @@ leaf_taken k nodes place b bytes next each few e none =
       none = moved _ _ (ap (λ (q : ℕ). next (nodes + 1) q c.others) (omega arith)) c.none;
     }
 
-abbrev AreTaken : ℕ → Type 0
+abbrev pub AreTaken : ℕ → Type 0
 AreTaken levels = (nodes place : ℕ) (bytes : List ℕ) (next : ℕ → ℕ → List ℕ → Reading Token) → Each (λ b. b < 256) bytes
     → (tree_at levels nodes place bytes next).fault ≡ None → TreeTaken levels nodes place bytes next
 
@@ -353,7 +359,7 @@ kind_leaf b = by_kind (λ k. k ≡ leaf_kind → b ≡ 76) b 76 83 leaf_kind spl
 kind_split : (b : ℕ) → node_kind b ≡ split_kind → b ≡ 83
 kind_split b = by_kind (λ k. k ≡ split_kind → b ≡ 83) b 76 83 leaf_kind split_kind no_kind (λ e h. absurd cc) (λ e h. e) (λ h. absurd cc)
 
-tree_taken : (levels : ℕ) → AreTaken levels
+pub tree_taken : (levels : ℕ) → AreTaken levels
 tree_taken zero nodes place [] next each none = absurd cc
 tree_taken zero nodes place (b ∷ bytes) next each none = by (nat_lt nodes 1000000) refl
   where
@@ -384,7 +390,7 @@ kind_of_emptiness : (b : ℕ) → claim_kind b ≡ of_emptiness → b ≡ 69
 kind_of_emptiness b =
     by_kind (λ k. k ≡ of_emptiness → b ≡ 69) b 66 69 of_point of_emptiness of_neither (λ e h. absurd cc) (λ e h. e) (λ h. absurd cc)
 
-abbrev ClaimTaken : ℕ → List ℕ → (ℕ → List ℕ → Reading Token) → Type 0
+abbrev pub ClaimTaken : ℕ → List ℕ → (ℕ → List ℕ → Reading Token) → Type 0
 ClaimTaken place bytes next = Taken IsClaimWithin claim_bytes (λ c rest. next (place + length (claim_bytes c)) rest) bytes
 
 point_taken : (place b : ℕ) (bytes : List ℕ) (next : ℕ → List ℕ → Reading Token) → Each (λ b. b < 256) bytes → b ≡ 66
@@ -409,7 +415,7 @@ point_taken place b bytes next each e none =
           let s = ap (λ (bs : List ℕ). length bs) size in omega arith)) x.none;
     }
 
-claim_taken : (place : ℕ) (bytes : List ℕ) (next : ℕ → List ℕ → Reading Token) → Each (λ b. b < 256) bytes
+pub claim_taken : (place : ℕ) (bytes : List ℕ) (next : ℕ → List ℕ → Reading Token) → Each (λ b. b < 256) bytes
     → (claim_at place bytes next).fault ≡ None → ClaimTaken place bytes next
 claim_taken place [] next each none = absurd cc
 claim_taken place (b ∷ bytes) next each none = by (claim_kind b) refl
@@ -426,7 +432,7 @@ claim_taken place (b ∷ bytes) next each none = by (claim_kind b) refl
     }
     by of_neither f = absurd (let no : Some (faults.Tag place) ≡ None = rw (claim_at, f) at none in cc)
 
-opening_taken : (wanted : List ℕ) (place : ℕ) (bytes : List ℕ) (next : ℕ → List ℕ → Reading Token) → Each (λ b. b < 256) bytes
+pub opening_taken : (wanted : List ℕ) (place : ℕ) (bytes : List ℕ) (next : ℕ → List ℕ → Reading Token) → Each (λ b. b < 256) bytes
     → (opening_at wanted place bytes next).fault ≡ None
     → Taken {A = Unit {0}} (λ u. Unit {0}) (λ u. wanted) (λ u rest. next (place + length wanted) rest) bytes
 opening_taken [] place bytes next each none = record {

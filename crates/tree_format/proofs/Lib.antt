@@ -12,3 +12,14 @@ pub mod StretchLaws
 pub mod DecodingLaws
 pub mod Examples
 pub mod StandLaws
+pub mod RowLimitLaws
+pub mod NumberStepLaws
+pub mod ClaimStepLaws
+pub mod CertStepLaws
+pub mod TreeStepLaws
+pub mod RowSpellingLaws
+pub mod RowUniqueLaws
+pub mod RowStepLaws
+pub mod RowWriteLaws
+pub mod RowReadLaws
+pub mod RowExamples

@@ -2,3 +2,4 @@
 pub mod Fields
 pub mod Remaining
 pub mod Stretches
+pub mod Steps

@@ -4,4 +4,7 @@ pub mod Spellings
 pub mod Grammar
 pub mod Orders
 pub mod Laws
+pub mod RowSpellings
+pub mod RowGrammar
+pub mod RowLaws
 pub mod Internal

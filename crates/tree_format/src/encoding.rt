@@ -45,7 +45,7 @@ fn push_cert(out: &mut Vec<u8>, cert: &Cert) -> Result<(), Memory>
 }
 
 /// Writes a tree at the end.
-fn push_tree(out: &mut Vec<u8>, tree: &Tree) -> Result<(), Memory>
+pub(crate) fn push_tree(out: &mut Vec<u8>, tree: &Tree) -> Result<(), Memory>
     requires { AreNumbersWithin (plain tree.now) }
     ensures { OnOk result (out.new.items ≡ out.old.items ++ tree_bytes (plain tree.now)) }
 {
@@ -81,7 +81,7 @@ fn push_coordinates(out: &mut Vec<u8>, point: &[i64]) -> Result<(), Memory>
 }
 
 /// Writes a claim at the end.
-fn push_claim(out: &mut Vec<u8>, claim: &Claim) -> Result<(), Memory>
+pub(crate) fn push_claim(out: &mut Vec<u8>, claim: &Claim) -> Result<(), Memory>
     requires { IsClaimWithin claim.now }
     ensures { OnOk result (out.new.items ≡ out.old.items ++ claim_bytes claim.now) }
 {

@@ -13,7 +13,7 @@ use crate::{Token, TreeError};
 const OPENING: [u8; 5] = [0x49, 0x50, 0x53, 0x54, 0x01];
 
 /// The most nodes of a tree.
-const MOST_NODES: u32 = 1_000_000;
+pub(crate) const MOST_NODES: u32 = 1_000_000;
 
 /// The place after some bytes of a field.
 fn place_after(start: u64, read: u32) -> u64

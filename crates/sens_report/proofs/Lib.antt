@@ -1,3 +1,4 @@
 pub mod AnswerExamples
 pub mod LineLaws
 pub mod ReplyExamples
+pub mod SweepExamples

@@ -20,7 +20,7 @@ fn fixed_text(alloc: Global, text: &str) -> Result<String, Memory>
 }
 
 /// The line of a count, after its word.
-fn count_line(alloc: Global, word: &str, count: u32) -> Result<String, AllocError>
+pub fn count_line(alloc: Global, word: &str, count: u32) -> Result<String, AllocError>
     ensures { IfOk result (λ s. string_bytes s ≡ word.now ++ decimal count ++ newline) }
 {
     format!(in alloc; "{word}{count}\n")
@@ -61,7 +61,7 @@ fn best_text(alloc: Global, model: &IntModel, best: &Option<Point>) -> Result<St
 }
 
 /// The line of the limit that stopped a search.
-fn limit_stop_text(alloc: Global, what: BudgetWhat) -> Result<String, Memory>
+pub fn limit_stop_text(alloc: Global, what: BudgetWhat) -> Result<String, Memory>
     ensures { IfOk result (λ s. string_bytes s ≡ codes "budget " ++ limit_word what ++ newline) }
 {
     match what {

@@ -3,7 +3,7 @@
 ghost use Rattle.std.specs.Prelude.{◌≡◌, ◌++◌, IfOk, codes, string_bytes};
 ghost use Rattle.mps_defs.specs.CanonicalText.{newline};
 ghost use Rattle.sens_report.specs.AmountTexts.{amount_text as text_of_amount, bound_text as text_of_bound};
-ghost use Rattle.sens_report.specs.VerdictTexts.{breach_text, column_name as name_of_column, row_name as name_of_row};
+ghost use Rattle.sens_report.specs.VerdictTexts.{breach_text as text_of_breach, column_name as name_of_column, row_name as name_of_row};
 ghost use Rattle.sens_report.specs.VerdictTexts.{verdict_line as line_of_verdict};
 
 use crate::amount_texts::{amount_text, bound_text};
@@ -32,20 +32,29 @@ fn row_name(parts: &Parts, row: u32) -> &str
     }
 }
 
-/// The line of a claimed point that breaks a column or a row.
-fn breach_line(alloc: Global, parts: &Parts, breach: Breach) -> Result<String, AllocError>
-    ensures { IfOk result (λ s. string_bytes s ≡ codes "not proved " ++ breach_text parts.now breach ++ newline) }
+/// The column or the row that a claimed point breaks.
+pub fn breach_text(alloc: Global, parts: &Parts, breach: Breach) -> Result<String, AllocError>
+    ensures { IfOk result (λ s. string_bytes s ≡ text_of_breach parts.now breach) }
 {
     match breach {
         Breach::Column(column) => {
             let name = column_name(parts, column);
-            format!(in alloc; "not proved column {name}\n")
+            format!(in alloc; "column {name}")
         }
         Breach::Row(row) => {
             let name = row_name(parts, row);
-            format!(in alloc; "not proved row {name}\n")
+            format!(in alloc; "row {name}")
         }
     }
+}
+
+/// The line of a claimed point that breaks a column or a row.
+fn breach_line(alloc: Global, parts: &Parts, breach: Breach) -> Result<String, AllocError>
+    ensures { IfOk result (λ s. string_bytes s ≡ codes "not proved " ++ text_of_breach parts.now breach ++ newline) }
+{
+    let breach = breach_text(alloc, parts, breach)?;
+    let breach = breach.as_str();
+    format!(in alloc; "not proved {breach}\n")
 }
 
 /// The line of a claim that is proved.

@@ -106,7 +106,7 @@ abbrev pub tree_choice : Choice
 tree_choice = choice (codes "--tree") Name true
 
 abbrev pub proof_choice : Choice
-proof_choice = choice (codes "--proof") Name false
+proof_choice = choice (codes "--proof") Name true
 
 -- how a model is read: the least decimals of its units, and the side that an absent bound gets
 abbrev pub reading_choices : List Choice
@@ -132,10 +132,10 @@ abbrev pub ask : Command
 ask = command (codes "ask") (Name ∷ Name ∷ Name ∷ []) reading_choices true ask_request
 
 abbrev pub sweep : Command
-sweep = command (codes "sweep") (Name ∷ Name ∷ []) (proof_choice ∷ search_choices) false sweep_request
+sweep = command (codes "sweep") (Name ∷ Name ∷ []) (proof_choice ∷ search_choices) true sweep_request
 
 abbrev pub recheck : Command
-recheck = command (codes "recheck") (Name ∷ Name ∷ Name ∷ []) reading_choices false recheck_request
+recheck = command (codes "recheck") (Name ∷ Name ∷ Name ∷ []) reading_choices true recheck_request
 
 abbrev pub show : Command
 show = command (codes "show") (Name ∷ []) reading_choices true show_request

@@ -45,7 +45,7 @@ const TREE: Choice = Choice {
 const PROOF: Choice = Choice {
     word: "--proof",
     value: Kind::Name,
-    built: false,
+    built: true,
 };
 
 /// An option that is built, whose value is a number from the second to the third.
@@ -122,8 +122,13 @@ impl Command {
         ensures { result ≡ (command_row self).built }
     {
         match self {
-            Command::Solve | Command::Check | Command::Ask | Command::Show => true,
-            Command::Sweep | Command::Recheck | Command::Trial => false,
+            Command::Solve
+            | Command::Check
+            | Command::Ask
+            | Command::Sweep
+            | Command::Recheck
+            | Command::Show => true,
+            Command::Trial => false,
         }
     }
 }

@@ -36,7 +36,7 @@ use Rattle.ipsens_core.specs.declared.statuses.Status.{Status}
 use Rattle.ipsens_core.specs.declared.statuses.Status.TheVariants.{Answered, NotProved, Usage, Refused, Budget, Wide, ReadFault}
 use Rattle.ipsens_core.specs.declared.statuses.Status.TheVariants.{WriteFault, Memory}
 use Rattle.ipsens_core.proofs.CheckLaws.{judged_is}
-use Rattle.ipsens_core.proofs.RunLaws.{is_within}
+use Rattle.ipsens_core.proofs.FileLaws.{is_within}
 
 -- ---- one file
 

@@ -54,8 +54,10 @@ use Rattle.ipsens_core.specs.declared.statuses.Status.{Status}
 use Rattle.ipsens_core.specs.declared.statuses.Status.TheVariants.{Answered, NotProved, Refused}
 use Rattle.ipsens_core.proofs.CheckLaws.{judged_is}
 use Rattle.ipsens_core.proofs.FeedLaws.{tree_too_long}
-use Rattle.ipsens_core.proofs.ReadLaws.{agrees_more, none_read, HasLongFile}
-use Rattle.ipsens_core.proofs.RunLaws.{is_above, is_within, made_prepared, prepared_then}
+use Rattle.ipsens_core.specs.Internal.Files.{IsFileTooLong}
+use Rattle.ipsens_core.proofs.ReadLaws.{agrees_more, none_read}
+use Rattle.ipsens_core.proofs.FileLaws.{is_above, is_within}
+use Rattle.ipsens_core.proofs.RunLaws.{made_prepared, prepared_then}
 
 -- ---- the tree file
 
@@ -230,7 +232,7 @@ questions_owed name bytes Owed before after a agrees short owed = record {
 
 -- so is the refusal of one that is too long
 pub long_questions_owed : (name : List ℕ) (Owed : List Question → Answer → Type 0) (before after : Option Files)
-    → HasLongFile before after name longest_questions
+    → IsFileTooLong before after name longest_questions
     → IsOwed (ReadsQuestions name Owed) before after (refuses_questions (codes "too long"))
 long_questions_owed name Owed before after long = record {
   reads = (name, long.bytes) ∷ [];

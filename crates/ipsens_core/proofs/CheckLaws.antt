@@ -20,7 +20,7 @@ use Rattle.ipsens_core.specs.Internal.TreeFiles.{IsTreeRead, IsTreeTooLong, answ
 use Rattle.ipsens_core.specs.Runs.{IsOwed}
 use Rattle.ipsens_core.specs.Trees.{longest_tree, refuses_tree}
 use Rattle.ipsens_core.specs.declared.statuses.Status.TheVariants.{Answered}
-use Rattle.ipsens_core.proofs.RunLaws.{is_above, is_within}
+use Rattle.ipsens_core.proofs.FileLaws.{is_above, is_within}
 
 -- status 0 is that of a verdict which says proved
 status_says : (v : Verdict) → verdict_status v ≡ Answered → IsProvedVerdict v

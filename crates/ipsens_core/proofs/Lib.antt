@@ -2,6 +2,8 @@ pub mod AcceptedLaws
 pub mod AskLaws
 pub mod CheckLaws
 pub mod FeedLaws
+pub mod FileLaws
+pub mod ModelLaws
 pub mod ReadLaws
 pub mod RefusalLaws
 pub mod RequestLaws
@@ -9,3 +11,7 @@ pub mod RunLaws
 pub mod SendLaws
 pub mod ShowLaws
 pub mod SolveLaws
+pub mod SweepFileLaws
+pub mod SweepLaws
+pub mod SweepProofLaws
+pub mod WithoutLaws

@@ -5,6 +5,7 @@ use Rattle.std.specs.Option.{MatchOption}
 use Rattle.std.proofs.lemmas.List.{append-nil, length-replicate}
 use Rattle.ips_io.specs.Files.{Began, BeganFirst, Files, Keeps, Names, file_of}
 use Rattle.ips_io.specs.Shelves.{IsTooLong, BecomesUnknown, IsWhole}
+use Rattle.ipsens_core.specs.Internal.Files.{IsFileTooLong}
 use Rattle.ipsens_core.specs.Reads.{Agrees, AreOf, Reads}
 
 -- one file that was read whole
@@ -35,18 +36,13 @@ agrees_more (Some t) mid after r rs one more = by (file_of t r.0) one
     by None e = subst (λ u. Agrees u after rs) e more
     by (Some bytes) p = (p.0, subst (λ u. Agrees u after rs) p.1 more)
 
--- a file that is too long
-pub record HasLongFile (before after : Option Files) (name : List ℕ) (most : ℕ) : Type 0 where
-  pub bytes : List ℕ
-  pub long : most < length bytes
-  pub agrees : Agrees before after ((name, bytes) ∷ [])
-
 longer : (n : ℕ) → n < length {A = ℕ} (replicate (n + 1) 0)
 longer n = let e : length {A = ℕ} (replicate (n + 1) 0) ≡ n + 1 = length-replicate (n + 1) 0 in rw e (omega arith)
 
+-- a file that is too long
 pub long_read : (before after : Option Files) (name : List ℕ) (most : ℕ) → Keeps before after → BecomesUnknown before after name →
     IsTooLong after name most
-    → HasLongFile before after name most
+    → IsFileTooLong before after name most
 long_read before None name most keeps unknown long =
     record {
       bytes = replicate (most + 1) 0;

@@ -25,8 +25,8 @@ pub request_ready : (q : Request) → AreInRange q → IsBuilt q → IsReady q
 request_ready (Solve model tree nodes depth pivots digits box_side) ranges built = (ranges.2, ranges.3)
 request_ready (Check model tree digits box_side) ranges built = ranges.2
 request_ready (Ask model tree questions digits box_side) ranges built = ranges.3
-request_ready (Sweep model sweep proof nodes depth pivots digits box_side) ranges built = absurd (cc built.0)
-request_ready (Recheck model sweep proof digits box_side) ranges built = absurd (cc built)
+request_ready (Sweep model sweep proof nodes depth pivots digits box_side) ranges built = (ranges.3, ranges.4)
+request_ready (Recheck model sweep proof digits box_side) ranges built = ranges.3
 request_ready (Show model digits box_side) ranges built = ranges.1
 request_ready (Trial number) ranges built = absurd (cc built)
 
@@ -42,8 +42,10 @@ how_ready (Solve model tree nodes depth pivots digits box_side) name how ready i
 how_ready (Check model tree digits box_side) name how ready is = same_file (model, reading digits box_side) (name, how) is ready
 how_ready (Ask model tree questions digits box_side) name how ready is =
     same_file (model, reading digits box_side) (name, how) is ready
-how_ready (Sweep model sweep proof nodes depth pivots digits box_side) name how ready is = absurd ready
-how_ready (Recheck model sweep proof digits box_side) name how ready is = absurd ready
+how_ready (Sweep model sweep proof nodes depth pivots digits box_side) name how ready is =
+    same_file (model, reading digits box_side) (name, how) is ready.1
+how_ready (Recheck model sweep proof digits box_side) name how ready is =
+    same_file (model, reading digits box_side) (name, how) is ready
 how_ready (Show model digits box_side) name how ready is = same_file (model, reading digits box_side) (name, how) is ready
 how_ready (Trial number) name how ready is = absurd ready
 

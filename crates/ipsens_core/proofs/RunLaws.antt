@@ -1,146 +1,28 @@
 -- What the outside of a call shows, from what reading, answering and writing say.
-use Rattle.std.specs.Prelude.{◌≡◌, ◌≢◌, ◌⊎◌, ℕ, ◌<◌, ◌≤◌, nat_lt, Bool, true, false, List, [], ◌∷◌, length, Option, Some, None}
-use Rattle.std.specs.Prelude.{Result, Ok, Err, IfOk, codes}
-use Rattle.std.specs.Option.{MatchOption}
-use Rattle.std.specs.Bool.{MatchBool}
-use Rattle.std.proofs.Common.{refl, arith, ap, sym, ◌∙◌, subst, inl, inr}
-use Rattle.std.proofs.lemmas.Bool.Decides.{nat_tests}
-use Rattle.ip_defs.specs.declared.programs.Parts.{Parts}
+use Rattle.std.specs.Prelude.{◌≡◌, ◌≢◌, ◌⊎◌, ℕ, List, [], Option, Some, None, Result, Ok, Err, IfOk}
+use Rattle.std.proofs.Common.{refl, sym, ◌∙◌, subst, inl, inr}
 use Rattle.ips_io.specs.Causes.{Rose}
 use Rattle.ips_io.specs.Files.{Files, Keeps}
 use Rattle.ips_words.specs.Commands.{Word, request_of}
 use Rattle.ips_words.specs.Requests.{usage_text}
 use Rattle.ips_words.specs.declared.requests.Request.{Request}
-use Rattle.mps_defs.specs.Faults.{IsFirst, mps_fault, model_of}
-use Rattle.mps_defs.specs.declared.reading.How.{How}
-use Rattle.mps_defs.specs.declared.reading.MpsError.{MpsError}
-use Rattle.mps_defs.specs.declared.reading.MpsError.TheVariants as Out
 use Rattle.ipsens_core.specs.Answers.{Answer, says, ReadsNoMore}
-use Rattle.ipsens_core.specs.Models.{ReadsModel, longest_model, refuses_model}
-use Rattle.ipsens_core.specs.Reads.{Reads, Agrees}
-use Rattle.ipsens_core.specs.ModelRefusals.{refusal_text}
+use Rattle.ipsens_core.specs.Reads.{Reads}
 use Rattle.ipsens_core.specs.Runs.{Outside, shows, IsOwed, IsAnswered, IsCutOff, IsRunOf, RunMeets, AnswersRequest}
 use Rattle.ipsens_core.specs.Runs.{HasCauses, IsUntouched, OneRose}
-use Rattle.ipsens_core.specs.Internal.Made.{IsWritten, IsMade, IsModelRead, IsModelText, IsModelFile, IsFileRefused, IsRefusalOf}
-use Rattle.ipsens_core.specs.Internal.Made.{IsPrepared, answer_of}
+use Rattle.ipsens_core.specs.Internal.Made.{IsMade, IsPrepared, IsWritten, answer_of}
 use Rattle.ipsens_core.specs.Internal.Writes.{Delivers, IsSent, IsStill, Writes}
 use Rattle.ipsens_core.specs.declared.answers.Made.{Made}
 use Rattle.ipsens_core.specs.declared.answers.Stop.{Stop}
 use Rattle.ipsens_core.specs.declared.answers.Stop.TheVariants as Stops
-use Rattle.ipsens_core.specs.declared.models.NoModel.{NoModel}
-use Rattle.ipsens_core.specs.declared.models.NoModel.TheVariants as No
 use Rattle.ipsens_core.specs.declared.statuses.Status.{Status}
 use Rattle.ipsens_core.specs.declared.statuses.Status.TheVariants.{Answered, NotProved, Usage, Refused, Budget, Wide, ReadFault}
 use Rattle.ipsens_core.specs.declared.statuses.Status.TheVariants.{WriteFault, Memory}
-use Rattle.ipsens_core.proofs.ReadLaws.{agrees_more, none_read, HasLongFile}
-
--- ---- the model file
-
-pub is_above : (n m : ℕ) → n < m → nat_lt n m ≡ true
-is_above n m h = grind (arith, nat_tests)
-
-pub is_within : (n m : ℕ) → m ≤ n → nat_lt n m ≡ false
-is_within n m h = grind (arith, nat_tests)
-
--- what is owed where the model file is refused is owed whatever a command owes to models
-refused_text : (bytes : List ℕ) (how : How) (Rest : Parts → Reads → Answer → Type 0) (rs : Reads) (a : Answer) (o : Option MpsError)
-    → MatchOption o ⊥ (λ e. ReadsNoMore (λ b. b ≡ refuses_model (refusal_text e)) rs a)
-    → MatchOption o (Rest (model_of bytes how) rs a) (λ e. ReadsNoMore (λ b. b ≡ refuses_model (refusal_text e)) rs a)
-refused_text bytes how Rest rs a None h = absurd h
-refused_text bytes how Rest rs a (Some e) h = h
-
-refused_file : (name : List ℕ) (how : How) (Rest : Parts → Reads → Answer → Type 0) (rs : Reads) (a : Answer) →
-    ReadsModel name how (λ m rs a. ⊥) rs a → ReadsModel name how Rest rs a
-refused_file name how Rest [] a h = h
-refused_file name how Rest (r ∷ rs) a h = (h.0, by (nat_lt longest_model (length r.1)) h.1)
-  where
-    by : (t : Bool)
-        → MatchBool t ((rs ≡ []) × (a ≡ refuses_model (codes "too long"))) (MatchOption (mps_fault r.1 how) ⊥
-        (λ e. ReadsNoMore (λ b. b ≡ refuses_model (refusal_text e)) rs a))
-        → MatchBool t ((rs ≡ []) × (a ≡ refuses_model (codes "too long"))) (MatchOption (mps_fault r.1 how) (Rest (model_of r.1 how) rs a)
-        (λ e. ReadsNoMore (λ b. b ≡ refuses_model (refusal_text e)) rs a))
-    by true g = g
-    by false g = refused_text r.1 how Rest rs a (mps_fault r.1 how) g
-
-pub refused_more : (name : List ℕ) (how : How) (Rest : Parts → Reads → Answer → Type 0) (before after : Option Files) (text : List ℕ)
-    → IsFileRefused before after name how text → IsOwed (ReadsModel name how Rest) before after (says Refused text)
-refused_more name how Rest before after text owed =
-    record { reads = owed.reads; agrees = owed.agrees; run = refused_file name how Rest owed.reads (says Refused text) owed.run }
-
--- the file is too long
-pub long_refused : (name : List ℕ) (how : How) (before after : Option Files) (no_model : NoModel) →
-    HasLongFile before after name longest_model
-    → IsRefusalOf (codes "too long") no_model → IsModelFile before after name how (Err no_model)
-long_refused name how before after (No.Refused text) long is =
-    record {
-      reads = (name, long.bytes) ∷ [];
-      agrees = long.agrees;
-      run = (refl, rw (is_above longest_model (length long.bytes) long.long) (refl, ap (says Refused) is));
-    }
-long_refused name how before after No.ReadFault long is = absurd is
-long_refused name how before after No.Memory long is = tt
-
--- the file was read, and its text is understood or refused
-pub text_read : (name bytes : List ℕ) (how : How) (before after : Option Files) (result : Result Parts NoModel) →
-    Agrees before after ((name, bytes) ∷ [])
-    → length bytes ≤ longest_model → IsModelText bytes how result → IsModelFile before after name how result
-text_read name bytes how before after (Ok m) agrees short is = record {
-  bytes = bytes;
-  agrees = agrees;
-  short = short;
-  sound = is.0;
-  model = is.1;
-}
-text_read name bytes how before after (Err (No.Refused text)) agrees short is =
-    record {
-      reads = (name, bytes) ∷ [];
-      agrees = agrees;
-      run =
-          (refl, rw (is_within longest_model (length bytes) short) (rw is.1 (refl, ap (says Refused) is.2)));
-    }
-text_read name bytes how before after (Err No.ReadFault) agrees short is = tt
-text_read name bytes how before after (Err No.Memory) agrees short is = tt
-
--- what a command owes to the model and to the files after it is owed to the model file and those
-pub model_owed : (name : List ℕ) (how : How) (Rest : Parts → Reads → Answer → Type 0) (before mid after : Option Files) (m : Parts)
-    (a : Answer) → IsModelRead before mid name how m → IsOwed (Rest m) mid after a → IsOwed (ReadsModel name how Rest) before after a
-model_owed name how Rest before mid after m a read owed =
-    record {
-      reads = (name, read.bytes) ∷ owed.reads;
-      agrees = agrees_more before mid after (name, read.bytes) owed.reads read.agrees owed.agrees;
-      run = (
-        refl,
-        rw (is_within longest_model (length read.bytes) read.short) (rw read.sound (subst (λ n. Rest n owed.reads a) read.model owed.run)),
-      );
-    }
+use Rattle.ipsens_core.proofs.ReadLaws.{none_read}
 
 -- what is owed where no further file is read
 pub no_more_owed : (Owed : Answer → Type 0) (table : Option Files) (a : Answer) → Owed a → IsOwed (ReadsNoMore Owed) table table a
 no_more_owed Owed table a owed = record { reads = []; agrees = none_read table; run = (refl, owed) }
-
--- an error that is not want of memory is the first fault
-pub named_first : (o : Option MpsError) (e : MpsError) → IsFirst o e → (e ≡ Out.Memory → ⊥) → o ≡ Some e
-named_first o Out.NotUtf8 h some = h
-named_first o (Out.SectionOrder a) h some = h
-named_first o (Out.UnknownSection a) h some = h
-named_first o (Out.FieldCount a) h some = h
-named_first o (Out.RowKind a) h some = h
-named_first o (Out.TwiceRow a) h some = h
-named_first o (Out.UnknownRow a) h some = h
-named_first o (Out.SplitColumn a) h some = h
-named_first o (Out.TwiceEntry a) h some = h
-named_first o (Out.Number a) h some = h
-named_first o (Out.Marker a) h some = h
-named_first o (Out.BoundKind a) h some = h
-named_first o (Out.UnknownColumn a) h some = h
-named_first o (Out.Continuous a) h some = h
-named_first o (Out.NoBound a b) h some = h
-named_first o (Out.NegativeUpper a) h some = h
-named_first o (Out.Limit a) h some = h
-named_first o Out.NoObjective h some = h
-named_first o Out.NoEnd h some = h
-named_first o (Out.Digits a) h some = h
-named_first o Out.Memory h some = absurd (some refl)
 
 -- ---- delivered answers
 
@@ -263,15 +145,6 @@ prepared_then Rest Whole before mid after f f' f'' s s' s'' result more keeps sa
     by : (r : Result Made Stop) → IfOk r (IsMade Rest mid after) → IfOk r (IsMade Whole before after)
     by (Ok made) is = record { written = is.written; owed = more (answer_of made) is.owed }
     by (Err e) is = tt
-
--- the model file was read, then an answer to the model was made of the files after it
-pub prepared_more : (name : List ℕ) (how : How) (Rest : Parts → Reads → Answer → Type 0) (before mid after : Option Files)
-    (f f' f'' s s' s'' : ℕ) (m : Parts) (result : Result Made Stop)
-    → IsModelRead before mid name how m → Keeps before mid → f' ≡ f → s' ≡ s → IsPrepared (Rest m) mid after f' f'' s' s'' result
-    → IsPrepared (ReadsModel name how Rest) before after f f'' s s'' result
-prepared_more name how Rest before mid after f f' f'' s s' s'' m result read keeps same saves ready =
-    prepared_then (Rest m) (ReadsModel name how Rest) before mid after f f' f'' s s' s'' result
-    (λ a owed. model_owed name how Rest before mid after m a read owed) keeps same saves ready
 
 -- ---- from a request to the words of it
 

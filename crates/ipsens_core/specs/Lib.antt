@@ -1,6 +1,7 @@
 pub mod Statuses
 pub mod Reads
 pub mod ModelRefusals
+pub mod Refusals
 pub mod Answers
 pub mod Models
 pub mod Solve
@@ -11,6 +12,10 @@ pub mod Check
 pub mod QuestionRefusals
 pub mod Questions
 pub mod Ask
+pub mod SweepFiles
+pub mod SweepProofFiles
+pub mod Recheck
+pub mod Sweep
 pub mod Accepted
 pub mod Runs
 pub mod Internal

@@ -2,6 +2,7 @@
 use Rattle.std.specs.Prelude.{ℕ, List, [], ◌++◌, codes, decimal}
 use Rattle.mps_defs.specs.CanonicalText.{newline}
 use Rattle.ipsens_core.specs.ModelRefusals.{on_line}
+use Rattle.ipsens_core.specs.Refusals.{refused}
 use Rattle.perturbation.specs.declared.edits.EditError.{EditError}
 use Rattle.perturbation.specs.declared.edits.EditError.TheVariants.{UnknownName, OffGrid, Limit, NoSide, Memory}
 use Rattle.question_text.specs.declared.errors.TextError.{TextError}
@@ -21,7 +22,7 @@ text_fault (faults.Interval n) = codes "Q5" ++ on_line n
 text_fault faults.Memory = []
 
 abbrev pub refused_questions : List ℕ → List ℕ
-refused_questions why = codes "refused questions " ++ why ++ newline
+refused_questions why = refused (codes "questions") why
 
 -- ---- a question
 

@@ -10,8 +10,10 @@ use Rattle.ipsens_core.specs.Reads.{Reads, Agrees}
 use Rattle.ipsens_core.specs.Ask.{AnswersAsk}
 use Rattle.ipsens_core.specs.Check.{AnswersCheck}
 use Rattle.ipsens_core.specs.Models.{ReadsModel, reading}
+use Rattle.ipsens_core.specs.Recheck.{AnswersRecheck}
 use Rattle.ipsens_core.specs.Show.{AnswersShow}
 use Rattle.ipsens_core.specs.Solve.{AnswersSolve}
+use Rattle.ipsens_core.specs.Sweep.{AnswersSweep}
 use Rattle.ips_words.specs.Commands.{Word, request_of}
 use Rattle.ips_words.specs.Requests.{AreLimits, IsReading, usage_text}
 use Rattle.ips_words.specs.declared.requests.Request.{Request}
@@ -32,13 +34,13 @@ model_file (Recheck model sweep proof digits box_side) = Some (model, reading di
 model_file (Show model digits box_side) = Some (model, reading digits box_side)
 model_file (Trial number) = None
 
--- what a command owes to its model and to the files after it: a line for each command that is built. No words ask for the others
+-- what a command owes to its model and to the files after it: a line for each command that is built. No words ask for the other
 abbrev pub AnswersModel : Request → Parts → Reads → Answer → Type 0
 AnswersModel (Solve model tree nodes depth pivots digits box_side) m = AnswersSolve tree nodes depth pivots m
 AnswersModel (Check model tree digits box_side) m = AnswersCheck tree m
 AnswersModel (Ask model tree questions digits box_side) m = AnswersAsk tree questions m
-AnswersModel (Sweep model sweep proof nodes depth pivots digits box_side) m = λ rs a. ⊥
-AnswersModel (Recheck model sweep proof digits box_side) m = λ rs a. ⊥
+AnswersModel (Sweep model sweep proof nodes depth pivots digits box_side) m = AnswersSweep sweep proof nodes depth pivots m
+AnswersModel (Recheck model sweep proof digits box_side) m = AnswersRecheck sweep proof m
 AnswersModel (Show model digits box_side) m = AnswersShow m
 AnswersModel (Trial number) m = λ rs a. ⊥
 
@@ -61,8 +63,8 @@ abbrev pub IsReady : Request → Type 0
 IsReady (Solve model tree nodes depth pivots digits box_side) = AreLimits nodes depth pivots × IsReading digits box_side
 IsReady (Check model tree digits box_side) = IsReading digits box_side
 IsReady (Ask model tree questions digits box_side) = IsReading digits box_side
-IsReady (Sweep model sweep proof nodes depth pivots digits box_side) = ⊥
-IsReady (Recheck model sweep proof digits box_side) = ⊥
+IsReady (Sweep model sweep proof nodes depth pivots digits box_side) = AreLimits nodes depth pivots × IsReading digits box_side
+IsReady (Recheck model sweep proof digits box_side) = IsReading digits box_side
 IsReady (Show model digits box_side) = IsReading digits box_side
 IsReady (Trial number) = ⊥
 

@@ -1,11 +1,11 @@
 -- The printed text of the refusal of a tree file.
 use Rattle.std.specs.Prelude.{ℕ, List, [], ◌++◌, codes, decimal}
-use Rattle.mps_defs.specs.CanonicalText.{newline}
 use Rattle.proof_tree.specs.declared.faults.Shape.{Shape}
 use Rattle.proof_tree.specs.declared.faults.ShapeWhat.{ShapeWhat}
 use Rattle.proof_tree.specs.declared.faults.ShapeWhat.TheVariants.{PointLength, ColumnNumber, RowNumber}
 use Rattle.tree_format.specs.declared.errors.TreeError.{TreeError}
 use Rattle.tree_format.specs.declared.errors.TreeError.TheVariants as faults
+use Rattle.ipsens_core.specs.Refusals.{refused}
 
 abbrev pub at_place : ℕ → List ℕ
 at_place p = codes " place " ++ decimal p
@@ -34,4 +34,4 @@ abbrev pub misfit_text : Shape → List ℕ
 misfit_text s = codes "shape node " ++ decimal s.node ++ codes " " ++ misfit_word s.what
 
 abbrev pub refused_tree : List ℕ → List ℕ
-refused_tree why = codes "refused tree " ++ why ++ newline
+refused_tree why = refused (codes "tree") why

@@ -34,7 +34,7 @@ pub fn refused<'a>(alloc: Global, error: StreamError) -> Result<Made<'a>, Memory
 {
     match error {
         StreamError::Tree(fault) => {
-            let line = fault_line(alloc, fault)?;
+            let line = fault_line(alloc, "tree", fault)?;
             Ok(says(Status::Refused, line.into_bytes()))
         }
         StreamError::Shape(shape) => {

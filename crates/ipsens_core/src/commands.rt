@@ -11,10 +11,13 @@ ghost use Rattle.ipsens_core.specs.Runs.{command_word, model_file as file_of_mod
 use crate::answers::{Made, Stop, send};
 use crate::ask::asked;
 use crate::check::checked;
-use crate::models::{read_model, without_model};
+use crate::files::without;
+use crate::models::read_model;
+use crate::recheck::rechecked;
 use crate::show::shown;
 use crate::solve::solved;
 use crate::statuses::Status;
+use crate::sweep::swept;
 use branching::Limits;
 use ip_defs::Name;
 use ip_model::IntModel;
@@ -49,6 +52,18 @@ fn model_file(request: &Request) -> ModelFile<'_>
             ..
         }
         | Request::Ask {
+            model,
+            digits,
+            box_side,
+            ..
+        }
+        | Request::Sweep {
+            model,
+            digits,
+            box_side,
+            ..
+        }
+        | Request::Recheck {
             model,
             digits,
             box_side,
@@ -103,6 +118,22 @@ fn answer_to<'a, S: Shelf>(
             questions,
             ..
         } => asked(alloc, model, tree, questions, shelf),
+        Request::Sweep {
+            sweep,
+            proof,
+            nodes,
+            depth,
+            pivots,
+            ..
+        } => {
+            let limits = Limits {
+                nodes: *nodes,
+                depth: *depth,
+                pivots: *pivots,
+            };
+            swept(alloc, model, sweep, limits, proof, shelf)
+        }
+        Request::Recheck { sweep, proof, .. } => rechecked(alloc, model, sweep, proof, shelf),
         Request::Show { .. } => Ok(shown(alloc, model)?),
         _ => unreachable!(),
     }
@@ -122,7 +153,7 @@ fn answer<'a, S: Shelf>(
     let file = model_file(request);
     match read_model(alloc, file.name, file.how, shelf) {
         Ok(model) => answer_to(alloc, request, &model, shelf),
-        Err(no_model) => without_model(no_model),
+        Err(unread) => without(unread),
     }
 }
 
@@ -195,6 +226,42 @@ pub fn ask_at<S: Shelf, K: Sink>(
         (S.faults shelf.old) (S.faults shelf.new) (S.save_faults shelf.old) (S.save_faults shelf.new) (K.faults out.old) (K.faults out.new)
         (S.begun_names shelf.old) (S.begun_names shelf.new) result }
     ensures complete { AsksAccepted (S.files shelf.old) request.now → IsAnsweredUnless result }
+{
+    carry_out(alloc, request, shelf, out)
+}
+
+/// Answers a request to sweep: the model file is read, then the sweep file; its directions are tried, the model is solved along its steps,
+/// and the whole text and the bytes of the sweep's proof are made. Then the proof of a finished sweep is saved where a name is given, and
+/// then the text is written. A finished sweep has the exact optimal value at every step; one that stops has status 4, with its cause, and
+/// saves nothing.
+pub fn sweep_at<S: Shelf, K: Sink>(
+    alloc: Global,
+    request: &Request,
+    shelf: &mut S,
+    out: &mut K,
+) -> Status
+    requires command { command_word request.now ≡ codes "sweep" }
+    requires ready { IsReady request.now }
+    ensures run { MeetsRequest request.now (shows (S.files shelf.old) (S.files shelf.new) (K.taken out.old) (K.taken out.new))
+        (S.faults shelf.old) (S.faults shelf.new) (S.save_faults shelf.old) (S.save_faults shelf.new) (K.faults out.old) (K.faults out.new)
+        (S.begun_names shelf.old) (S.begun_names shelf.new) result }
+{
+    carry_out(alloc, request, shelf, out)
+}
+
+/// Answers a request to recheck: the model file is read, then the sweep file, whose directions are tried, and then the proof of a sweep,
+/// each begun only where the one before it was understood. The proof is judged by the rules for that sweep, and the verdict is written.
+pub fn recheck_at<S: Shelf, K: Sink>(
+    alloc: Global,
+    request: &Request,
+    shelf: &mut S,
+    out: &mut K,
+) -> Status
+    requires command { command_word request.now ≡ codes "recheck" }
+    requires ready { IsReady request.now }
+    ensures run { MeetsRequest request.now (shows (S.files shelf.old) (S.files shelf.new) (K.taken out.old) (K.taken out.new))
+        (S.faults shelf.old) (S.faults shelf.new) (S.save_faults shelf.old) (S.save_faults shelf.new) (K.faults out.old) (K.faults out.new)
+        (S.begun_names shelf.old) (S.begun_names shelf.new) result }
 {
     carry_out(alloc, request, shelf, out)
 }

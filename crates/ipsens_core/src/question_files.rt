@@ -76,7 +76,7 @@ fn answer_to_text<'a>(
         Ok(questions) => answer_to_questions(alloc, model, proof, questions.as_slice(), scratch),
         Err(TextError::Memory) => Err(Memory),
         Err(error) => {
-            let line = text_fault_line(alloc, error)?;
+            let line = text_fault_line(alloc, "questions", error)?;
             Ok(says(Status::Refused, line.into_bytes()))
         }
     }
@@ -104,7 +104,8 @@ pub fn answered<'a, S: Shelf>(
     requires point { HasLength (length model.now.columns) proof.now.claim }
     requires scratch { FitsWalk (length model.now.columns) scratch.old }
     ensures prepared { IsPrepared (ReadsQuestions name.now (AnswersQuestions model.now proof.now.claim (plain proof.now.tree))) (S.files
-        shelf.old) (S.files shelf.new) (S.faults shelf.old) (S.faults shelf.new) (S.save_faults shelf.old) (S.save_faults shelf.new) result }
+        shelf.old) (S.files shelf.new) (S.faults shelf.old) (S.faults shelf.new) (S.save_faults shelf.old)
+        (S.save_faults shelf.new) result }
     ensures names { Began (S.begun_names shelf.old) (S.begun_names shelf.new) (name.now ∷ []) }
 {
     match read_all(alloc, shelf, name.as_str(), LONGEST_QUESTIONS) {

@@ -1,10 +1,12 @@
-//! The printed texts of the refusals of a questions file, and of questions.
+//! The printed texts of the refusals of a questions file and of a sweep file, of questions and of directions.
 
-ghost use Rattle.std.specs.Prelude.{◌≡◌, ◌++◌, IfOk, IfSome, string_bytes};
+ghost use Rattle.std.specs.Prelude.{◌≡◌, ◌++◌, IfOk, IfSome, codes, string_bytes};
 ghost use Rattle.ipsens_core.specs.ModelRefusals.{on_line};
-ghost use Rattle.ipsens_core.specs.QuestionRefusals.{edit_text, on_edit, refused_question, refused_questions, text_fault};
+ghost use Rattle.ipsens_core.specs.QuestionRefusals.{edit_text, on_edit, refused_question, text_fault};
 ghost use Rattle.ipsens_core.specs.QuestionRefusals.{why_text};
+ghost use Rattle.ipsens_core.specs.Refusals.{refused};
 
+use crate::refusals::refused_at;
 use ip_defs::Memory;
 use question_text::TextError;
 use std::alloc::Global;
@@ -27,12 +29,12 @@ fn fault_at(error: TextError) -> Option<(&'static str, u32)>
     }
 }
 
-/// The line of a questions file with a fault.
-pub fn text_fault_line(alloc: Global, error: TextError) -> Result<String, Memory>
-    ensures { IfOk result (λ s. string_bytes s ≡ refused_questions (text_fault error)) }
+/// The line of a file with a fault in its text. The file is `questions` or `sweep`.
+pub fn text_fault_line(alloc: Global, file: &str, error: TextError) -> Result<String, Memory>
+    ensures { IfOk result (λ s. string_bytes s ≡ refused file.now (text_fault error)) }
 {
     match fault_at(error) {
-        Some((word, line)) => Ok(format!(in alloc; "refused questions {word} line {line}\n")?),
+        Some((word, line)) => refused_at(alloc, file, word, "line", u64::from(line)),
         None => Err(Memory),
     }
 }
@@ -56,6 +58,16 @@ fn edit_words(alloc: Global, error: EditError) -> Result<String, Memory>
 {
     match refusal_at(error) {
         Some((word, edit)) => Ok(format!(in alloc; "{word} edit {edit}")?),
+        None => Err(Memory),
+    }
+}
+
+/// The line of a direction of a sweep file that is refused.
+pub fn direction_line(alloc: Global, error: EditError) -> Result<String, Memory>
+    ensures { IfOk result (λ s. string_bytes s ≡ refused (codes "sweep") (edit_text error)) }
+{
+    match refusal_at(error) {
+        Some((word, edit)) => refused_at(alloc, "sweep", word, "edit", u64::from(edit)),
         None => Err(Memory),
     }
 }

@@ -1,6 +1,6 @@
 use Rattle.ipsens_core.specs.Runs.{AnswersModel}
 use Rattle.ipsens_core.proofs.RequestLaws.{how_ready, model_begun, request_begun, request_prepared}
-use Rattle.ipsens_core.proofs.RunLaws.{prepared_more}
+use Rattle.ipsens_core.proofs.ModelLaws.{prepared_more}
 use Rattle.ipsens_core.proofs.commands.answer.Goals as goal
 
 pub read_model-requires : goal.read_model-requires

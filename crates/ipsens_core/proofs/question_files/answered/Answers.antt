@@ -10,7 +10,8 @@ use Rattle.ipsens_core.specs.Questions.{OwedToText, ReadsQuestions, longest_ques
 use Rattle.ipsens_core.specs.Reads.{Agrees}
 use Rattle.ipsens_core.specs.Runs.{IsOwed}
 use Rattle.ipsens_core.proofs.AskLaws.{long_questions_owed, questions_owed}
-use Rattle.ipsens_core.proofs.ReadLaws.{HasLongFile, long_read, one_read}
+use Rattle.ipsens_core.specs.Internal.Files.{IsFileTooLong}
+use Rattle.ipsens_core.proofs.ReadLaws.{long_read, one_read}
 use Rattle.ipsens_core.proofs.RunLaws.{made_prepared}
 use Rattle.ipsens_core.proofs.question_files.answered.Goals as goal
 
@@ -40,7 +41,7 @@ returns-in_ok-too_long-in-Err-TooLong-clause-prepared g c =
     let is = c.in_ok-too_long-in-Err-TooLong.ensures in
     let long = long_read files files_after c.as_str.result.now longest_questions c.read_all.ensures.files c.read_all.ensures.unknown
     (c.in-Err-TooLong.ensures.too_long (ap Err c.in-Err-TooLong.field-0-is)) in
-    let named = subst (λ nm. HasLongFile files files_after nm longest_questions) c.as_str.ensures long in
+    let named = subst (λ nm. IsFileTooLong files files_after nm longest_questions) c.as_str.ensures long in
     let owed = subst (IsOwed (ReadsQuestions c.args.name.now Owed) files files_after) (sym is)
     (long_questions_owed c.args.name.now Owed files files_after named) in
     let written = subst (λ (a : Answer). IsWritten a.status) (sym is) tt in

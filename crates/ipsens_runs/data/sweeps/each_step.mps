@@ -1,0 +1,10 @@
+ROWS
+ N cost
+ L r1
+COLUMNS
+ M 'MARKER' 'INTORG'
+ x cost -1 r1 1
+ M 'MARKER' 'INTEND'
+BOUNDS
+ UP BND x 20000
+ENDATA

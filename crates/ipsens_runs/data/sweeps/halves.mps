@@ -1,0 +1,12 @@
+ROWS
+ N cost
+ L r1
+COLUMNS
+ M 'MARKER' 'INTORG'
+ x cost -0.5 r1 0.5
+ M 'MARKER' 'INTEND'
+RHS
+ RHS r1 0.5
+BOUNDS
+ UP BND x 4
+ENDATA

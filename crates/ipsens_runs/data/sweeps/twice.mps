@@ -1,0 +1,12 @@
+ROWS
+ N cost
+ L r1
+COLUMNS
+ M 'MARKER' 'INTORG'
+ x cost -1 r1 2
+ M 'MARKER' 'INTEND'
+RHS
+ RHS r1 1
+BOUNDS
+ UP BND x 3
+ENDATA

@@ -1,0 +1,12 @@
+ROWS
+ N cost
+ G r1
+COLUMNS
+ M 'MARKER' 'INTORG'
+ x cost 1 r1 1
+ M 'MARKER' 'INTEND'
+RHS
+ RHS r1 2
+BOUNDS
+ BV BND x
+ENDATA

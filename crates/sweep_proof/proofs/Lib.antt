@@ -1,3 +1,7 @@
+pub mod CostExamples
+pub mod CostLineLaws
+pub mod CostPieceLaws
+pub mod CostRuleLaws
 pub mod DirectionLaws
 pub mod LineLaws
 pub mod ListLaws

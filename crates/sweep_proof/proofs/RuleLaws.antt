@@ -38,14 +38,14 @@ use Rattle.sweep_proof.specs.declared.verdicts.SweepVerdict.TheVariants.{Proved,
 -- ---- no fault is the verdict Proved
 
 -- an option is not that verdict
-abbrev IsFault : Option SweepVerdict → Type 0
+abbrev pub IsFault : Option SweepVerdict → Type 0
 IsFault o = o ≡ Some Proved → ⊥
 
-when_fault : (b : Bool) (o : Option SweepVerdict) (v : SweepVerdict) → IsFault o → IsFault (Some v) → IsFault (cond b o (Some v))
+pub when_fault : (b : Bool) (o : Option SweepVerdict) (v : SweepVerdict) → IsFault o → IsFault (Some v) → IsFault (cond b o (Some v))
 when_fault true o v h g = h
 when_fault false o v h g = g
 
-or_fault : (o p : Option SweepVerdict) → IsFault o → IsFault p → IsFault (option_or o p)
+pub or_fault : (o p : Option SweepVerdict) → IsFault o → IsFault p → IsFault (option_or o p)
 or_fault None p h g = g
 or_fault (Some v) p h g = h
 
@@ -54,11 +54,11 @@ gap_fault steps next k [] = λ e. absurd cc
 gap_fault steps next k (p ∷ ps) = when_fault (covers steps next (length ps == 0) p)
     (first_gap steps (p.to + 1) (k + 1) ps) (Cover k) (gap_fault steps (p.to + 1) (k + 1) ps) (λ e. absurd cc)
 
-fall_fault : (k : ℕ) (before : Option ℤ) (w : ℤ) → IsFault (fall_at k before w)
+pub fall_fault : (k : ℕ) (before : Option ℤ) (w : ℤ) → IsFault (fall_at k before w)
 fall_fault k None w = λ e. absurd cc
 fall_fault k (Some v) w = when_fault (lt_z w v) None (Fall k v w) (λ e. absurd cc) (λ e. absurd cc)
 
-breach_fault : (k : ℕ) (o : Option Broken) → IsFault (option_map (λ place. Breach k place) o)
+pub breach_fault : (k : ℕ) (o : Option Broken) → IsFault (option_map (λ place. Breach k place) o)
 breach_fault k None = λ e. absurd cc
 breach_fault k (Some place) = λ e. absurd cc
 
@@ -81,7 +81,7 @@ first_is_fault m d k before (p ∷ ps) = or_fault (piece_fault m d k before p) (
     (piece_is_fault m d k before p) (first_is_fault m d (k + 1) (claimed_cost m p.claim) ps)
 
 -- so where the verdict is Proved there is none
-no_fault : (o : Option SweepVerdict) → IsFault o → proved_unless o ≡ Proved → o ≡ None
+pub no_fault : (o : Option SweepVerdict) → IsFault o → proved_unless o ≡ Proved → o ≡ None
 no_fault None h e = refl
 no_fault (Some v) h e = absurd (h (ap Some e))
 
@@ -94,11 +94,11 @@ proved_says m d steps ps e = either_none (first_gap steps 0 0 ps) (first_fault m
 -- ---- steps
 
 -- what a test that answers nothing says
-test_says : {A : Type 0} (b : Bool) (o : Option A) (x : A) → cond b o (Some x) ≡ None → (b ≡ true) × (o ≡ None)
+pub test_says : {A : Type 0} (b : Bool) (o : Option A) (x : A) → cond b o (Some x) ≡ None → (b ≡ true) × (o ≡ None)
 test_says true o x e = (refl, e)
 test_says false o x e = absurd cc
 
-both_true : (a b : Bool) → (a && b) ≡ true → (a ≡ true) × (b ≡ true)
+pub both_true : (a b : Bool) → (a && b) ≡ true → (a ≡ true) × (b ≡ true)
 both_true true b e = (refl, e)
 both_true false b e = absurd cc
 
@@ -157,7 +157,7 @@ abbrev pub IsPieceProved : Parts → List (Place × ℤ) → RowPiece → Claim 
 IsPieceProved m d p (Best x) = IsFeasible (row_at m d p.from) x × IsAtLeast (tree_bound (row_at m d p.to) (plain p.tree)) (cost m x)
 IsPieceProved m d p Empty = tree_bound (row_at m d p.to) (plain p.tree) ≡ Infinite
 
-least_of : (v : Bound) (w : ℤ) → is_at_least v w ≡ true → IsAtLeast v w
+pub least_of : (v : Bound) (w : ℤ) → is_at_least v w ≡ true → IsAtLeast v w
 least_of Infinite w e = tt
 least_of (At v) w e = by (lt_z v w) refl e
   where
@@ -165,7 +165,7 @@ least_of (At v) w e = by (lt_z v w) refl e
     by true f e = absurd cc
     by false f e = not_less v w f
 
-infinite_of : (v : Bound) → reaches v None ≡ true → v ≡ Infinite
+pub infinite_of : (v : Bound) → reaches v None ≡ true → v ≡ Infinite
 infinite_of (At v) e = absurd cc
 infinite_of Infinite e = refl
 

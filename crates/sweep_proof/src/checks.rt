@@ -44,7 +44,7 @@ fn reaches(bound: Bound, claim: Option<i128>) -> bool
 }
 
 /// The verdict where a bound does not reach a claimed cost.
-fn short_at(piece: u32, bound: Bound, claim: Option<i128>) -> Option<SweepVerdict>
+pub(crate) fn short_at(piece: u32, bound: Bound, claim: Option<i128>) -> Option<SweepVerdict>
     ensures { result ≡ short_at_of piece bound claim }
 {
     if reaches(bound, claim) {
@@ -59,7 +59,7 @@ fn short_at(piece: u32, bound: Bound, claim: Option<i128>) -> Option<SweepVerdic
 }
 
 /// The verdict where a cost is not below the one before it.
-fn fall_at(piece: u32, before: Option<i128>, cost: i128) -> Option<SweepVerdict>
+pub(crate) fn fall_at(piece: u32, before: Option<i128>, cost: i128) -> Option<SweepVerdict>
     ensures { result ≡ fall_at_of piece before cost }
 {
     match before {

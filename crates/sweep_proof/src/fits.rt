@@ -25,7 +25,7 @@ const MOST_NODES: u64 = 1_000_000;
 const LARGEST_COORDINATE: u64 = 1 << 24;
 
 /// Whether each coordinate is within its limit.
-fn are_small(point: &[i64]) -> bool
+pub(crate) fn are_small(point: &[i64]) -> bool
     ensures { IsTrue result ↔ Each (λ z. unsigned_abs z ≤ 2 ^ 24) point.now }
 {
     for coordinate in point {
@@ -59,7 +59,7 @@ fn are_below(y: &[(u32, i64)], rows: usize) -> bool
 }
 
 /// Whether the columns and rows that a tree names exist.
-fn tree_fits(tree: &Tree, columns: usize, rows: usize) -> bool
+pub(crate) fn tree_fits(tree: &Tree, columns: usize, rows: usize) -> bool
     ensures { IsTrue result ↔ (FitsColumns columns (plain tree.now) × FitsRows rows (plain tree.now)) }
 {
     match tree {
@@ -78,7 +78,7 @@ fn tree_fits(tree: &Tree, columns: usize, rows: usize) -> bool
 }
 
 /// Whether a tree is within the limits.
-fn tree_is_within(tree: &Tree) -> bool
+pub(crate) fn tree_is_within(tree: &Tree) -> bool
     ensures { IsTrue result ↔ IsTreeWithin (plain tree.now) }
 {
     match tree_limits(tree) {
@@ -113,7 +113,7 @@ fn pieces_fit(model: &IntModel, pieces: &[RowPiece]) -> bool
 }
 
 /// How many nodes a tree has.
-fn tree_nodes(tree: &Tree) -> u32
+pub(crate) fn tree_nodes(tree: &Tree) -> u32
     requires { node_count (plain tree.now) ≤ 1000000 }
     ensures { result ≡ node_count (plain tree.now) }
 {

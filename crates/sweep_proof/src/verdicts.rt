@@ -7,7 +7,8 @@ use ip_defs::{Bound, Breach as BreachAt};
 pub enum SweepVerdict {
     /// Each claim is proved, and the pieces cover the sweep.
     Proved,
-    /// The piece does not cover its part of the sweep, or claims emptiness where it may not.
+    /// The piece does not cover its part of the sweep, or claims emptiness where it may not; or a cost of the model at the break after
+    /// it, or at the first break, exceeds its limit.
     Cover {
         piece: u32,
     },
@@ -16,13 +17,15 @@ pub enum SweepVerdict {
         piece: u32,
         place: BreachAt,
     },
-    /// The values do not fall at the piece: the one to its left, and the one to its right.
+    /// In a row sweep, the value of the piece is not below that of the piece before it; in a cost sweep, its slope is not above that of
+    /// the next piece. `left` is that of the first of the two, `right` that of the second.
     Fall {
         piece: u32,
         left: i128,
         right: i128,
     },
-    /// The points at both sides of the break after the piece do not cost the same there.
+    /// The points at both sides of the break after the piece do not cost the same there: `left` is the cost of its point, `right` that
+    /// of the next.
     Meet {
         piece: u32,
         left: i128,
